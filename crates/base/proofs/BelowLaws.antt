@@ -1,0 +1,181 @@
+-- Laws of `all`, `any` and `count`: what is said of the numbers below a bound is said of each of them.
+-- Assumes nothing.
+use Prim.Native.Nat.{ℕ, zero, suc, _+_, _≤_, _<_}
+use mathlib.Core.Path.{_≡_, refl, sym, ap, ap₂, _∙_, subst}
+use mathlib.Core.Logic.{_⊎_, inl, inr, ⊎-elim}
+use mathlib.Core.Bool.{Bool, true, false, false≢true, true≢false}
+use native.Mathlib.Nat.{not-suc-le-zero, le-of-suc-le-suc, eq-or-lt-of-le, eq-zero-or-pos}
+use native.Mathlib.Numerals.{add-one}
+use native.Mathlib.Omega.{arith}
+use lib.Dec.{leb, ltb}
+use borrow.Author.Tests.{leb-true, leb-false, ltb-true, ltb-false}
+use Rattle.base.specs.Test.{_and_, _or_, bit}
+use Rattle.base.specs.Below.{all, any, count}
+use Rattle.base.proofs.TestLaws.{and-left, and-right, or-cases, or-left, or-right, true-or-false}
+
+pub below-suc : {k n : ℕ} → k < suc n → (k ≡ n) ⊎ (k < n)
+below-suc h = eq-or-lt-of-le (le-of-suc-le-suc h)
+
+pub all-at : (n : ℕ) (p : ℕ → Bool) → all n p ≡ true → (k : ℕ) → k < n → p k ≡ true
+unfolding all
+all-at zero p e k h = absurd (not-suc-le-zero h)
+all-at (suc n) p e k h =
+    ⊎-elim (λ w. ap p w ∙ and-right _ _ e) (λ w. all-at n p (and-left _ _ e) k w) (below-suc h)
+
+pub all-of : (n : ℕ) (p : ℕ → Bool) → ((k : ℕ) → k < n → p k ≡ true) → all n p ≡ true
+unfolding all _and_
+all-of zero p f = refl
+all-of (suc n) p f = rw (all-of n p (λ k h. f k (omega arith))) (f n (omega arith))
+
+pub any-at : (n : ℕ) (p : ℕ → Bool) → any n p ≡ true → (k : ℕ) × (k < n) × (p k ≡ true)
+unfolding any
+any-at zero p e = absurd (false≢true e)
+any-at (suc n) p e =
+    ⊎-elim (λ w. let r = any-at n p w in (r .0, omega arith, r .2)) (λ w. (n, omega arith, w)) (or-cases (any n p) (p n) e)
+
+pub any-of : (n : ℕ) (p : ℕ → Bool) (k : ℕ) → k < n → p k ≡ true → any n p ≡ true
+unfolding any
+any-of zero p k h e = absurd (not-suc-le-zero h)
+any-of (suc n) p k h e =
+    ⊎-elim (λ w. or-right (any n p) (ap p (sym w) ∙ e)) (λ w. or-left (p n) (any-of n p k w e)) (below-suc h)
+
+-- ---- count
+
+pub count-le : (n : ℕ) (p : ℕ → Bool) → count n p ≤ n
+unfolding count
+count-le zero p = omega arith
+count-le (suc n) p = bit-step (p n) (count-le n p)
+  where
+    bit-step : (b : Bool) → count n p ≤ n → count n p + bit b ≤ suc n
+    bit-step true h = omega arith
+    bit-step false h = omega arith
+
+pub count-mono : (n : ℕ) (p q : ℕ → Bool) → ((k : ℕ) → k < n → p k ≡ true → q k ≡ true) → count n p ≤ count n q
+unfolding count
+count-mono zero p q f = omega arith
+count-mono (suc n) p q f = go (p n) (q n) (f n (omega arith)) (count-mono n p q (λ k h. f k (omega arith)))
+  where
+    go : (a b : Bool) → (a ≡ true → b ≡ true) → count n p ≤ count n q → count n p + bit a ≤ count n q + bit b
+    go true true g h = omega arith
+    go true false g h = absurd (false≢true (g refl))
+    go false true g h = omega arith
+    go false false g h = omega arith
+
+-- a test that holds wherever p does, and at one number more, is counted more often
+pub count-more : (n : ℕ) (p q : ℕ → Bool) (k : ℕ) → k < n → p k ≡ false → q k ≡ true
+    → ((j : ℕ) → j < n → p j ≡ true → q j ≡ true) → count n p < count n q
+unfolding count
+count-more zero p q k h e g f = absurd (not-suc-le-zero h)
+count-more (suc n) p q k h e g f =
+    ⊎-elim
+    (λ w. here (p n) (q n) (ap p (sym w) ∙ e) (ap q (sym w) ∙ g) (count-mono n p q (λ j l. f j (omega arith))))
+    (λ w. there′ (p n) (q n) (f n (omega arith)) (count-more n p q k w e g (λ j l. f j (omega arith))))
+    (below-suc h)
+  where
+    here : (a b : Bool) → a ≡ false → b ≡ true → count n p ≤ count n q → count n p + bit a < count n q + bit b
+    here a b x y l = rw (x, y) (omega arith)
+
+    there′ : (a b : Bool) → (a ≡ true → b ≡ true) → count n p < count n q → count n p + bit a < count n q + bit b
+    there′ true true u l = omega arith
+    there′ true false u l = absurd (false≢true (u refl))
+    there′ false true u l = omega arith
+    there′ false false u l = omega arith
+
+bit-zero : (a : ℕ) (b : Bool) → a + bit b ≡ 0 → (a ≡ 0) × (b ≡ false)
+bit-zero a true e = absurd (omega arith)
+bit-zero a false e = (omega arith, refl)
+
+pub count-none : (n : ℕ) (p : ℕ → Bool) → count n p ≡ 0 → (k : ℕ) → k < n → p k ≡ false
+unfolding count
+count-none zero p e k h = absurd (not-suc-le-zero h)
+count-none (suc n) p e k h =
+    let r = bit-zero (count n p) (p n) e in
+    ⊎-elim (λ w. ap p w ∙ r .1) (λ w. count-none n p (r .0) k w) (below-suc h)
+
+bit-one : (a : ℕ) (b : Bool) → a + bit b ≤ 1 → b ≡ true → a ≡ 0
+bit-one a true l e = omega arith
+bit-one a false l e = absurd (false≢true e)
+
+-- where p is counted at most once, it holds of one number at most
+pub count-once : (n : ℕ) (p : ℕ → Bool) → count n p ≤ 1 → (j k : ℕ) → j < n → k < n → p j ≡ true → p k ≡ true → j ≡ k
+unfolding count
+count-once zero p l j k h g e f = absurd (not-suc-le-zero h)
+count-once (suc n) p l j k h g e f = ⊎-elim
+    (λ u. ⊎-elim (λ v. u ∙ sym v) (λ v. absurd (last k v f (ap p (sym u) ∙ e))) (below-suc g))
+    (λ u. ⊎-elim (λ v. absurd (last j u e (ap p (sym v) ∙ f))) (λ v. count-once n p (omega arith) j k u v e f) (below-suc g))
+    (below-suc h)
+  where
+    last : (i : ℕ) → i < n → p i ≡ true → p n ≡ true → ⊥
+    last i w q r = true≢false (sym q ∙ count-none n p (bit-one (count n p) (p n) l r) i w)
+
+full : (a n : ℕ) (b : Bool) → suc n ≤ a + bit b → a ≤ n → (n ≤ a) × (b ≡ true)
+full a n true h l = (omega arith, refl)
+full a n false h l = absurd (omega arith)
+
+-- where as many have p as there are, all have it
+pub count-full : (n : ℕ) (p : ℕ → Bool) → n ≤ count n p → (k : ℕ) → k < n → p k ≡ true
+unfolding count
+count-full zero p l k h = absurd (not-suc-le-zero h)
+count-full (suc n) p l k h =
+    let r = full (count n p) n (p n) l (count-le n p) in
+    ⊎-elim (λ w. ap p w ∙ r .1) (λ w. count-full n p (r .0) k w) (below-suc h)
+
+pub count-zero : (n : ℕ) (p : ℕ → Bool) → ((k : ℕ) → k < n → p k ≡ false) → count n p ≡ 0
+unfolding count
+count-zero zero p f = refl
+count-zero (suc n) p f = ap₂ (λ (a : ℕ) (b : Bool). a + bit b) (count-zero n p (λ k h. f k (omega arith))) (f n (omega arith))
+
+pub count-some : (n : ℕ) (p : ℕ → Bool) (k : ℕ) → k < n → p k ≡ true → 1 ≤ count n p
+count-some n p k h e = ⊎-elim (λ z. absurd (true≢false (sym e ∙ count-none n p z k h))) (λ l. l) (eq-zero-or-pos (count n p))
+
+-- ---- a loop's step: the numbers below i + 1 are those below i, and i
+
+pub all-step : (i : ℕ) (p : ℕ → Bool) → all (i + 1) p ≡ (all i p and p i)
+unfolding all
+all-step i p = rw add-one refl
+
+pub any-step : (i : ℕ) (p : ℕ → Bool) → any (i + 1) p ≡ (any i p or p i)
+unfolding any
+any-step i p = rw add-one refl
+
+pub count-step : (i : ℕ) (p : ℕ → Bool) → count (i + 1) p ≡ count i p + bit (p i)
+unfolding count
+count-step i p = rw add-one refl
+
+-- ---- as many below
+
+-- fewer are counted below a number that has p than below any greater one
+pub count-lt : (p : ℕ → Bool) (k n : ℕ) → k < n → p k ≡ true → count k p < count n p
+unfolding count
+count-lt p k zero h e = absurd (not-suc-le-zero h)
+count-lt p k (suc n) h e = ⊎-elim
+    (λ w. subst (λ (z : ℕ). count z p < count n p + bit (p n)) (sym w) (subst (λ (b : Bool). count n p < count n p + bit b) (sym (ap p (sym w) ∙ e)) (omega arith)))
+    (λ w. let r = count-lt p k n w e in omega arith)
+    (below-suc h)
+
+-- two numbers that have p, with as many below, are one
+pub count-injective : (p : ℕ → Bool) (j k : ℕ) → p j ≡ true → p k ≡ true → count j p ≡ count k p → j ≡ k
+count-injective p j k e f q = ⊎-elim
+    (λ l. ⊎-elim (λ w. w) (λ w. let r = count-lt p j k w e in absurd (omega arith)) (eq-or-lt-of-le l))
+    (λ w. let r = count-lt p k j w f in absurd (omega arith))
+    (le-or-lt j k)
+  where
+    le-or-lt : (a b : ℕ) → (a ≤ b) ⊎ (b < a)
+    le-or-lt a b = ⊎-elim (λ t. inl (leb-true a b t)) (λ t. inr (leb-false a b t)) (true-or-false (leb a b))
+
+-- as many as are counted, each has its place
+pub count-reaches : (p : ℕ → Bool) (n k : ℕ) → k < count n p → (x : ℕ) × (x < n) × (p x ≡ true) × (count x p ≡ k)
+unfolding count
+count-reaches p zero k h = absurd (not-suc-le-zero h)
+count-reaches p (suc n) k h = go (p n) refl h (count-reaches p n k)
+  where
+    go : (b : Bool) → p n ≡ b → k < count n p + bit b → (k < count n p → (x : ℕ) × (x < n) × (p x ≡ true) × (count x p ≡ k))
+        → (x : ℕ) × (x < suc n) × (p x ≡ true) × (count x p ≡ k)
+    go b q l ih = ⊎-elim
+        (λ t. let r = ih (ltb-true k (count n p) t) in (r .0, omega arith, r .2, r .3))
+        (λ t. let g = ltb-false k (count n p) t in let w = one b l g in (n, omega arith, q ∙ w .0, w .1))
+        (true-or-false (ltb k (count n p)))
+      where
+        one : (b : Bool) → k < count n p + bit b → count n p ≤ k → (b ≡ true) × (count n p ≡ k)
+        one true u v = (refl, omega arith)
+        one false u v = absurd (omega arith)

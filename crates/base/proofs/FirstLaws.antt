@@ -1,0 +1,141 @@
+-- Laws of `first`, `least` and `nth`: what is found is there, and nothing is before it.
+-- Assumes nothing.
+use Prim.Native.Nat.{ℕ, zero, suc, _+_, _<_}
+use mathlib.Core.Path.{_≡_, refl, sym, ap, ap₂, _∙_}
+use mathlib.Core.Logic.{_⊎_, inl, inr, ⊎-elim}
+use mathlib.Core.Bool.{Bool, true, false, false≢true, true≢false}
+use mathlib.Core.Option.{Option, none, some}
+use native.Mathlib.Nat.{not-suc-le-zero}
+use native.Mathlib.Numerals.{add-one}
+use native.Mathlib.Omega.{arith}
+use borrow.Author.Tests.{eqb-true, eq-eqb}
+use Rattle.base.specs.Below.{count}
+use Rattle.base.specs.First.{when, _orElse_, there, first, least, nth}
+use Rattle.base.proofs.TestLaws.{and-left, and-right, and-of}
+use Rattle.base.proofs.BelowLaws.{below-suc, count-reaches}
+
+module _ {A : Type 0} where
+  pub or-else-cases : (o r : Option A) (a : A) → o orElse r ≡ some a → (o ≡ some a) ⊎ ((o ≡ none) × (r ≡ some a))
+  unfolding _orElse_
+  or-else-cases none r a e = inr (refl, e)
+  or-else-cases (some b) r a e = inl e
+
+  pub some-not-none : {o : Option A} {a : A} → o ≡ some a → o ≡ none → ⊥
+  unfolding there
+  some-not-none {o} {a} p q = let z : _≡_ {A = Bool} true false = ap there (sym p) ∙ ap there q in true≢false z
+
+  pub there-at : (o : Option A) → there o ≡ true → (a : A) × (o ≡ some a)
+  unfolding there
+  there-at none e = absurd (false≢true e)
+  there-at (some a) e = (a, refl)
+
+  pub there-of : {o : Option A} {a : A} → o ≡ some a → there o ≡ true
+  unfolding there
+  there-of e = rw e
+
+  pub there-none : {o : Option A} → o ≡ none → there o ≡ false
+  unfolding there
+  there-none e = rw e
+
+  pub when-at : (b : Bool) {a c : A} → when b a ≡ some c → (b ≡ true) × (a ≡ c)
+  unfolding when
+  when-at true e = (refl, cc)
+  when-at false e = absurd (some-not-none e refl)
+
+  pub when-none : (b : Bool) (a : A) → when b a ≡ none → b ≡ false
+  unfolding when
+  when-none true a e = absurd (some-not-none {o = some a} {a = a} refl e)
+  when-none false a e = refl
+
+  pub or-else-none : (o r : Option A) → o orElse r ≡ none → (o ≡ none) × (r ≡ none)
+  unfolding _orElse_
+  or-else-none none r e = (refl, e)
+  or-else-none (some b) r e = absurd (some-not-none {o = some b} {a = b} refl e)
+
+  -- where `first` gives nothing, no number does
+  pub first-none : (n : ℕ) (f : ℕ → Option A) → first n f ≡ none → (k : ℕ) → k < n → f k ≡ none
+  unfolding first
+  first-none zero f e k h = absurd (not-suc-le-zero h)
+  first-none (suc n) f e k h =
+      let r = or-else-none (first n f) (f n) e in
+      ⊎-elim (λ w. ap f w ∙ r .1) (λ w. first-none n f (r .0) k w) (below-suc h)
+
+  pub first-none-of : (n : ℕ) (f : ℕ → Option A) → ((k : ℕ) → k < n → f k ≡ none) → first n f ≡ none
+  unfolding first _orElse_
+  first-none-of zero f g = refl
+  first-none-of (suc n) f g = rw (first-none-of n f (λ k h. g k (omega arith))) (g n (omega arith))
+
+  -- what is given at each number decides what is given first
+  pub first-same : (n : ℕ) (f g : ℕ → Option A) → ((k : ℕ) → k < n → f k ≡ g k) → first n f ≡ first n g
+  unfolding first
+  first-same zero f g h = refl
+  first-same (suc n) f g h = ap₂ _orElse_ (first-same n f g (λ k l. h k (omega arith))) (h n (omega arith))
+
+  -- what `first` gives is given by some number, and by none below it
+  pub first-at : (n : ℕ) (f : ℕ → Option A) (a : A) → first n f ≡ some a
+      → (k : ℕ) × (k < n) × (f k ≡ some a) × ((j : ℕ) → j < k → f j ≡ none)
+  unfolding first
+  first-at zero f a e = absurd (some-not-none {o = none} {a = a} e refl)
+  first-at (suc n) f a e =
+      ⊎-elim
+      (λ w. let r = first-at n f a w in (r .0, omega arith, r .2, r .3))
+      (λ w. (n, omega arith, w .1, first-none n f (w .0)))
+      (or-else-cases (first n f) (f n) a e)
+
+  pub first-of : (n : ℕ) (f : ℕ → Option A) (k : ℕ) (a : A) → k < n → f k ≡ some a → (b : A) × (first n f ≡ some b)
+  first-of n f k a h e = go (first n f) refl
+    where
+      go : (o : Option A) → first n f ≡ o → (b : A) × (first n f ≡ some b)
+      go none q = absurd (some-not-none e (first-none n f q k h))
+      go (some b) q = (b, q)
+
+  -- where all that is given is one value, `first` gives it
+  pub first-only : (n : ℕ) (f : ℕ → Option A) (k : ℕ) (a : A) → k < n → f k ≡ some a
+      → ((j : ℕ) (b : A) → j < n → f j ≡ some b → b ≡ a) → first n f ≡ some a
+  first-only n f k a h e only =
+      let r = first-of n f k a h e in
+      let q = first-at n f (r .0) (r .1) in
+      r .1 ∙ ap {B = Option A} some (only (q .0) (r .0) (q .1) (q .2))
+
+pub least-at : (n : ℕ) (p : ℕ → Bool) (k : ℕ) → least n p ≡ some k → (k < n) × (p k ≡ true) × ((j : ℕ) → j < k → p j ≡ false)
+unfolding least
+least-at n p k e =
+    let q = first-at n (λ x. when (p x) x) k e in
+    let w = when-at (p (q .0)) (q .2) in
+    let same : q .0 ≡ k = w .1 in (
+      rw (← same) (q .1),
+      ap p (sym same) ∙ w .0,
+      (λ j h. when-none (p j) j (q .3 j (omega arith))),
+    )
+
+pub least-none : (n : ℕ) (p : ℕ → Bool) → least n p ≡ none → (k : ℕ) → k < n → p k ≡ false
+unfolding least
+least-none n p e k h = when-none (p k) k (first-none n (λ x. when (p x) x) e k h)
+
+pub least-none-of : (n : ℕ) (p : ℕ → Bool) → ((k : ℕ) → k < n → p k ≡ false) → least n p ≡ none
+unfolding least when
+least-none-of n p f = first-none-of n (λ x. when (p x) x) (λ k h. rw (f k h))
+
+pub least-only : (n : ℕ) (p : ℕ → Bool) (k : ℕ) → k < n → p k ≡ true → ((j : ℕ) → j < n → p j ≡ true → j ≡ k) → least n p ≡ some k
+unfolding least when
+least-only n p k h e only =
+    first-only n (λ x. when (p x) x) k k h (rw e refl) (λ j b l q. let w = when-at (p j) q in sym (w .1) ∙ only j l (w .0))
+
+module _ {A : Type 0} where
+  pub first-step : (i : ℕ) (f : ℕ → Option A) → first (i + 1) f ≡ first i f orElse f i
+  unfolding first
+  first-step i f = rw add-one refl
+
+-- ---- the k-th lowest
+
+pub nth-at : (n : ℕ) (p : ℕ → Bool) (k x : ℕ) → nth n p k ≡ some x → (x < n) × (p x ≡ true) × (count x p ≡ k)
+unfolding nth
+nth-at n p k x e =
+    let l = least-at n _ x e in
+    (l .0, and-left _ _ (l .1), eqb-true _ _ (and-right _ _ (l .1)))
+
+pub nth-found : (n : ℕ) (p : ℕ → Bool) (k : ℕ) → k < count n p → (x : ℕ) × (nth n p k ≡ some x)
+unfolding nth least when
+nth-found n p k h =
+    let r = count-reaches p n k h in
+    first-of n _ (r .0) (r .0) (r .1) (ap (λ (b : Bool). when b (r .0)) (and-of (r .2) (eq-eqb _ _ (r .3))))

@@ -1,0 +1,4 @@
+pub mod TestLaws
+pub mod BelowLaws
+pub mod FirstLaws
+pub mod ListLaws

@@ -1,0 +1,60 @@
+-- Laws of the lists made from the numbers below a bound.
+-- Assumes nothing.
+use Prim.Native.Nat.{ℕ, zero, suc, _+_, _*_, _<_}
+use mathlib.Core.Path.{_≡_, refl, sym, ap, ap₂, _∙_, subst}
+use mathlib.Core.Logic.{⊎-elim}
+use mathlib.Core.List.{List, _++_}
+use native.Mathlib.Nat.{not-suc-le-zero, le-of-suc-le-suc, add-zero, zero-add, suc-add, add-suc, mul-zero, mul-suc, mul-le-mul-left, lt-of-lt-of-le}
+use native.Mathlib.Numerals.{add-one}
+use native.Mathlib.Omega.{arith}
+use lib.ListN.{length, getD, length-append, List·getD-append}
+use lib.Seq.{getD-append-add}
+use Rattle.base.specs.Lists.{list, listFrom, joined}
+use Rattle.base.proofs.BelowLaws.{below-suc}
+
+module _ {A : Type 0} where
+  pub getD-listFrom : (n k i : ℕ) (f : ℕ → A) (d : A) → i < n → getD (listFrom k n f) i d ≡ f (k + i)
+  unfolding listFrom
+  getD-listFrom zero k i f d h = absurd (not-suc-le-zero h)
+  getD-listFrom (suc n) k zero f d h = ap f (sym (add-zero k))
+  getD-listFrom (suc n) k (suc i) f d h =
+      getD-listFrom n (suc k) i f d (le-of-suc-le-suc h) ∙ ap f (suc-add k i ∙ sym (add-suc k i))
+
+  pub getD-list : (n i : ℕ) (f : ℕ → A) (d : A) → i < n → getD (list n f) i d ≡ f i
+  unfolding list
+  getD-list n i f d h = getD-listFrom n 0 i f d h ∙ ap f (zero-add i)
+
+  pub length-listFrom : (n k : ℕ) (f : ℕ → A) → length (listFrom k n f) ≡ n
+  unfolding listFrom
+  length-listFrom zero k f = refl
+  length-listFrom (suc n) k f = ap suc (length-listFrom n (suc k) f)
+
+  pub length-list : (n : ℕ) (f : ℕ → A) → length (list n f) ≡ n
+  unfolding list
+  length-list n f = length-listFrom n 0 f
+
+-- ---- one list after the other
+
+module _ {A : Type 0} (k : ℕ) (f : ℕ → List A) (each : (x : ℕ) → length (f x) ≡ k) where
+  pub length-joined : (n : ℕ) → length (joined n f) ≡ k * n
+  unfolding joined
+  length-joined zero = sym (mul-zero k)
+  length-joined (suc n) = length-append (joined n f) (f n) ∙ ap₂ _+_ (length-joined n) (each n) ∙ sym (mul-suc k n)
+
+  pub getD-joined : (n x j : ℕ) (d : A) → x < n → j < k → getD (joined n f) (k * x + j) d ≡ getD (f x) j d
+  unfolding joined
+  getD-joined zero x j d h l = absurd (not-suc-le-zero h)
+  getD-joined (suc n) x j d h l = ⊎-elim
+      (λ w. ap (λ (y : ℕ). getD (joined n f ++ f n) (k * y + j) d) w
+      ∙ ap (λ (y : ℕ). getD (joined n f ++ f n) (y + j) d) (sym (length-joined n))
+      ∙ getD-append-add (joined n f) (f n) j d ∙ ap (λ (y : ℕ). getD (f y) j d) (sym w))
+      (λ w. List·getD-append (joined n f) (f n) d (k * x + j)
+      (subst (λ (y : ℕ). k * x + j < y) (sym (length-joined n))
+      (lt-of-lt-of-le (subst (λ (y : ℕ). k * x + j < y) (sym (mul-suc k x)) (omega arith)) (mul-le-mul-left k w)))
+      ∙ getD-joined n x j d w l)
+      (below-suc h)
+
+module _ {A : Type 0} where
+  pub joined-step : (i : ℕ) (f : ℕ → List A) → joined (i + 1) f ≡ joined i f ++ f i
+  unfolding joined
+  joined-step i f = rw add-one refl

@@ -1,0 +1,4 @@
+pub mod Test
+pub mod Below
+pub mod First
+pub mod Lists

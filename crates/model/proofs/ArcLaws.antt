@@ -1,0 +1,140 @@
+-- The arcs of an accepted scheme's nodes: what `arcAt` finds is what the arcs and words say, and an explicit arc is found from both ends.
+-- Assumes nothing.
+use Prim.Native.Nat.{ℕ, _+_, _≤_, _<_}
+use mathlib.Core.Path.{_≡_, refl, sym, ap, ap₂, _∙_, subst}
+use mathlib.Core.Logic.{_⊎_, ⊎-elim}
+use mathlib.Core.Bool.{Bool, true}
+use mathlib.Core.Option.{Option, none, some}
+use native.Mathlib.Omega.{arith}
+use lib.Dec.{eqb}
+use borrow.Author.Tests.{eqb-true, eq-eqb}
+use Rattle.base.specs.Below.{count}
+use Rattle.base.specs.First.{first, least, when, there}
+use Rattle.model.specs.Scheme.{Side, left, right, farEnd, orbitDim, word, arcs, arcPart, has, deleted, preserved, added}
+use Rattle.model.specs.Conditions.{absent, explicit, implicit, arcOf, arcAt, arcsOfDim, touches, far, reads, pathTo, cycleOk}
+use Rattle.model.specs.declared.Scheme.{Scheme}
+use Rattle.base.proofs.TestLaws.{and-left, and-right, and-of, or-cases, or-left, or-right, true-or-false}
+use Rattle.base.proofs.BelowLaws.{count-none, count-zero, count-some, count-once}
+use Rattle.base.proofs.FirstLaws.{when-at, when-none, first-at, first-none, first-only, first-none-of, least-at, least-none, least-only, least-none-of}
+
+-- what an accepted scheme has on a side: parts of the form and of the incidence
+pub record GoodSide (S : Scheme) (side : Side) : Type 0 where
+  pub wordDims : (s p : ℕ) → s < S .nodes → p < S .places → (word S side s p ≡ 255) ⊎ (word S side s p ≤ S .n)
+  pub arcDims : (a : ℕ) → a < arcs S side → arcPart S side a 0 ≤ S .n
+  pub arcFrom : (a : ℕ) → a < arcs S side → (arcPart S side a 1 < S .nodes) × (has S side (arcPart S side a 1) ≡ true)
+  pub arcTo : (a : ℕ) → a < arcs S side → (arcPart S side a 2 < S .nodes) × (has S side (arcPart S side a 2) ≡ true)
+  pub single : (s i : ℕ) → s < S .nodes → i ≤ S .n → arcsOfDim S side s i ≤ 1
+
+-- what an accepted scheme has: parts of the form, the hook, the incidence and the cycles
+pub record Good (S : Scheme) : Type 0 where
+  pub small : S .n ≤ 3
+  pub nodesSome : 0 < S .nodes
+  pub orbitDims : (p : ℕ) → p < S .places → orbitDim S p ≤ S .n
+  pub kinds : (s : ℕ) → s < S .nodes → (deleted S s ≡ true) ⊎ ((preserved S s ≡ true) ⊎ (added S s ≡ true))
+  pub sides : (side : Side) → GoodSide S side
+  pub reach : (s : ℕ) → s < S .nodes → has S left s ≡ true → there (pathTo S s) ≡ true
+  pub same : (s i : ℕ) → s < S .nodes → i ≤ S .n → preserved S s ≡ true → arcsOfDim S left s i ≡ arcsOfDim S right s i
+  pub allLeft : (s i : ℕ) → s < S .nodes → i ≤ S .n → deleted S s ≡ true → arcsOfDim S left s i ≡ 1
+  pub allRight : (s i : ℕ) → s < S .nodes → i ≤ S .n → added S s ≡ true → arcsOfDim S right s i ≡ 1
+  pub cycles : (s i j : ℕ) → s < S .nodes → i + 2 ≤ j → j ≤ S .n → cycleOk S s i j ≡ true
+
+module _ (S : Scheme) (side : Side) where
+  -- the arc found at s, seen from the arcs
+  pub explicit-from : (s i t : ℕ) → arcAt S side s i ≡ explicit t → (a : ℕ) × (a < arcs S side) × (touches S side s i a ≡ true) × (far S side s a ≡ t)
+  unfolding arcAt farEnd
+  explicit-from s i t e = go (first (arcs S side) (λ a. when (touches S side s i a) (far S side s a))) refl (least (S .places) (reads S side s i)) e
+    where
+      go : (o : Option ℕ) → first (arcs S side) (λ a. when (touches S side s i a) (far S side s a)) ≡ o → (r : Option ℕ) → arcOf o r ≡ explicit t
+          → (a : ℕ) × (a < arcs S side) × (touches S side s i a ≡ true) × (far S side s a ≡ t)
+      go (some v) q r e =
+          let f = first-at (arcs S side) _ v q in
+          let w = when-at _ (f .2) in
+          (f .0, f .1, w .0, (cc))
+      go none q (some p) e = absurd (let z : _≡_ {A = ℕ} 0 1 = cc in omega arith)
+      go none q none e = absurd (let z : _≡_ {A = ℕ} 0 1 = cc in omega arith)
+
+  pub implicit-from : (s i p : ℕ) → arcAt S side s i ≡ implicit p → (p < S .places) × (word S side s p ≡ i)
+  unfolding arcAt farEnd
+  implicit-from s i p e = go (first (arcs S side) (λ a. when (touches S side s i a) (far S side s a))) (least (S .places) (reads S side s i)) refl e
+    where
+      go : (o r : Option ℕ) → least (S .places) (reads S side s i) ≡ r → arcOf o r ≡ implicit p → (p < S .places) × (word S side s p ≡ i)
+      go (some v) r q e = absurd (let z : _≡_ {A = ℕ} 0 1 = cc in omega arith)
+      go none none q e = absurd (let z : _≡_ {A = ℕ} 0 1 = cc in omega arith)
+      go none (some o) q e =
+          let same : o ≡ p = cc in
+          let l = least-at (S .places) (reads S side s i) p (q ∙ ap {B = Option ℕ} some same) in
+          (l .0, eqb-true _ _ (l .1))
+
+  -- the far end is the other one
+  pub far-from : (a : ℕ) → far S side (arcPart S side a 1) a ≡ arcPart S side a 2
+  far-from a = rw (eq-eqb (arcPart S side a 1) (arcPart S side a 1) refl) refl
+
+  pub far-to : (a : ℕ) → far S side (arcPart S side a 2) a ≡ arcPart S side a 1
+  far-to a = ⊎-elim (λ e. rw e (sym (eqb-true _ _ e))) (λ e. rw e refl) (true-or-false (eqb (arcPart S side a 1) (arcPart S side a 2)))
+
+  pub touches-from : (a : ℕ) → touches S side (arcPart S side a 1) (arcPart S side a 0) a ≡ true
+  touches-from a = and-of (eq-eqb (arcPart S side a 0) _ refl) (or-left (eqb (arcPart S side a 2) (arcPart S side a 1)) (eq-eqb (arcPart S side a 1) _ refl))
+
+  pub touches-to : (a : ℕ) → touches S side (arcPart S side a 2) (arcPart S side a 0) a ≡ true
+  touches-to a = and-of (eq-eqb (arcPart S side a 0) _ refl) (or-right (eqb (arcPart S side a 1) (arcPart S side a 2)) (eq-eqb (arcPart S side a 2) _ refl))
+
+  -- no arc is found just where none is counted
+  pub absent-of : (s i : ℕ) → arcsOfDim S side s i ≡ 0 → arcAt S side s i ≡ absent
+  unfolding arcAt farEnd arcsOfDim when
+  absent-of s i e = ap₂ arcOf
+      (first-none-of (arcs S side) _ (λ a k. ap (λ (c : Bool). when c (far S side s a)) (count-none (arcs S side) (touches S side s i) (omega arith) a k)))
+      (least-none-of (S .places) (reads S side s i) (λ p k. count-none (S .places) (reads S side s i) (omega arith) p k))
+
+  pub absent-from : (s i : ℕ) → arcAt S side s i ≡ absent → arcsOfDim S side s i ≡ 0
+  unfolding arcAt farEnd arcsOfDim
+  absent-from s i e = go (first (arcs S side) (λ a. when (touches S side s i a) (far S side s a))) refl (least (S .places) (reads S side s i)) refl e
+    where
+      go : (o : Option ℕ) → first (arcs S side) (λ a. when (touches S side s i a) (far S side s a)) ≡ o → (r : Option ℕ) → least (S .places) (reads S side s i) ≡ r
+          → arcOf o r ≡ absent → count (arcs S side) (touches S side s i) + count (S .places) (reads S side s i) ≡ 0
+      go (some v) q r w e = absurd (let z : _≡_ {A = ℕ} 0 1 = cc in omega arith)
+      go none q (some p) w e = absurd (let z : _≡_ {A = ℕ} 0 1 = cc in omega arith)
+      go none q none w e =
+          let x = count-zero (arcs S side) (touches S side s i) (λ a k. when-none _ (far S side s a) (first-none (arcs S side) _ q a k)) in
+          let y = count-zero (S .places) (reads S side s i) (λ p k. least-none (S .places) (reads S side s i) w p k) in
+          omega arith
+
+  module _ (g : GoodSide S side) where
+    pub explicit-at : (s i a : ℕ) → s < S .nodes → a < arcs S side → i ≤ S .n → touches S side s i a ≡ true
+        → arcAt S side s i ≡ explicit (far S side s a)
+    unfolding arcAt farEnd arcsOfDim when
+    explicit-at s i a h b l t =
+        ap (λ (o : Option ℕ). arcOf o (least (S .places) (reads S side s i)))
+        (first-only (arcs S side) _ a (far S side s a) b (ap (λ (c : Bool). when c (far S side s a)) t)
+        (λ j c k e. let w = when-at _ e in sym (w .1) ∙ ap (far S side s) (count-once (arcs S side) (touches S side s i) (omega (arith, g .single s i h l)) j a k b (w .0) t)))
+
+    pub implicit-at : (s i p : ℕ) → s < S .nodes → p < S .places → i ≤ S .n → word S side s p ≡ i → arcAt S side s i ≡ implicit p
+    unfolding arcAt farEnd arcsOfDim when
+    implicit-at s i p h b l e =
+        let r : reads S side s i p ≡ true = eq-eqb _ _ e in
+        let one = g .single s i h l in
+        let some-implicit = count-some (S .places) (reads S side s i) p b r in
+        ap₂ arcOf
+        (first-none-of (arcs S side) _ (λ a k. ap (λ (c : Bool). when c (far S side s a)) (count-none (arcs S side) (touches S side s i) (omega arith) a k)))
+        (least-only (S .places) (reads S side s i) p b r (λ j k q. count-once (S .places) (reads S side s i) (omega arith) j p k b q r))
+
+    -- an explicit arc leads to a node of the side, and is found from there
+    pub explicit-end : (s i t : ℕ) → arcAt S side s i ≡ explicit t → (t < S .nodes) × (has S side t ≡ true) × (i ≤ S .n) × (arcAt S side t i ≡ explicit s)
+    explicit-end s i t e =
+        let f = explicit-from s i t e in
+        let a = f .0 in
+        let dim : arcPart S side a 0 ≡ i = eqb-true _ _ (and-left _ _ (f .2)) in
+        let d : i ≤ S .n = subst (λ (k : ℕ). k ≤ S .n) dim (g .arcDims a (f .1)) in
+        ⊎-elim
+        (λ q.
+        let from : arcPart S side a 1 ≡ s = eqb-true _ _ q in
+        let to : arcPart S side a 2 ≡ t = sym (far-from a) ∙ ap (λ (z : ℕ). far S side z a) from ∙ f .3 in
+        let n = g .arcTo a (f .1) in
+        let back = explicit-at (arcPart S side a 2) (arcPart S side a 0) a (n .0) (f .1) (g .arcDims a (f .1)) (touches-to a) ∙ ap explicit (far-to a ∙ from) in
+        (subst (λ (z : ℕ). z < S .nodes) to (n .0), ap (has S side) (sym to) ∙ n .1, d, ap₂ (arcAt S side) (sym to) (sym dim) ∙ back))
+        (λ q.
+        let to : arcPart S side a 2 ≡ s = eqb-true _ _ q in
+        let from : arcPart S side a 1 ≡ t = sym (far-to a) ∙ ap (λ (z : ℕ). far S side z a) to ∙ f .3 in
+        let n = g .arcFrom a (f .1) in
+        let back = explicit-at (arcPart S side a 1) (arcPart S side a 0) a (n .0) (f .1) (g .arcDims a (f .1)) (touches-from a) ∙ ap explicit (far-from a ∙ to) in
+        (subst (λ (z : ℕ). z < S .nodes) from (n .0), ap (has S side) (sym from) ∙ n .1, d, ap₂ (arcAt S side) (sym from) (sym dim) ∙ back))
+        (or-cases _ _ (and-right _ _ (f .2)))

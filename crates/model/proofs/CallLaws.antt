@@ -1,0 +1,136 @@
+-- An edit that is not refused leaves a well-formed table, and any other leaves the table as it was.
+-- Assumes nothing.
+use Prim.Native.Nat.{ℕ, _≤_, _<_}
+use mathlib.Core.Path.{_≡_, sym, ap, _∙_, subst}
+use mathlib.Core.Logic.{inl, inr, ⊎-elim}
+use mathlib.Core.Bool.{Bool, true, not, cond}
+use mathlib.Core.Option.{none, some}
+use mathlib.Core.List.{List}
+use native.Mathlib.Omega.{arith}
+use borrow.Author.Tests.{eqb-true, ltb-true, ltb-false, not-false}
+use Rattle.base.specs.Below.{count}
+use Rattle.base.specs.First.{when}
+use Rattle.model.specs.Map.{Map, view, words, unused}
+use Rattle.model.specs.WellFormed.{WellFormed, wellFormed}
+use Rattle.model.specs.Scheme.{inForm, schemeOf}
+use Rattle.model.specs.Conditions.{schemeFault}
+use Rattle.model.specs.Match.{matches}
+use Rattle.model.specs.Edit.{addedDarts, edited}
+use Rattle.model.specs.Calls.{bytesFault, roomFault, sizesOk, orbitOf, editFault, editTable}
+use Rattle.model.specs.declared.Answer.{Answer}
+use Rattle.base.proofs.TestLaws.{and-left, and-right}
+use Rattle.base.proofs.FirstLaws.{or-else-none, when-none, there-none, there-of}
+use Rattle.model.proofs.WellFormedLaws.{wellFormed-iff}
+use Rattle.model.proofs.MapLaws.{state-words, link-words}
+use Rattle.model.proofs.SchemeLaws.{accepted-good}
+use Rattle.model.proofs.MatchLaws.{match-assigns}
+use Rattle.model.proofs.MatchIff.{good-orbit}
+use Rattle.model.proofs.KeepLaws.{edit-keeps}
+
+-- ---- the table of a well-formed map is well-formed
+
+module _ (n : ℕ) (m : Map) (small : n ≤ 3) (w : WellFormed n m) where
+  abbrev back-map : Map
+  back-map = view (m .slots) (words m)
+
+  alive-in : (x : ℕ) → x < m .slots → back-map .state x ≡ 1 → m .state x ≡ 1
+  alive-in x h l = sym (state-words m x h) ∙ l
+
+  same : (x : ℕ) → x < m .slots → (i : ℕ) → i ≤ n → back-map .link i x ≡ m .link i x
+  same x h i k = link-words m x h i (omega arith)
+
+  same-twice : (x : ℕ) → x < m .slots → m .state x ≡ 1 → (i j : ℕ) → i ≤ n → j ≤ n → back-map .link j (back-map .link i x) ≡ m .link j (m .link i x)
+  same-twice x h l i j k r = ap (back-map .link j) (same x h i k) ∙ same (m .link i x) (w .below x h l i k) j r
+
+  pub words-well : WellFormed n back-map
+  words-well = record {
+    states = λ x h. ⊎-elim (λ e. inl (state-words m x h ∙ e)) (λ e. inr (state-words m x h ∙ e)) (w .states x h);
+    below = λ x h l i k. subst (λ (z : ℕ). z < m .slots) (sym (same x h i k)) (w .below x h (alive-in x h l) i k);
+    alive = λ x h l i k.
+        let a = alive-in x h l in
+        ap (back-map .state) (same x h i k) ∙ state-words m (m .link i x) (w .below x h a i k) ∙ w .alive x h a i k;
+    back = λ x h l i k. same-twice x h (alive-in x h l) i i k k ∙ w .back x h (alive-in x h l) i k;
+    flat = λ two x h l. link-words m x h 3 (omega arith) ∙ w .flat two x h (alive-in x h l);
+    square = λ x h l i j ij jn.
+        let a = alive-in x h l in
+        let k : i ≤ n = omega arith in
+        let y = m .link i x in
+        let yh = w .below x h a i k in
+        let yl = w .alive x h a i k in
+        ap (λ (z : ℕ). back-map .link j (back-map .link i z)) (same-twice x h a i j k jn)
+        ∙ same-twice (m .link j y) (w .below y yh yl j jn) (w .alive y yh yl j jn) i j k jn
+        ∙ w .square x h a i j ij jn;
+  }
+
+-- ---- an edit
+
+passed : (t : Bool) (a : Answer) → when (not t) a ≡ none → t ≡ true
+passed t a e = not-false t (when-none (not t) a e)
+
+-- what has been tested of an edit that is not refused
+pub record Granted (n N : ℕ) (t store b : List ℕ) (d : ℕ) : Type 0 where
+  pub sizes : sizesOk n N t ≡ true
+  pub form : inForm b ≡ true
+  pub accepted : schemeFault (schemeOf b) ≡ none
+  pub dimension : schemeOf b .n ≡ n
+  pub well : wellFormed n (view N t) ≡ true
+  pub slot : d < N
+  pub alive : view N t .state d ≡ 1
+  pub match : matches (view N t) (schemeOf b) (orbitOf n N t store b d) ≡ true
+  pub room : addedDarts (view N t) (schemeOf b) (orbitOf n N t store b d) ≤ count N (unused (view N t))
+
+module _ (n N : ℕ) (t store b : List ℕ) (d : ℕ) (q : editFault n N t store b d ≡ none) where
+  pub granted : Granted n N t store b d
+  unfolding editFault bytesFault roomFault
+  granted =
+      let r1 = or-else-none _ _ q in
+      let r2 = or-else-none _ _ (r1 .1) in
+      let bytes = or-else-none _ _ (r2 .0) in
+      let r6 = or-else-none _ _ (r2 .1) in
+      let r7 = or-else-none _ _ (r6 .1) in
+      let r8 = or-else-none _ _ (r7 .1) in
+      let r9 = or-else-none _ _ (r8 .1) in
+      let dart = passed _ _ (r8 .0) in
+      record {
+        sizes = and-left _ _ (passed _ _ (r1 .0));
+        form = passed _ _ (bytes .0);
+        accepted = bytes .1;
+        dimension = eqb-true _ _ (passed _ _ (r6 .0));
+        well = passed _ _ (r7 .0);
+        slot = ltb-true _ _ (and-left _ _ dart);
+        alive = eqb-true _ _ (and-right _ _ dart);
+        match = passed _ _ (r9 .0);
+        room = ltb-false _ _ (when-none _ _ (r9 .1));
+      }
+
+  -- the new map is well-formed
+  new-map : WellFormed (schemeOf b .n) (edited (view N t) (schemeOf b) (orbitOf n N t store b d))
+  unfolding orbitOf
+  new-map =
+      let g = granted in
+      let m = view N t in
+      let good = accepted-good b (g .form) (g .accepted) in
+      let well = ap (λ (k : ℕ). wellFormed k m) (g .dimension) ∙ g .well in
+      let rules = wellFormed-iff (schemeOf b .n) m .0 well in
+      let orb = good-orbit m b d (g .form) (g .accepted) well (g .slot) (g .alive) in
+      edit-keeps m (schemeOf b) _ rules good orb (match-assigns m (schemeOf b) good _ orb rules (g .match)) (g .room)
+
+  pub edit-table : editTable n N t store b d ≡ words (edited (view N t) (schemeOf b) (orbitOf n N t store b d))
+  unfolding editTable
+  edit-table = ap (λ (c : Bool). cond c t (words (edited (view N t) (schemeOf b) (orbitOf n N t store b d)))) (there-none q)
+
+  -- the table that an edit leaves is well-formed
+  pub edit-table-well : wellFormed n (view N (editTable n N t store b d)) ≡ true
+  unfolding edited
+  edit-table-well =
+      let g = granted in
+      let good = accepted-good b (g .form) (g .accepted) in
+      let m = edited (view N t) (schemeOf b) (orbitOf n N t store b d) in
+      ap (λ (l : List ℕ). wellFormed n (view N l)) edit-table
+      ∙ ap (λ (k : ℕ). wellFormed k (view N (words m))) (sym (g .dimension))
+      ∙ wellFormed-iff (schemeOf b .n) (view N (words m)) .1 (words-well (schemeOf b .n) m (good .small) new-map)
+
+-- an edit that is refused leaves the table as it was
+pub refused-table : (n N : ℕ) (t store b : List ℕ) (d : ℕ) (a : Answer) → editFault n N t store b d ≡ some a → editTable n N t store b d ≡ t
+unfolding editTable
+refused-table n N t store b d a q = ap (λ (c : Bool). cond c t (words (edited (view N t) (schemeOf b) (orbitOf n N t store b d)))) (there-of q)

@@ -1,0 +1,188 @@
+-- The darts of an accepted edit's pairs are slots, all different; so a slot's pair is found, and is the only one.
+-- Assumes nothing.
+use Prim.Native.Nat.{ℕ, _+_, _*_, _/_, _≤_, _<_}
+use mathlib.Core.Path.{_≡_, refl, sym, ap, ap₂, _∙_, subst}
+use mathlib.Core.Logic.{_⊎_, ⊎-elim}
+use mathlib.Core.Bool.{Bool, true, false, cond}
+use mathlib.Core.Option.{Option, none, some, Option·getD}
+use native.Mathlib.Nat.{suc-mul, mul-le-mul-right, mul-add-div-right, div-eq-of-lt, add-zero, add-left-cancel}
+use native.Mathlib.Omega.{arith}
+use lib.Dec.{eqb}
+use borrow.Author.Tests.{eqb-true, eq-eqb, ne-eqb}
+use Rattle.base.specs.Test.{_and_}
+use Rattle.base.specs.Below.{count}
+use Rattle.base.specs.First.{nth, first, when}
+use Rattle.model.specs.Map.{Map, unused}
+use Rattle.model.specs.Scheme.{left, right, kind, orbitDim, has, added, deleted}
+use Rattle.model.specs.Conditions.{absent, explicit, implicit, arcAt}
+use Rattle.model.specs.Match.{image, Assignment}
+use Rattle.model.specs.Edit.{Pair, orbitSize, addedDarts, rank, freeSlot, dartOf, pairOf, newLink, newWord, edited}
+use Rattle.model.specs.declared.Scheme.{Scheme}
+use Rattle.base.proofs.TestLaws.{and-left, and-right, and-of, or-cases, true-or-false}
+use Rattle.base.proofs.BelowLaws.{count-lt, count-injective}
+use Rattle.base.proofs.FirstLaws.{when-at, first-at, first-only, first-none-of, nth-at, nth-found}
+
+-- digits: a quotient and a rest below A are found again in q * A + r
+digits : (A q r v t : ℕ) → r < A → t < A → q * A + r ≡ v * A + t → (q ≡ v) × (r ≡ t)
+digits A q r v t h l e = (same, add-left-cancel (q * A) (e ∙ ap (λ (z : ℕ). z * A + t) (sym same)))
+  where
+    back : (q r : ℕ) → r < A → (q * A + r) / A ≡ q
+    back q r h = mul-add-div-right (omega arith) q r ∙ ap (λ (z : ℕ). q + z) (div-eq-of-lt h) ∙ add-zero q
+
+    same : q ≡ v
+    same = sym (back q r h) ∙ ap (λ (z : ℕ). z / A) e ∙ back v t l
+
+abbrev pair : ℕ → ℕ → Pair
+pair u s = record { dart = u; node = s }
+
+left-not-added : (S : Scheme) (s : ℕ) → has S left s ≡ true → added S s ≡ false
+left-not-added S s e = ⊎-elim
+    (λ q. let k = eqb-true (kind S s) 1 q in ne-eqb (kind S s) 3 (λ z. omega arith))
+    (λ q. let k = eqb-true (kind S s) 2 q in ne-eqb (kind S s) 3 (λ z. omega arith))
+    (or-cases _ _ e)
+
+module _ (m : Map) (S : Scheme) (O : ℕ → Bool) (slot : (u : ℕ) → O u ≡ true → u < m .slots)
+    (kinds : (s : ℕ) → s < S .nodes → (has S left s ≡ true) ⊎ (added S s ≡ true))
+    (A : Assignment m S O (image m S)) (room : addedDarts m S O ≤ count (m .slots) (unused m)) where
+  below-added : (s : ℕ) → s < S .nodes → added S s ≡ true → count s (added S) < count (S .nodes) (added S)
+  below-added s h e = count-lt (added S) s (S .nodes) h e
+
+  pub rank-below : (u s : ℕ) → O u ≡ true → s < S .nodes → added S s ≡ true → rank m S O u s < count (m .slots) (unused m)
+  unfolding rank addedDarts orbitSize
+  rank-below u s e h a =
+      let cs = below-added s h a in
+      let more = mul-le-mul-right (count (S .nodes) (added S)) (count-lt O u (m .slots) (slot u e) e) in
+      let next = suc-mul (count u O) (count (S .nodes) (added S)) in
+      let r = room in
+      omega arith
+
+  rank-injective : (u s v t : ℕ) → O u ≡ true → O v ≡ true → s < S .nodes → t < S .nodes → added S s ≡ true → added S t ≡ true
+      → rank m S O u s ≡ rank m S O v t → (u ≡ v) × (s ≡ t)
+  unfolding rank
+  rank-injective u s v t e f h l a b q =
+      let d = digits (count (S .nodes) (added S)) _ _ _ _ (below-added s h a) (below-added t l b) q in
+      (count-injective O u v e f (d .0), count-injective (added S) s t a b (d .1))
+
+  -- the slot of an added pair is below N, was unused, and has the pair's rank
+  pub free-at : (u s : ℕ) → O u ≡ true → s < S .nodes → added S s ≡ true
+      → (dartOf m S O u s < m .slots) × (m .state (dartOf m S O u s) ≡ 0) × (count (dartOf m S O u s) (unused m) ≡ rank m S O u s)
+  unfolding dartOf freeSlot
+  free-at u s e h a =
+      let f = nth-found (m .slots) (unused m) (rank m S O u s) (rank-below u s e h a) in
+      let n = nth-at (m .slots) (unused m) (rank m S O u s) (f .0) (f .1) in
+      let same : f .0 ≡ cond (added S s) (Option·getD (nth (m .slots) (unused m) (rank m S O u s)) 0) (image m S u s) =
+      sym (ap (λ (b : Bool). cond b (Option·getD (nth (m .slots) (unused m) (rank m S O u s)) 0) (image m S u s)) a ∙ ap (λ (o : Option ℕ). Option·getD o 0) (f .1)) in
+      subst (λ (x : ℕ). (x < m .slots) × (m .state x ≡ 0) × (count x (unused m) ≡ rank m S O u s)) same (n .0, eqb-true _ _ (n .1), n .2)
+
+  -- the dart of a left pair is its image
+  pub dart-image : (u s : ℕ) → has S left s ≡ true → dartOf m S O u s ≡ image m S u s
+  unfolding dartOf
+  dart-image u s l = ap (λ (b : Bool). cond b (freeSlot m S O (rank m S O u s)) (image m S u s)) (left-not-added S s l)
+
+  pub left-alive : (u s : ℕ) → O u ≡ true → s < S .nodes → has S left s ≡ true → m .state (dartOf m S O u s) ≡ 1
+  left-alive u s e h l = ap (m .state) (dart-image u s l) ∙ A .darts u (slot u e) e s h l .1
+
+  pub dart-slot : (u s : ℕ) → O u ≡ true → s < S .nodes → dartOf m S O u s < m .slots
+  dart-slot u s e h = ⊎-elim
+      (λ l. subst (λ (x : ℕ). x < m .slots) (sym (dart-image u s l)) (A .darts u (slot u e) e s h l .0))
+      (λ a. free-at u s e h a .0)
+      (kinds s h)
+
+  pub dart-injective : (u s v t : ℕ) → O u ≡ true → O v ≡ true → s < S .nodes → t < S .nodes
+      → dartOf m S O u s ≡ dartOf m S O v t → (u ≡ v) × (s ≡ t)
+  dart-injective u s v t e f h l q = ⊎-elim
+      (λ a. ⊎-elim
+      (λ b. A .different u (slot u e) e s h a v (slot v f) f t l b (sym (dart-image u s a) ∙ q ∙ dart-image v t b))
+      (λ b. absurd (apart (left-alive u s e h a) (ap (m .state) q ∙ free-at v t f l b .1)))
+      (kinds t l))
+      (λ a. ⊎-elim
+      (λ b. absurd (apart (left-alive v t f l b) (ap (m .state) (sym q) ∙ free-at u s e h a .1)))
+      (λ b. rank-injective u s v t e f h l a b (sym (free-at u s e h a .2) ∙ ap (λ (x : ℕ). count x (unused m)) q ∙ free-at v t f l b .2))
+      (kinds t l))
+      (kinds s h)
+    where
+      apart : {x : ℕ} → x ≡ 1 → x ≡ 0 → ⊥
+      apart p r = omega arith
+
+  -- ---- the pair of a slot
+
+  pub pair-at : (x : ℕ) (p : Pair) → pairOf m S O x ≡ some p → (O (p .dart) ≡ true) × (p .node < S .nodes) × (dartOf m S O (p .dart) (p .node) ≡ x)
+  unfolding pairOf
+  pair-at x p e =
+      let f = first-at (m .slots) _ p e in
+      let g = first-at (S .nodes) _ p (f .2) in
+      let w = when-at _ (g .2) in
+      let d : f .0 ≡ p .dart = ap (λ (r : Pair). r .dart) (w .1) in
+      let n : g .0 ≡ p .node = ap (λ (r : Pair). r .node) (w .1) in (
+        ap O (sym d) ∙ and-left _ _ (w .0),
+        subst (λ (k : ℕ). k < S .nodes) n (g .1),
+        sym (ap₂ (dartOf m S O) d n) ∙ eqb-true _ _ (and-right _ _ (w .0)),
+      )
+
+  module _ (u s : ℕ) (e : O u ≡ true) (h : s < S .nodes) where
+    sole : (v t : ℕ) (p : Pair) → t < S .nodes → when (O v and eqb (dartOf m S O v t) (dartOf m S O u s)) (pair v t) ≡ some p → p ≡ pair u s
+    sole v t p l q =
+        let w = when-at _ q in
+        let d = dart-injective v t u s (and-left _ _ (w .0)) e l h (eqb-true _ _ (and-right _ _ (w .0))) in
+        sym (w .1) ∙ ap₂ pair (d .0) (d .1)
+
+    inner : first (S .nodes) (λ t. when (O u and eqb (dartOf m S O u t) (dartOf m S O u s)) (pair u t)) ≡ some (pair u s)
+    unfolding when
+    inner = first-only (S .nodes) _ s (pair u s) h (ap (λ (b : Bool). when b (pair u s)) (and-of e (eq-eqb (dartOf m S O u s) _ refl))) (λ t p l q. sole u t p l q)
+
+    pub pair-of : pairOf m S O (dartOf m S O u s) ≡ some (pair u s)
+    unfolding pairOf
+    pair-of = first-only (m .slots) _ u (pair u s) (slot u e) inner
+        (λ v p l q. let f = first-at (S .nodes) _ p q in sole v (f .0) p (f .1) (f .2))
+
+  pub pair-none : (x : ℕ) → ((u s : ℕ) → O u ≡ true → s < S .nodes → dartOf m S O u s ≡ x → ⊥) → pairOf m S O x ≡ none
+  unfolding pairOf when
+  pair-none x f = first-none-of (m .slots) _ (λ u b. first-none-of (S .nodes) _ (λ s h. ⊎-elim
+      (λ t. absurd (f u s (and-left _ _ t) h (eqb-true _ _ (and-right _ _ t))))
+      (λ t. rw t refl)
+      (true-or-false (O u and eqb (dartOf m S O u s) x))))
+
+  -- ---- the new map
+
+  -- a slot that is no pair's dart stays as it stood
+  pub state-other : (x : ℕ) → pairOf m S O x ≡ none → edited m S O .state x ≡ m .state x
+  unfolding edited newWord
+  state-other x e = rw e refl
+
+  pub link-other : (i x : ℕ) → pairOf m S O x ≡ none → edited m S O .link i x ≡ m .link i x
+  unfolding edited newWord
+  link-other i x e = rw e refl
+
+  module _ (u s : ℕ) (e : O u ≡ true) (h : s < S .nodes) where
+    pub state-deleted : deleted S s ≡ true → edited m S O .state (dartOf m S O u s) ≡ 0
+    unfolding edited newWord
+    state-deleted d = rw (pair-of u s e h, d) refl
+
+    module _ (k : deleted S s ≡ false) where
+      pub state-pair : edited m S O .state (dartOf m S O u s) ≡ 1
+      unfolding edited newWord
+      state-pair = rw (pair-of u s e h, k) refl
+
+      link-pair : (i : ℕ) → edited m S O .link i (dartOf m S O u s)
+          ≡ newLink m S O u s (arcAt S right s i) (cond (added S s) (dartOf m S O u s) (m .link i (dartOf m S O u s)))
+      unfolding edited newWord
+      link-pair i = ap (λ (o : Option Pair). newWord m S O o (m .link i (dartOf m S O u s))
+          (λ v t. newLink m S O v t (arcAt S right t i) (cond (added S t) (dartOf m S O u s) (m .link i (dartOf m S O u s))))) (pair-of u s e h)
+          ∙ ap (λ (b : Bool). cond b 0 (newLink m S O u s (arcAt S right s i) (cond (added S s) (dartOf m S O u s) (m .link i (dartOf m S O u s))))) k
+
+      -- by the right arc that the node has
+      pub link-explicit : (i t : ℕ) → arcAt S right s i ≡ explicit t → edited m S O .link i (dartOf m S O u s) ≡ dartOf m S O u t
+      unfolding newLink
+      link-explicit i t a = link-pair i ∙ rw a refl
+
+      pub link-implicit : (i p : ℕ) → arcAt S right s i ≡ implicit p → edited m S O .link i (dartOf m S O u s) ≡ dartOf m S O (m .link (orbitDim S p) u) s
+      unfolding newLink
+      link-implicit i p a = link-pair i ∙ rw a refl
+
+      pub link-kept : (i : ℕ) → added S s ≡ false → arcAt S right s i ≡ absent → edited m S O .link i (dartOf m S O u s) ≡ m .link i (dartOf m S O u s)
+      unfolding newLink
+      link-kept i n a = link-pair i ∙ rw (a, n) refl
+
+      pub link-own : (i : ℕ) → added S s ≡ true → arcAt S right s i ≡ absent → edited m S O .link i (dartOf m S O u s) ≡ dartOf m S O u s
+      unfolding newLink
+      link-own i n a = link-pair i ∙ rw (a, n) refl

@@ -1,0 +1,15 @@
+pub mod Computes
+pub mod Samples
+pub mod WellFormedLaws
+pub mod AnswerLaws
+pub mod ReachLaws
+pub mod OrbitLaws
+pub mod ArcLaws
+pub mod CycleLaws
+pub mod MatchLaws
+pub mod SchemeLaws
+pub mod MatchIff
+pub mod MapLaws
+pub mod EditLaws
+pub mod KeepLaws
+pub mod CallLaws

@@ -1,0 +1,273 @@
+-- What the value of bytes in the form has is what the bytes say; and an accepted scheme is one that the laws of the match speak of.
+-- Assumes nothing.
+use Prim.Native.Nat.{ℕ, _+_, _*_, _/_, _%_, _≤_, _<_}
+use mathlib.Core.Path.{_≡_, refl, sym, ap, ap₂, _∙_, subst}
+use mathlib.Core.Logic.{_⊎_, inl, inr, ⊎-elim}
+use mathlib.Core.Bool.{true, not, cond, true≢false}
+use mathlib.Core.Option.{Option, none, some, Option·getD}
+use mathlib.Core.List.{List}
+use native.Mathlib.Omega.{arith}
+use lib.ListN.{getD}
+use lib.Dec.{eqb, leb}
+use borrow.Author.Tests.{eqb-false, eq-eqb, le-leb, eqb-true, ltb-true, leb-true, lt-ltb, not-false}
+use Rattle.base.specs.Test.{_and_, _or_, _⇒_}
+use Rattle.base.specs.First.{there, when}
+use Rattle.model.specs.Scheme.{deleted, preserved, added, Side, left, right, onSide, byte, placesOf, nodesOf, kindAt, wordAt, arcCount, arcByte, orbitForm, wordForm, nodeForm, arcForm, arcsForm, inForm, upTo, farEnd, wordsOf, arcsOf, targetsOf, schemeOf, kind, orbitDim, word, target, arcs, arcPart, has}
+use Rattle.model.specs.Conditions.{arcsOfDim, pathTo, hookFault, incidenceOk, incidenceFault, cycleFault, cycleOk, schemeFault, noted}
+use Rattle.model.specs.declared.Answer.{Answer}
+use Rattle.model.specs.declared.Answer.the-variants.{BadHook, BadIncidence}
+use Rattle.base.proofs.TestLaws.{if-so, and-left, and-right, or-cases, true-or-false, and-of}
+use Rattle.base.proofs.BelowLaws.{all-at}
+use Rattle.base.proofs.FirstLaws.{when-none, first-none, first-same, or-else-none, least-none, some-not-none}
+use Rattle.base.proofs.ListLaws.{getD-list}
+use Rattle.model.proofs.ArcLaws.{Good, GoodSide}
+
+up-to : (bound x v filling : ℕ) → x < bound → upTo bound x v filling ≡ v
+up-to bound x v filling h = rw (lt-ltb x bound h) refl
+
+module _ (b : List ℕ) (q : inForm b ≡ true) where
+  -- ---- the parts of the form
+
+  form-n : (byte b 0 ≡ 2) ⊎ (byte b 0 ≡ 3)
+  unfolding inForm
+  form-n = ⊎-elim (λ e. inl (eqb-true _ _ e)) (λ e. inr (eqb-true _ _ e))
+      (or-cases _ _ (and-left _ _ (and-left _ _ (and-left _ _ (and-left _ _ (and-left _ _ (and-left _ _ (and-left _ _ q))))))))
+
+  pub small : byte b 0 ≤ 3
+  small = ⊎-elim (λ e. omega arith) (λ e. omega arith) form-n
+
+  form-orbit : orbitForm b ≡ true
+  unfolding inForm
+  form-orbit = and-right _ _ (and-left _ _ (and-left _ _ (and-left _ _ (and-left _ _ (and-left _ _ (and-left _ _ q))))))
+
+  pub places-few : placesOf b ≤ byte b 0 + 1
+  unfolding orbitForm
+  places-few = leb-true _ _ (and-left _ _ (and-left _ _ form-orbit))
+
+  pub nodes-some : 1 ≤ nodesOf b
+  unfolding inForm
+  nodes-some = leb-true _ _ (and-right _ _ (and-left _ _ (and-left _ _ (and-left _ _ (and-left _ _ (and-left _ _ q))))))
+
+  pub nodes-few : nodesOf b ≤ 16
+  unfolding inForm
+  nodes-few = leb-true _ _ (and-right _ _ (and-left _ _ (and-left _ _ (and-left _ _ (and-left _ _ q)))))
+
+  form-node : (s : ℕ) → s < nodesOf b → nodeForm b s ≡ true
+  unfolding inForm
+  form-node s h = all-at _ _ (and-right _ _ (and-left _ _ (and-left _ _ (and-left _ _ q)))) s h
+
+  form-arcs : (side : Side) → arcsForm b side ≡ true
+  unfolding inForm
+  form-arcs left = and-right _ _ (and-left _ _ (and-left _ _ q))
+  form-arcs right = and-right _ _ (and-left _ _ q)
+
+  pub arcs-few : (side : Side) → arcCount b side ≤ 64
+  unfolding arcsForm
+  arcs-few side = leb-true _ _ (and-left _ _ (form-arcs side))
+
+  form-arc : (side : Side) (a : ℕ) → a < arcCount b side → arcForm b side a ≡ true
+  unfolding arcsForm
+  form-arc side a h = all-at _ _ (and-right _ _ (form-arcs side)) a h
+
+  form-word : (side : Side) (s : ℕ) → s < nodesOf b → wordForm b side s ≡ true
+  unfolding nodeForm
+  form-word left s h = and-right _ _ (and-left _ _ (and-left _ _ (and-left _ _ (form-node s h))))
+  form-word right s h = and-right _ _ (and-left _ _ (and-left _ _ (form-node s h)))
+
+  -- ---- the value has what the bytes say
+
+  pub value-orbit : (p : ℕ) → p < placesOf b → orbitDim (schemeOf b) p ≡ byte b (2 + p)
+  unfolding schemeOf
+  value-orbit p h =
+      let few = places-few in
+      let n3 = small in
+      getD-list 4 p _ 0 (omega arith) ∙ up-to _ _ _ _ h
+
+  pub value-kind : (s : ℕ) → s < nodesOf b → kind (schemeOf b) s ≡ kindAt b s
+  unfolding schemeOf
+  value-kind s h = let few = nodes-few in getD-list 16 s _ 0 (omega arith) ∙ up-to _ _ _ _ h
+
+  words-at : (side : Side) (s p : ℕ) → s < nodesOf b → p < placesOf b → getD (wordsOf b side) (4 * s + p) 255 ≡ wordAt b side s p
+  unfolding wordsOf
+  words-at side s p h l =
+      let few = places-few in
+      let n3 = small in
+      let c16 = nodes-few in
+      let at-s : (4 * s + p) / 4 ≡ s = omega arith in
+      let at-p : (4 * s + p) % 4 ≡ p = omega arith in
+      getD-list 64 (4 * s + p) _ 255 (omega arith)
+      ∙ ap₂ (λ (x y : ℕ). upTo (nodesOf b) x (upTo (placesOf b) y (wordAt b side x y) 255) 255) at-s at-p
+      ∙ up-to _ _ _ _ h ∙ up-to _ _ _ _ l
+
+  pub value-word : (side : Side) (s p : ℕ) → s < nodesOf b → p < placesOf b → word (schemeOf b) side s p ≡ wordAt b side s p
+  unfolding schemeOf
+  value-word left s p h l = words-at left s p h l
+  value-word right s p h l = words-at right s p h l
+
+  arcs-at : (side : Side) (a f : ℕ) → a < arcCount b side → f < 3 → getD (arcsOf b side) (3 * a + f) 0 ≡ arcByte b side a f
+  unfolding arcsOf
+  arcs-at side a f h l =
+      let few = arcs-few side in
+      let at-a : (3 * a + f) / 3 ≡ a = omega arith in
+      let at-f : (3 * a + f) % 3 ≡ f = omega arith in
+      getD-list 192 (3 * a + f) _ 0 (omega arith)
+      ∙ ap₂ (λ (x y : ℕ). upTo (arcCount b side) x (arcByte b side x y) 0) at-a at-f
+      ∙ up-to _ _ _ _ h
+
+  pub value-arc : (side : Side) (a f : ℕ) → a < arcCount b side → f < 3 → arcPart (schemeOf b) side a f ≡ arcByte b side a f
+  unfolding schemeOf
+  value-arc left a f h l = arcs-at left a f h l
+  value-arc right a f h l = arcs-at right a f h l
+
+  end-same : (side : Side) (s i : ℕ) → farEnd (arcByte b side) (arcCount b side) s i ≡ farEnd (arcPart (schemeOf b) side) (arcCount b side) s i
+  unfolding farEnd
+  end-same side s i = first-same (arcCount b side) _ _ (λ a h. each
+      (value-arc side a 0 h (omega arith)) (value-arc side a 1 h (omega arith)) (value-arc side a 2 h (omega arith)))
+    where
+      each : {d d′ x x′ y y′ : ℕ} → d′ ≡ d → x′ ≡ x → y′ ≡ y
+          → when (eqb d i and (eqb x s or eqb y s)) (cond (eqb x s) y x) ≡ when (eqb d′ i and (eqb x′ s or eqb y′ s)) (cond (eqb x′ s) y′ x′)
+      each e f g = rw (e, f, g)
+
+  targets-at : (side : Side) (s i : ℕ) → s < 16 → i < 4 → getD (targetsOf b side) (4 * s + i) 255 ≡ Option·getD (farEnd (arcPart (schemeOf b) side) (arcCount b side) s i) 255
+  unfolding targetsOf
+  targets-at side s i h l =
+      let at-s : (4 * s + i) / 4 ≡ s = omega arith in
+      let at-i : (4 * s + i) % 4 ≡ i = omega arith in
+      getD-list 64 (4 * s + i) _ 255 (omega arith)
+      ∙ ap₂ (λ (x y : ℕ). Option·getD (farEnd (arcByte b side) (arcCount b side) x y) 255) at-s at-i
+      ∙ ap (λ (o : Option ℕ). Option·getD o 255) (end-same side s i)
+
+  -- a target is the far end of the node's first explicit arc of that dimension
+  pub value-target : (side : Side) (s i : ℕ) → s < 16 → i < 4
+      → target (schemeOf b) side s i ≡ Option·getD (farEnd (arcPart (schemeOf b) side) (arcs (schemeOf b) side) s i) 255
+  unfolding schemeOf
+  value-target left s i h l = targets-at left s i h l
+  value-target right s i h l = targets-at right s i h l
+
+  -- ---- the form, as facts on the value
+
+  pub orbit-dim : (p : ℕ) → p < placesOf b → orbitDim (schemeOf b) p ≤ byte b 0
+  unfolding orbitForm
+  orbit-dim p h = rw (value-orbit p h) (leb-true _ _ (all-at _ _ (and-right _ _ (and-left _ _ form-orbit)) p h))
+
+  pub word-dim : (side : Side) (s p : ℕ) → s < nodesOf b → p < placesOf b
+      → (word (schemeOf b) side s p ≡ 255) ⊎ (word (schemeOf b) side s p ≤ byte b 0)
+  unfolding wordForm
+  word-dim side s p h l = rw (value-word side s p h l) (⊎-elim (λ e. inl (eqb-true _ _ e)) (λ e. inr (leb-true _ _ (and-left _ _ e)))
+      (or-cases _ _ (all-at _ _ (form-word side s h) p l)))
+
+  pub arc-dim : (side : Side) (a : ℕ) → a < arcCount b side → arcPart (schemeOf b) side a 0 ≤ byte b 0
+  unfolding arcForm
+  arc-dim side a h = rw (value-arc side a 0 h (omega arith))
+      (leb-true _ _ (and-left _ _ (and-left _ _ (and-left _ _ (and-left _ _ (and-left _ _ (form-arc side a h)))))))
+
+  End : Side → ℕ → Type 0
+  End side x = (x < nodesOf b) × (has (schemeOf b) side x ≡ true)
+
+  on-side : (side : Side) (x : ℕ) → x < nodesOf b → onSide side (kindAt b x) ≡ true → End side x
+  unfolding End
+  on-side side x h e = (h, ap (onSide side) (value-kind x h) ∙ e)
+
+  pub arc-from : (side : Side) (a : ℕ) → a < arcCount b side → (arcPart (schemeOf b) side a 1 < nodesOf b) × (has (schemeOf b) side (arcPart (schemeOf b) side a 1) ≡ true)
+  unfolding arcForm End
+  arc-from side a h =
+      let f = and-left _ _ (form-arc side a h) in
+      let order : arcByte b side a 1 ≤ arcByte b side a 2 = leb-true _ _ (and-right _ _ (and-left _ _ (and-left _ _ (and-left _ _ f)))) in
+      let bound : arcByte b side a 2 < nodesOf b = ltb-true _ _ (and-right _ _ (and-left _ _ (and-left _ _ f))) in
+      subst (End side) (sym (value-arc side a 1 h (omega arith))) (on-side side _ (omega arith) (and-right _ _ (and-left _ _ f)))
+
+  pub arc-to : (side : Side) (a : ℕ) → a < arcCount b side → (arcPart (schemeOf b) side a 2 < nodesOf b) × (has (schemeOf b) side (arcPart (schemeOf b) side a 2) ≡ true)
+  unfolding arcForm End
+  arc-to side a h =
+      let f = and-left _ _ (form-arc side a h) in
+      let bound = ltb-true _ _ (and-right _ _ (and-left _ _ (and-left _ _ f))) in
+      subst (End side) (sym (value-arc side a 2 h (omega arith))) (on-side side _ bound (and-right _ _ f))
+
+-- ---- accepted schemes
+
+noted-none : (f : ℕ → Answer) (o : Option ℕ) → noted f o ≡ none → o ≡ none
+noted-none f none e = refl
+noted-none f (some s) e = absurd (some-not-none {o = some (f s)} {a = f s} refl e)
+
+one-of-three : (k : ℕ) → 1 ≤ k → k ≤ 3 → (eqb k 1 ≡ true) ⊎ ((eqb k 2 ≡ true) ⊎ (eqb k 3 ≡ true))
+one-of-three k l h = ⊎-elim (λ e. inl e)
+    (λ e. inr (⊎-elim (λ f. inl f)
+    (λ f. inr (let a = eqb-false k 1 e in let c = eqb-false k 2 f in eq-eqb k 3 (omega arith)))
+    (true-or-false (eqb k 2))))
+    (true-or-false (eqb k 1))
+
+module _ (b : List ℕ) (q : inForm b ≡ true) (r : schemeFault (schemeOf b) ≡ none) where
+  no-hook : hookFault (schemeOf b) ≡ none
+  unfolding schemeFault
+  no-hook = noted-none BadHook _ (or-else-none _ _ r .0)
+
+  no-incidence : incidenceFault (schemeOf b) ≡ none
+  unfolding schemeFault
+  no-incidence = noted-none BadIncidence _ (or-else-none _ _ (or-else-none _ _ r .1) .0)
+
+  reached : (s : ℕ) → s < nodesOf b → has (schemeOf b) left s ≡ true → there (pathTo (schemeOf b) s) ≡ true
+  unfolding hookFault schemeOf
+  reached s h l = ⊎-elim (λ e. e)
+      (λ e. absurd (true≢false (sym (and-of l (ap not e)) ∙ least-none _ _ (or-else-none _ _ no-hook .1) s h)))
+      (true-or-false (there (pathTo (schemeOf b) s)))
+
+  incident : (s i : ℕ) → s < nodesOf b → i ≤ byte b 0
+      → (leb (arcsOfDim (schemeOf b) left s i) 1 and leb (arcsOfDim (schemeOf b) right s i) 1
+      and (preserved (schemeOf b) s ⇒ eqb (arcsOfDim (schemeOf b) left s i) (arcsOfDim (schemeOf b) right s i))
+      and (deleted (schemeOf b) s ⇒ eqb (arcsOfDim (schemeOf b) left s i) 1)
+      and (added (schemeOf b) s ⇒ eqb (arcsOfDim (schemeOf b) right s i) 1)) ≡ true
+  unfolding incidenceFault incidenceOk schemeOf
+  incident s i h l = all-at _ _ (not-false _ (least-none _ _ no-incidence s h)) i (omega arith)
+
+  no-cycle : cycleFault (schemeOf b) ≡ none
+  unfolding schemeFault
+  no-cycle = or-else-none _ _ (or-else-none _ _ r .1) .1
+
+  cycled : (s i j : ℕ) → s < nodesOf b → i + 2 ≤ j → j ≤ byte b 0 → cycleOk (schemeOf b) s i j ≡ true
+  unfolding cycleFault schemeOf
+  cycled s i j h ij jn =
+      ⊎-elim (λ e. e)
+      (λ e.
+      let f = when-none _ _ (first-none _ _ (first-none _ _ (first-none _ _ no-cycle s h) i (omega arith)) j (omega arith)) in
+      absurd (true≢false (sym (and-of (le-leb (i + 2) j ij) (ap not e)) ∙ f)))
+      (true-or-false (cycleOk (schemeOf b) s i j))
+
+  sided : (side : Side) → GoodSide (schemeOf b) side
+  unfolding schemeOf
+  sided left = record {
+    wordDims = word-dim b q left;
+    arcDims = arc-dim b q left;
+    arcFrom = arc-from b q left;
+    arcTo = arc-to b q left;
+    single = λ s i h l. leb-true _ _ (and-left _ _ (and-left _ _ (and-left _ _ (and-left _ _ (incident s i h l)))));
+  }
+  sided right = record {
+    wordDims = word-dim b q right;
+    arcDims = arc-dim b q right;
+    arcFrom = arc-from b q right;
+    arcTo = arc-to b q right;
+    single = λ s i h l. leb-true _ _ (and-right _ _ (and-left _ _ (and-left _ _ (and-left _ _ (incident s i h l)))));
+  }
+
+  kind-of : (s : ℕ) → s < nodesOf b → (deleted (schemeOf b) s ≡ true) ⊎ ((preserved (schemeOf b) s ≡ true) ⊎ (added (schemeOf b) s ≡ true))
+  unfolding nodeForm
+  kind-of s h =
+      let f = and-left _ _ (and-left _ _ (and-left _ _ (and-left _ _ (form-node b q s h)))) in
+      let low = leb-true 1 (kindAt b s) (and-left _ _ f) in
+      let high = leb-true (kindAt b s) 3 (and-right _ _ f) in
+      subst (λ (k : ℕ). (eqb k 1 ≡ true) ⊎ ((eqb k 2 ≡ true) ⊎ (eqb k 3 ≡ true))) (sym (value-kind b q s h)) (one-of-three (kindAt b s) low high)
+
+  pub accepted-good : Good (schemeOf b)
+  unfolding schemeOf
+  accepted-good = record {
+    small = small b q;
+    nodesSome = nodes-some b q;
+    orbitDims = orbit-dim b q;
+    kinds = kind-of;
+    sides = sided;
+    reach = reached;
+    same = λ s i h l e. eqb-true _ _ (if-so _ (and-right _ _ (and-left _ _ (and-left _ _ (incident s i h l)))) e);
+    allLeft = λ s i h l e. eqb-true _ _ (if-so _ (and-right _ _ (and-left _ _ (incident s i h l))) e);
+    allRight = λ s i h l e. eqb-true _ _ (if-so _ (and-right _ _ (incident s i h l)) e);
+    cycles = cycled;
+  }

@@ -1,0 +1,11 @@
+pub mod Answer
+pub mod Map
+pub mod WellFormed
+pub mod Reach
+pub mod Scheme
+pub mod Conditions
+pub mod Orbit
+pub mod Match
+pub mod Edit
+pub mod File
+pub mod Calls

@@ -1,0 +1,36 @@
+-- What the table check tests at a slot. It stands for `wellFormed` (proofs/SlotLaws.antt), and looks at no record but that of the slot
+-- and those of its neighbours.
+-- Assumes nothing.
+use Prim.Native.Nat.{ℕ, suc, _*_, _≤_}
+use mathlib.Core.Path.{_≡_}
+use mathlib.Core.Bool.{Bool}
+use mathlib.Core.List.{List}
+use lib.ListN.{length}
+use lib.Dec.{eqb}
+use Rattle.base.specs.Test.{_and_, _or_, _⇒_}
+use Rattle.base.specs.Below.{all}
+use Rattle.model.specs.Map.{Map, tableSize, live, unused}
+use Rattle.model.specs.WellFormed.{linkOk, allPairs}
+
+-- t is a table of a number of slots that the kernel takes
+pub record Sized (slots : ℕ) (t : List ℕ) : Type 0 where
+  pub few : slots ≤ 1024
+  pub long : length t ≡ tableSize slots
+
+-- αi then αj, and αj then αi, lead from x to one dart
+unfoldable pub cornerOk : Map → ℕ → ℕ → ℕ → Bool
+cornerOk m x i j = eqb (m .link j (m .link i x)) (m .link i (m .link j x))
+
+-- y is live, and its 0-link is v
+unfoldable pub frontOk : Map → ℕ → ℕ → Bool
+frontOk m y v = live m y and eqb (m .link 0 y) v
+
+-- the i-link of x is right, and commutes with the 0-link
+unfoldable pub farOk : Map → ℕ → ℕ → Bool
+farOk m x i = linkOk m x i and cornerOk m x 0 i
+
+unfoldable pub cornersOk : ℕ → Map → ℕ → Bool
+cornersOk n m x = all (suc n) (linkOk m x) and (eqb n 2 ⇒ eqb (m .link 3 x) x) and allPairs n (cornerOk m x)
+
+unfoldable pub slotOk : ℕ → Map → ℕ → Bool
+slotOk n m x = (unused m x or live m x) and (live m x ⇒ cornersOk n m x)
