@@ -1,14 +1,14 @@
 -- Laws of the lists made from the numbers below a bound.
 -- Assumes nothing.
-use Prim.Native.Nat.{ℕ, zero, suc, _+_, _*_, _<_}
+use Prim.Native.Nat.{ℕ, zero, suc, _+_, _*_, _≤_, _<_}
 use mathlib.Core.Path.{_≡_, refl, sym, ap, ap₂, _∙_, subst}
 use mathlib.Core.Logic.{⊎-elim}
-use mathlib.Core.List.{List, _++_}
+use mathlib.Core.List.{List, [], _∷_, _++_}
 use native.Mathlib.Nat.{not-suc-le-zero, le-of-suc-le-suc, add-zero, zero-add, suc-add, add-suc, mul-zero, mul-suc, mul-le-mul-left, lt-of-lt-of-le}
 use native.Mathlib.Numerals.{add-one}
 use native.Mathlib.Omega.{arith}
-use lib.ListN.{length, getD, length-append, List·getD-append}
-use lib.Seq.{getD-append-add}
+use lib.ListN.{length, getD, take, set, replicate, length-append, List·getD-append, replicate-append-replicate}
+use lib.Seq.{getD-append-add, take-all, take-suc-set}
 use Rattle.base.specs.Lists.{list, listFrom, joined}
 use Rattle.base.proofs.BelowLaws.{below-suc}
 
@@ -58,3 +58,16 @@ module _ {A : Type 0} where
   pub joined-step : (i : ℕ) (f : ℕ → List A) → joined (i + 1) f ≡ joined i f ++ f i
   unfolding joined
   joined-step i f = rw add-one refl
+
+-- ---- a list that is filled from its start
+
+module _ {A : Type 0} where
+  pub fill-more : (l : List A) (i : ℕ) (a : A) → i < length l → take i l ≡ replicate i a → take (i + 1) (set l i a) ≡ replicate (i + 1) a
+  fill-more l i a h e =
+      ap (λ (k : ℕ). take k (set l i a)) (add-one i) ∙ take-suc-set l i a h ∙ ap (λ (z : List A). z ++ (a ∷ [])) e ∙ replicate-append-replicate i 1 a
+
+  pub fill-done : (l l₀ : List A) (i : ℕ) (a : A) → length l ≡ length l₀ → length l₀ ≤ i → i ≤ length l₀ → take i l ≡ replicate i a
+      → l ≡ replicate (length l₀) a
+  fill-done l l₀ i a e h k f =
+      let same : i ≡ length l₀ = omega arith in
+      sym (take-all i l (omega arith)) ∙ f ∙ ap (λ (n : ℕ). replicate n a) same

@@ -12,31 +12,11 @@ use Rattle.base.specs.Below.{count}
 use Rattle.base.specs.First.{first, least, when, there}
 use Rattle.model.specs.Scheme.{Side, left, right, farEnd, orbitDim, word, arcs, arcPart, has, deleted, preserved, added}
 use Rattle.model.specs.Conditions.{absent, explicit, implicit, arcOf, arcAt, arcsOfDim, touches, far, reads, pathTo, cycleOk}
+use Rattle.model.specs.Accepted.{SingleSide}
 use Rattle.model.specs.declared.Scheme.{Scheme}
 use Rattle.base.proofs.TestLaws.{and-left, and-right, and-of, or-cases, or-left, or-right, true-or-false}
 use Rattle.base.proofs.BelowLaws.{count-none, count-zero, count-some, count-once}
 use Rattle.base.proofs.FirstLaws.{when-at, when-none, first-at, first-none, first-only, first-none-of, least-at, least-none, least-only, least-none-of}
-
--- what an accepted scheme has on a side: parts of the form and of the incidence
-pub record GoodSide (S : Scheme) (side : Side) : Type 0 where
-  pub wordDims : (s p : ℕ) → s < S .nodes → p < S .places → (word S side s p ≡ 255) ⊎ (word S side s p ≤ S .n)
-  pub arcDims : (a : ℕ) → a < arcs S side → arcPart S side a 0 ≤ S .n
-  pub arcFrom : (a : ℕ) → a < arcs S side → (arcPart S side a 1 < S .nodes) × (has S side (arcPart S side a 1) ≡ true)
-  pub arcTo : (a : ℕ) → a < arcs S side → (arcPart S side a 2 < S .nodes) × (has S side (arcPart S side a 2) ≡ true)
-  pub single : (s i : ℕ) → s < S .nodes → i ≤ S .n → arcsOfDim S side s i ≤ 1
-
--- what an accepted scheme has: parts of the form, the hook, the incidence and the cycles
-pub record Good (S : Scheme) : Type 0 where
-  pub small : S .n ≤ 3
-  pub nodesSome : 0 < S .nodes
-  pub orbitDims : (p : ℕ) → p < S .places → orbitDim S p ≤ S .n
-  pub kinds : (s : ℕ) → s < S .nodes → (deleted S s ≡ true) ⊎ ((preserved S s ≡ true) ⊎ (added S s ≡ true))
-  pub sides : (side : Side) → GoodSide S side
-  pub reach : (s : ℕ) → s < S .nodes → has S left s ≡ true → there (pathTo S s) ≡ true
-  pub same : (s i : ℕ) → s < S .nodes → i ≤ S .n → preserved S s ≡ true → arcsOfDim S left s i ≡ arcsOfDim S right s i
-  pub allLeft : (s i : ℕ) → s < S .nodes → i ≤ S .n → deleted S s ≡ true → arcsOfDim S left s i ≡ 1
-  pub allRight : (s i : ℕ) → s < S .nodes → i ≤ S .n → added S s ≡ true → arcsOfDim S right s i ≡ 1
-  pub cycles : (s i j : ℕ) → s < S .nodes → i + 2 ≤ j → j ≤ S .n → cycleOk S s i j ≡ true
 
 module _ (S : Scheme) (side : Side) where
   -- the arc found at s, seen from the arcs
@@ -98,7 +78,7 @@ module _ (S : Scheme) (side : Side) where
           let y = count-zero (S .places) (reads S side s i) (λ p k. least-none (S .places) (reads S side s i) w p k) in
           omega arith
 
-  module _ (g : GoodSide S side) where
+  module _ (g : SingleSide S side) where
     pub explicit-at : (s i a : ℕ) → s < S .nodes → a < arcs S side → i ≤ S .n → touches S side s i a ≡ true
         → arcAt S side s i ≡ explicit (far S side s a)
     unfolding arcAt farEnd arcsOfDim when
@@ -123,18 +103,18 @@ module _ (S : Scheme) (side : Side) where
         let f = explicit-from s i t e in
         let a = f .0 in
         let dim : arcPart S side a 0 ≡ i = eqb-true _ _ (and-left _ _ (f .2)) in
-        let d : i ≤ S .n = subst (λ (k : ℕ). k ≤ S .n) dim (g .arcDims a (f .1)) in
+        let d : i ≤ S .n = subst (λ (k : ℕ). k ≤ S .n) dim (g .formed .dims a (f .1)) in
         ⊎-elim
         (λ q.
         let from : arcPart S side a 1 ≡ s = eqb-true _ _ q in
         let to : arcPart S side a 2 ≡ t = sym (far-from a) ∙ ap (λ (z : ℕ). far S side z a) from ∙ f .3 in
-        let n = g .arcTo a (f .1) in
-        let back = explicit-at (arcPart S side a 2) (arcPart S side a 0) a (n .0) (f .1) (g .arcDims a (f .1)) (touches-to a) ∙ ap explicit (far-to a ∙ from) in
+        let n = g .formed .to a (f .1) in
+        let back = explicit-at (arcPart S side a 2) (arcPart S side a 0) a (n .0) (f .1) (g .formed .dims a (f .1)) (touches-to a) ∙ ap explicit (far-to a ∙ from) in
         (subst (λ (z : ℕ). z < S .nodes) to (n .0), ap (has S side) (sym to) ∙ n .1, d, ap₂ (arcAt S side) (sym to) (sym dim) ∙ back))
         (λ q.
         let to : arcPart S side a 2 ≡ s = eqb-true _ _ q in
         let from : arcPart S side a 1 ≡ t = sym (far-to a) ∙ ap (λ (z : ℕ). far S side z a) to ∙ f .3 in
-        let n = g .arcFrom a (f .1) in
-        let back = explicit-at (arcPart S side a 1) (arcPart S side a 0) a (n .0) (f .1) (g .arcDims a (f .1)) (touches-from a) ∙ ap explicit (far-from a ∙ to) in
+        let n = g .formed .from a (f .1) in
+        let back = explicit-at (arcPart S side a 1) (arcPart S side a 0) a (n .0) (f .1) (g .formed .dims a (f .1)) (touches-from a) ∙ ap explicit (far-from a ∙ to) in
         (subst (λ (z : ℕ). z < S .nodes) from (n .0), ap (has S side) (sym from) ∙ n .1, d, ap₂ (arcAt S side) (sym from) (sym dim) ∙ back))
         (or-cases _ _ (and-right _ _ (f .2)))

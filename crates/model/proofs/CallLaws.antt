@@ -22,7 +22,8 @@ use Rattle.base.proofs.TestLaws.{and-left, and-right}
 use Rattle.base.proofs.FirstLaws.{or-else-none, when-none, there-none, there-of}
 use Rattle.model.proofs.WellFormedLaws.{wellFormed-iff}
 use Rattle.model.proofs.MapLaws.{state-words, link-words}
-use Rattle.model.proofs.SchemeLaws.{accepted-good}
+use Rattle.model.proofs.SchemeLaws.{formed}
+use Rattle.model.proofs.AcceptedLaws.{small, accepted}
 use Rattle.model.proofs.MatchLaws.{match-assigns}
 use Rattle.model.proofs.MatchIff.{good-orbit}
 use Rattle.model.proofs.KeepLaws.{edit-keeps}
@@ -109,10 +110,9 @@ module _ (n N : ℕ) (t store b : List ℕ) (d : ℕ) (q : editFault n N t store
   new-map =
       let g = granted in
       let m = view N t in
-      let good = accepted-good b (g .form) (g .accepted) in
-      let well = ap (λ (k : ℕ). wellFormed k m) (g .dimension) ∙ g .well in
-      let rules = wellFormed-iff (schemeOf b .n) m .0 well in
-      let orb = good-orbit m b d (g .form) (g .accepted) well (g .slot) (g .alive) in
+      let good = accepted (schemeOf b) (formed b (g .form)) (g .accepted) in
+      let rules = wellFormed-iff (schemeOf b .n) m .0 (ap (λ (k : ℕ). wellFormed k m) (g .dimension) ∙ g .well) in
+      let orb = good-orbit m (schemeOf b) d good rules (g .slot) (g .alive) in
       edit-keeps m (schemeOf b) _ rules good orb (match-assigns m (schemeOf b) good _ orb rules (g .match)) (g .room)
 
   pub edit-table : editTable n N t store b d ≡ words (edited (view N t) (schemeOf b) (orbitOf n N t store b d))
@@ -124,11 +124,10 @@ module _ (n N : ℕ) (t store b : List ℕ) (d : ℕ) (q : editFault n N t store
   unfolding edited
   edit-table-well =
       let g = granted in
-      let good = accepted-good b (g .form) (g .accepted) in
       let m = edited (view N t) (schemeOf b) (orbitOf n N t store b d) in
       ap (λ (l : List ℕ). wellFormed n (view N l)) edit-table
       ∙ ap (λ (k : ℕ). wellFormed k (view N (words m))) (sym (g .dimension))
-      ∙ wellFormed-iff (schemeOf b .n) (view N (words m)) .1 (words-well (schemeOf b .n) m (good .small) new-map)
+      ∙ wellFormed-iff (schemeOf b .n) (view N (words m)) .1 (words-well (schemeOf b .n) m (small (schemeOf b) (formed b (g .form))) new-map)
 
 -- an edit that is refused leaves the table as it was
 pub refused-table : (n N : ℕ) (t store b : List ℕ) (d : ℕ) (a : Answer) → editFault n N t store b d ≡ some a → editTable n N t store b d ≡ t

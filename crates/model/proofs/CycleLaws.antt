@@ -8,9 +8,10 @@ use native.Mathlib.Omega.{arith}
 use borrow.Author.Tests.{eqb-true, eq-eqb, leb-true, le-leb}
 use Rattle.model.specs.Scheme.{Side}
 use Rattle.model.specs.Conditions.{Arc, absent, explicit, implicit, arcAt, sameArc, atEnd, atPlaces, fourArcs, oneArc, noArc, onCycle, Cycle, four, oneI, oneJ, apart}
+use Rattle.model.specs.Accepted.{SingleSide}
 use Rattle.model.specs.declared.Scheme.{Scheme}
 use Rattle.base.proofs.TestLaws.{or-cases, or-left, or-right}
-use Rattle.model.proofs.ArcLaws.{GoodSide, explicit-end}
+use Rattle.model.proofs.ArcLaws.{explicit-end}
 
 end-at : (c : Arc) (p : ℕ → Bool) → atEnd c p ≡ true → (t : ℕ) × (c ≡ explicit t) × (p t ≡ true)
 end-at absent p e = absurd (false≢true e)
@@ -97,7 +98,7 @@ not-absent′ a b = let z : _≡_ {A = ℕ} 0 1 = cc in omega arith
 same-end : {c : Arc} {t u : ℕ} → c ≡ explicit t → c ≡ explicit u → t ≡ u
 same-end a b = cc
 
-module _ (S : Scheme) (side : Side) (g : GoodSide S side) (i j s r : ℕ) where
+module _ (S : Scheme) (side : Side) (g : SingleSide S side) (i j s r : ℕ) where
   back-of : (s i t : ℕ) → arcAt S side s i ≡ explicit t → arcAt S side t i ≡ explicit s
   back-of s i t e = explicit-end S side g s i t e .3
 
@@ -122,7 +123,7 @@ module _ (S : Scheme) (side : Side) (g : GoodSide S side) (i j s r : ℕ) where
   pass-j e (apart a b c) = absurd (clash (back-of s j r e) b)
 
 -- a node that lacks one of the two dimensions is on no cycle
-module _ (S : Scheme) (side : Side) (g : GoodSide S side) (s i j : ℕ) where
+module _ (S : Scheme) (side : Side) (g : SingleSide S side) (s i j : ℕ) where
   pub none-i : arcAt S side s i ≡ absent → Cycle S side s i j → ⊥
   none-i e (four a b c d) = not-absent a e
   none-i e (oneI a b c) = not-absent a e

@@ -16,11 +16,13 @@ use Rattle.model.specs.Scheme.{left, right, kind, orbitDim, has, deleted
 use Rattle.model.specs.Conditions.{Arc, absent, explicit, implicit, arcAt, onCycle, cycleOk, Cycle, four, oneI, oneJ, apart, sameArc}
 use Rattle.model.specs.Match.{image, arcHolds, Assignment}
 use Rattle.model.specs.Edit.{Pair, addedDarts, dartOf, pairOf, edited}
+use Rattle.model.specs.Accepted.{Accepted}
 use Rattle.model.specs.declared.Scheme.{Scheme}
 use Rattle.base.proofs.TestLaws.{and-left, and-right, or-cases, or-left, or-right, if-so, true-or-false}
 use Rattle.base.proofs.FirstLaws.{some-not-none}
-use Rattle.model.proofs.ArcLaws.{Good, explicit-end, implicit-from, absent-of, absent-from}
+use Rattle.model.proofs.ArcLaws.{explicit-end, implicit-from, absent-of, absent-from}
 use Rattle.model.proofs.CycleLaws.{cycle-at, cycle-of, same-arc, not-absent, not-absent′, pass-i, pass-j, none-i, none-j}
+use Rattle.model.proofs.AcceptedLaws.{kind-cases}
 use Rattle.model.proofs.MatchLaws.{GoodOrbit, arc-of}
 use Rattle.model.proofs.EditLaws as E
 
@@ -51,10 +53,10 @@ module _ (S : Scheme) (s : ℕ) where
   preserved-not-added : preserved S s ≡ true → added S s ≡ false
   preserved-not-added e = kind-not 2 3 (λ q. omega arith) e
 
-module _ (m : Map) (S : Scheme) (O : ℕ → Bool) (w : WellFormed (S .n) m) (g : Good S) (o : GoodOrbit m S O)
+module _ (m : Map) (S : Scheme) (O : ℕ → Bool) (w : WellFormed (S .n) m) (g : Accepted S) (o : GoodOrbit m S O)
     (A : Assignment m S O (image m S)) (room : addedDarts m S O ≤ count (m .slots) (unused m)) where
   left-or-added : (s : ℕ) → s < S .nodes → (has S left s ≡ true) ⊎ (added S s ≡ true)
-  left-or-added s h = ⊎-elim (λ e. inl (or-left _ e)) (⊎-elim (λ e. inl (or-right _ e)) (λ e. inr e)) (g .kinds s h)
+  left-or-added s h = ⊎-elim (λ e. inl (or-left _ e)) (⊎-elim (λ e. inl (or-right _ e)) (λ e. inr e)) (kind-cases S (g .formed) s h)
 
   abbrev D : ℕ → ℕ → ℕ
   D u s = dartOf m S O u s
@@ -169,7 +171,7 @@ module _ (m : Map) (S : Scheme) (O : ℕ → Bool) (w : WellFormed (S .n) m) (g 
           ⊎-elim
           (λ d. absurd (one-not-zero (sym (ap (new .state) (q .2) ∙ l) ∙ E.state-deleted m S O (o .slot) left-or-added A room (p .dart) (p .node) (q .0) (q .1) d)))
           (λ r. livePair (p .dart) (p .node) (q .0) (q .1) (⊎-elim (λ k. or-left _ k) (λ k. or-right _ k) r) (sym (q .2)))
-          (g .kinds (p .node) (q .1))
+          (kind-cases S (g .formed) (p .node) (q .1))
 
   new-state : (u s : ℕ) → O u ≡ true → s < S .nodes → has S right s ≡ true → new .state (D u s) ≡ 1
   new-state u s e h r = E.state-pair m S O (o .slot) left-or-added A room u s e h (right-stays S s r)
@@ -217,7 +219,7 @@ module _ (m : Map) (S : Scheme) (O : ℕ → Bool) (w : WellFormed (S .n) m) (g 
 
   -- a link of the orbit type leads back
   orbit-back : (u p : ℕ) → O u ≡ true → p < S .places → m .link (orbitDim S p) (m .link (orbitDim S p) u) ≡ u
-  orbit-back u p e b = w .back u (o .slot u e) (o .alive u e) (orbitDim S p) (g .orbitDims p b)
+  orbit-back u p e b = w .back u (o .slot u e) (o .alive u e) (orbitDim S p) (g .formed .orbitDims p b)
 
   step-pair : (u s i : ℕ) → O u ≡ true → s < S .nodes → has S right s ≡ true → i ≤ S .n → (c : Arc) → arcAt S right s i ≡ c → Step i (D u s)
   step-pair u s i e h r k absent a = step-loose i (D u s) k (right-loose u s i e h r k a)
@@ -248,7 +250,7 @@ module _ (m : Map) (S : Scheme) (O : ℕ → Bool) (w : WellFormed (S .n) m) (g 
   no-third s h n (implicit p) a =
       let x = implicit-from S right s 3 p a in
       let third = x .1 in
-      ⊎-elim (λ z. absurd (omega arith)) (λ z. absurd (omega arith)) (g .sides right .wordDims s p h (x .0))
+      ⊎-elim (λ z. absurd (omega arith)) (λ z. absurd (omega arith)) (g .sides right .formed .words s p h (x .0))
 
   flat-of : (x : ℕ) → S .n ≡ 2 → Live x → new .link 3 x ≡ x
   flat-of x n (liveOther p h l) = E.link-other m S O (o .slot) left-or-added A room 3 x p ∙ w .flat n x h l
@@ -274,7 +276,7 @@ module _ (m : Map) (S : Scheme) (O : ℕ → Bool) (w : WellFormed (S .n) m) (g 
     orbit-square : (u p q : ℕ) → O u ≡ true → p < S .places → q < S .places
         → (orbitDim S p + 2 ≤ orbitDim S q) ⊎ (orbitDim S q + 2 ≤ orbitDim S p)
         → m .link (orbitDim S q) (m .link (orbitDim S p) (m .link (orbitDim S q) (m .link (orbitDim S p) u))) ≡ u
-    orbit-square u p q e a b (inl l) = w .square u (o .slot u e) (o .alive u e) (orbitDim S p) (orbitDim S q) l (g .orbitDims q b)
+    orbit-square u p q e a b (inl l) = w .square u (o .slot u e) (o .alive u e) (orbitDim S p) (orbitDim S q) l (g .formed .orbitDims q b)
     orbit-square u p q e a b (inr l) =
         let P : ℕ → ℕ = m .link (orbitDim S p) in
         let Q : ℕ → ℕ = m .link (orbitDim S q) in
@@ -283,7 +285,7 @@ module _ (m : Map) (S : Scheme) (O : ℕ → Bool) (w : WellFormed (S .n) m) (g 
         let e3 = o .link (Q (P u)) p e2 a in
         let e4 = o .link (P (Q (P u))) q e3 b in
         sym (orbit-back (Q (P (Q (P u)))) p e4 a)
-        ∙ ap P (w .square (P u) (o .slot (P u) e1) (o .alive (P u) e1) (orbitDim S q) (orbitDim S p) l (g .orbitDims p a))
+        ∙ ap P (w .square (P u) (o .slot (P u) e1) (o .alive (P u) e1) (orbitDim S q) (orbitDim S p) l (g .formed .orbitDims p a))
         ∙ orbit-back u p e a
 
     cycle-square : (u s : ℕ) → O u ≡ true → s < S .nodes → has S right s ≡ true → Cycle S right s i j → Square (D u s)
@@ -420,7 +422,7 @@ module _ (m : Map) (S : Scheme) (O : ℕ → Bool) (w : WellFormed (S .n) m) (g 
           ⊎-elim
           (λ d. inl (ap (new .state) (sym (q .2)) ∙ E.state-deleted m S O (o .slot) left-or-added A room (p .dart) (p .node) (q .0) (q .1) d))
           (λ d. inr (ap (new .state) (sym (q .2)) ∙ new-state (p .dart) (p .node) (q .0) (q .1) (⊎-elim (λ k. or-left _ k) (λ k. or-right _ k) d)))
-          (g .kinds (p .node) (q .1))
+          (kind-cases S (g .formed) (p .node) (q .1))
 
   same-slots : new .slots ≡ m .slots
   unfolding edited

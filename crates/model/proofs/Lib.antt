@@ -8,6 +8,7 @@ pub mod ArcLaws
 pub mod CycleLaws
 pub mod MatchLaws
 pub mod SchemeLaws
+pub mod AcceptedLaws
 pub mod MatchIff
 pub mod MapLaws
 pub mod EditLaws

@@ -1,26 +1,23 @@
--- What the value of bytes in the form has is what the bytes say; and an accepted scheme is one that the laws of the match speak of.
+-- What the value of bytes in the form has is what the bytes say.
 -- Assumes nothing.
 use Prim.Native.Nat.{ℕ, _+_, _*_, _/_, _%_, _≤_, _<_}
 use mathlib.Core.Path.{_≡_, refl, sym, ap, ap₂, _∙_, subst}
 use mathlib.Core.Logic.{_⊎_, inl, inr, ⊎-elim}
-use mathlib.Core.Bool.{true, not, cond, true≢false}
-use mathlib.Core.Option.{Option, none, some, Option·getD}
+use mathlib.Core.Bool.{true, cond}
+use mathlib.Core.Option.{Option, Option·getD}
 use mathlib.Core.List.{List}
 use native.Mathlib.Omega.{arith}
 use lib.ListN.{getD}
-use lib.Dec.{eqb, leb}
-use borrow.Author.Tests.{eqb-false, eq-eqb, le-leb, eqb-true, ltb-true, leb-true, lt-ltb, not-false}
-use Rattle.base.specs.Test.{_and_, _or_, _⇒_}
-use Rattle.base.specs.First.{there, when}
-use Rattle.model.specs.Scheme.{deleted, preserved, added, Side, left, right, onSide, byte, placesOf, nodesOf, kindAt, wordAt, arcCount, arcByte, orbitForm, wordForm, nodeForm, arcForm, arcsForm, inForm, upTo, farEnd, wordsOf, arcsOf, targetsOf, schemeOf, kind, orbitDim, word, target, arcs, arcPart, has}
-use Rattle.model.specs.Conditions.{arcsOfDim, pathTo, hookFault, incidenceOk, incidenceFault, cycleFault, cycleOk, schemeFault, noted}
-use Rattle.model.specs.declared.Answer.{Answer}
-use Rattle.model.specs.declared.Answer.the-variants.{BadHook, BadIncidence}
-use Rattle.base.proofs.TestLaws.{if-so, and-left, and-right, or-cases, true-or-false, and-of}
+use lib.Dec.{eqb}
+use borrow.Author.Tests.{eqb-true, ltb-true, leb-true, lt-ltb}
+use Rattle.base.specs.Test.{_and_, _or_}
+use Rattle.base.specs.First.{when}
+use Rattle.base.proofs.TestLaws.{and-left, and-right, or-cases}
 use Rattle.base.proofs.BelowLaws.{all-at}
-use Rattle.base.proofs.FirstLaws.{when-none, first-none, first-same, or-else-none, least-none, some-not-none}
+use Rattle.base.proofs.FirstLaws.{first-same}
 use Rattle.base.proofs.ListLaws.{getD-list}
-use Rattle.model.proofs.ArcLaws.{Good, GoodSide}
+use Rattle.model.specs.Scheme.{Side, left, right, onSide, byte, placesOf, nodesOf, kindAt, wordAt, arcCount, arcByte, orbitForm, wordForm, nodeForm, arcForm, arcsForm, inForm, upTo, farEnd, wordsOf, arcsOf, targetsOf, schemeOf, kind, orbitDim, word, target, arcs, arcPart, has}
+use Rattle.model.specs.Formed.{Formed, FormedSide}
 
 up-to : (bound x v filling : ℕ) → x < bound → upTo bound x v filling ≡ v
 up-to bound x v filling h = rw (lt-ltb x bound h) refl
@@ -183,91 +180,35 @@ module _ (b : List ℕ) (q : inForm b ≡ true) where
       let bound = ltb-true _ _ (and-right _ _ (and-left _ _ (and-left _ _ f))) in
       subst (End side) (sym (value-arc side a 2 h (omega arith))) (on-side side _ bound (and-right _ _ f))
 
--- ---- accepted schemes
-
-noted-none : (f : ℕ → Answer) (o : Option ℕ) → noted f o ≡ none → o ≡ none
-noted-none f none e = refl
-noted-none f (some s) e = absurd (some-not-none {o = some (f s)} {a = f s} refl e)
-
-one-of-three : (k : ℕ) → 1 ≤ k → k ≤ 3 → (eqb k 1 ≡ true) ⊎ ((eqb k 2 ≡ true) ⊎ (eqb k 3 ≡ true))
-one-of-three k l h = ⊎-elim (λ e. inl e)
-    (λ e. inr (⊎-elim (λ f. inl f)
-    (λ f. inr (let a = eqb-false k 1 e in let c = eqb-false k 2 f in eq-eqb k 3 (omega arith)))
-    (true-or-false (eqb k 2))))
-    (true-or-false (eqb k 1))
-
-module _ (b : List ℕ) (q : inForm b ≡ true) (r : schemeFault (schemeOf b) ≡ none) where
-  no-hook : hookFault (schemeOf b) ≡ none
-  unfolding schemeFault
-  no-hook = noted-none BadHook _ (or-else-none _ _ r .0)
-
-  no-incidence : incidenceFault (schemeOf b) ≡ none
-  unfolding schemeFault
-  no-incidence = noted-none BadIncidence _ (or-else-none _ _ (or-else-none _ _ r .1) .0)
-
-  reached : (s : ℕ) → s < nodesOf b → has (schemeOf b) left s ≡ true → there (pathTo (schemeOf b) s) ≡ true
-  unfolding hookFault schemeOf
-  reached s h l = ⊎-elim (λ e. e)
-      (λ e. absurd (true≢false (sym (and-of l (ap not e)) ∙ least-none _ _ (or-else-none _ _ no-hook .1) s h)))
-      (true-or-false (there (pathTo (schemeOf b) s)))
-
-  incident : (s i : ℕ) → s < nodesOf b → i ≤ byte b 0
-      → (leb (arcsOfDim (schemeOf b) left s i) 1 and leb (arcsOfDim (schemeOf b) right s i) 1
-      and (preserved (schemeOf b) s ⇒ eqb (arcsOfDim (schemeOf b) left s i) (arcsOfDim (schemeOf b) right s i))
-      and (deleted (schemeOf b) s ⇒ eqb (arcsOfDim (schemeOf b) left s i) 1)
-      and (added (schemeOf b) s ⇒ eqb (arcsOfDim (schemeOf b) right s i) 1)) ≡ true
-  unfolding incidenceFault incidenceOk schemeOf
-  incident s i h l = all-at _ _ (not-false _ (least-none _ _ no-incidence s h)) i (omega arith)
-
-  no-cycle : cycleFault (schemeOf b) ≡ none
-  unfolding schemeFault
-  no-cycle = or-else-none _ _ (or-else-none _ _ r .1) .1
-
-  cycled : (s i j : ℕ) → s < nodesOf b → i + 2 ≤ j → j ≤ byte b 0 → cycleOk (schemeOf b) s i j ≡ true
-  unfolding cycleFault schemeOf
-  cycled s i j h ij jn =
-      ⊎-elim (λ e. e)
-      (λ e.
-      let f = when-none _ _ (first-none _ _ (first-none _ _ (first-none _ _ no-cycle s h) i (omega arith)) j (omega arith)) in
-      absurd (true≢false (sym (and-of (le-leb (i + 2) j ij) (ap not e)) ∙ f)))
-      (true-or-false (cycleOk (schemeOf b) s i j))
-
-  sided : (side : Side) → GoodSide (schemeOf b) side
-  unfolding schemeOf
-  sided left = record {
-    wordDims = word-dim b q left;
-    arcDims = arc-dim b q left;
-    arcFrom = arc-from b q left;
-    arcTo = arc-to b q left;
-    single = λ s i h l. leb-true _ _ (and-left _ _ (and-left _ _ (and-left _ _ (and-left _ _ (incident s i h l)))));
-  }
-  sided right = record {
-    wordDims = word-dim b q right;
-    arcDims = arc-dim b q right;
-    arcFrom = arc-from b q right;
-    arcTo = arc-to b q right;
-    single = λ s i h l. leb-true _ _ (and-right _ _ (and-left _ _ (and-left _ _ (and-left _ _ (incident s i h l)))));
-  }
-
-  kind-of : (s : ℕ) → s < nodesOf b → (deleted (schemeOf b) s ≡ true) ⊎ ((preserved (schemeOf b) s ≡ true) ⊎ (added (schemeOf b) s ≡ true))
+  pub kind-range : (s : ℕ) → s < nodesOf b → (1 ≤ kind (schemeOf b) s) × (kind (schemeOf b) s ≤ 3)
   unfolding nodeForm
-  kind-of s h =
-      let f = and-left _ _ (and-left _ _ (and-left _ _ (and-left _ _ (form-node b q s h)))) in
-      let low = leb-true 1 (kindAt b s) (and-left _ _ f) in
-      let high = leb-true (kindAt b s) 3 (and-right _ _ f) in
-      subst (λ (k : ℕ). (eqb k 1 ≡ true) ⊎ ((eqb k 2 ≡ true) ⊎ (eqb k 3 ≡ true))) (sym (value-kind b q s h)) (one-of-three (kindAt b s) low high)
+  kind-range s h =
+      let f = and-left _ _ (and-left _ _ (and-left _ _ (and-left _ _ (form-node s h)))) in
+      rw (value-kind s h) (leb-true 1 _ (and-left _ _ f), leb-true _ 3 (and-right _ _ f))
 
-  pub accepted-good : Good (schemeOf b)
+  formed-side : (side : Side) (few : arcs (schemeOf b) side ≡ arcCount b side) → FormedSide (schemeOf b) side
   unfolding schemeOf
-  accepted-good = record {
-    small = small b q;
-    nodesSome = nodes-some b q;
-    orbitDims = orbit-dim b q;
-    kinds = kind-of;
-    sides = sided;
-    reach = reached;
-    same = λ s i h l e. eqb-true _ _ (if-so _ (and-right _ _ (and-left _ _ (and-left _ _ (incident s i h l)))) e);
-    allLeft = λ s i h l e. eqb-true _ _ (if-so _ (and-right _ _ (and-left _ _ (incident s i h l))) e);
-    allRight = λ s i h l e. eqb-true _ _ (if-so _ (and-right _ _ (incident s i h l)) e);
-    cycles = cycled;
+  formed-side side same = record {
+    words = word-dim side;
+    few = rw same (arcs-few side);
+    dims = λ a h. arc-dim side a (rw same at h);
+    from = λ a h. arc-from side a (rw same at h);
+    to = λ a h. arc-to side a (rw same at h);
+    targets = value-target side;
   }
+
+  pub formed : Formed (schemeOf b)
+  unfolding schemeOf
+  formed = record {
+    dimension = form-n;
+    placesFew = places-few;
+    orbitDims = orbit-dim;
+    nodesSome = nodes-some;
+    nodesFew = nodes-few;
+    kinds = kind-range;
+    sides = λ side. formed-side side (count-is side);
+  }
+    where
+      count-is : (side : Side) → arcs (schemeOf b) side ≡ arcCount b side
+      count-is left = refl
+      count-is right = refl

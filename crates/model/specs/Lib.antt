@@ -3,7 +3,9 @@ pub mod Map
 pub mod WellFormed
 pub mod Reach
 pub mod Scheme
+pub mod Formed
 pub mod Conditions
+pub mod Accepted
 pub mod Orbit
 pub mod Match
 pub mod Edit

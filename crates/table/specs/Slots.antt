@@ -1,21 +1,13 @@
 -- What the table check tests at a slot. It stands for `wellFormed` (proofs/SlotLaws.antt), and looks at no record but that of the slot
 -- and those of its neighbours.
 -- Assumes nothing.
-use Prim.Native.Nat.{ℕ, suc, _*_, _≤_}
-use mathlib.Core.Path.{_≡_}
+use Prim.Native.Nat.{ℕ, suc}
 use mathlib.Core.Bool.{Bool}
-use mathlib.Core.List.{List}
-use lib.ListN.{length}
 use lib.Dec.{eqb}
 use Rattle.base.specs.Test.{_and_, _or_, _⇒_}
 use Rattle.base.specs.Below.{all}
-use Rattle.model.specs.Map.{Map, tableSize, live, unused}
+use Rattle.model.specs.Map.{Map, live, unused}
 use Rattle.model.specs.WellFormed.{linkOk, allPairs}
-
--- t is a table of a number of slots that the kernel takes
-pub record Sized (slots : ℕ) (t : List ℕ) : Type 0 where
-  pub few : slots ≤ 1024
-  pub long : length t ≡ tableSize slots
 
 -- αi then αj, and αj then αi, lead from x to one dart
 unfoldable pub cornerOk : Map → ℕ → ℕ → ℕ → Bool

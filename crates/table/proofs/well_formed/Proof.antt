@@ -15,10 +15,6 @@ use Rattle.table.specs.Slots.{slotOk}
 use Rattle.table.proofs.SlotLaws.{stops, passes, slot-unused, slot-bad, slot-live}
 use Rattle.table.proofs.well_formed.Statement.{statement}
 use Rattle.table.proofs.well_formed.Tie as tie
-use Rattle.table.proofs.well_formed.Reads as reads
-use Rattle.table.proofs.well_formed.Lts as lts
-use Rattle.table.proofs.dart.Reads as dart-reads
-use Rattle.table.proofs.state.Reads as state-reads
 
 abbrev Inv-loop : tie.InvT-loop
 Inv-loop n slots table x₀ x = (x ≤ slots) × (all x (slotOk n (view slots table)) ≡ true)
@@ -26,41 +22,33 @@ Inv-loop n slots table x₀ x = (x ≤ slots) × (all x (slotOk n (view slots ta
 abbrev μ-loop : tie.MeasureT-loop
 μ-loop n slots table x₀ x = slots - x
 
--- src/lib.rt:102:5
 loop-holds : tie.Need-loop-holds Inv-loop μ-loop
 unfolding all
 loop-holds c = (omega arith, refl)
 
--- src/lib.rt:103:13
 state-requires : tie.Need-state-requires Inv-loop μ-loop
 state-requires c κs = search needs
 
--- src/lib.rt:106:17
 returns : tie.Need-returns Inv-loop μ-loop
 returns c =
     let l = c .before .before in
     stops _ _ _ (l .before .loop-test .taken) (slot-bad _ _ _ _ (l .state .ensures) (c .before .if1 .taken) (c .if2 .taken))
 
--- src/lib.rt:108:17
 dart-requires : tie.Need-dart-requires Inv-loop μ-loop
 dart-requires c κs = search needs
 
--- src/lib.rt:109:17
 returns-2 : tie.Need-returns-2 Inv-loop μ-loop
 returns-2 c =
     let l = c .before .before .before .before in
     stops _ _ _ (l .before .loop-test .taken)
     (slot-live _ _ _ _ (l .state .ensures) _ (c .before .before .if2 .left) (c .before .dart .ensures) ∙ not-true _ (c .if3 .taken))
 
--- src/lib.rt:112:9
 add-x : tie.Need-add-x Inv-loop μ-loop
 add-x c = omega arith
 
--- src/lib.rt:102:5
 loop-less : tie.Need-loop-less Inv-loop μ-loop
 loop-less c = omega arith
 
--- src/lib.rt:102:5
 loop-again : tie.Need-loop-again Inv-loop μ-loop
 loop-again c =
     let l = c .before in (
@@ -72,7 +60,6 @@ loop-again c =
           (c .if1 .came)),
     )
 
--- src/lib.rt:96:1
 returns-3 : tie.Need-returns-3 Inv-loop μ-loop
 returns-3 c = passes _ _ _ (c .before .loop .inv .1) (c .loop-test .left)
 
