@@ -8,13 +8,14 @@ use native.Mathlib.Omega.{arith}
 use lib.Dec.{eqb, leb}
 use borrow.Author.Tests.{eqb-true, eqb-false, eq-eqb, ne-eqb, ltb-true, lt-ltb, le-ltb, leb-true, le-leb, not-true, not-false}
 use Rattle.base.specs.Test.{_and_, _or_, _⇒_}
-use Rattle.base.specs.Below.{all}
+use Rattle.base.specs.Below.{all, count}
 use Rattle.model.specs.Map.{Map, live, unused}
 use Rattle.model.specs.WellFormed.{WellFormed, wellFormed, linkOk, allPairs}
 use Rattle.base.proofs.TestLaws.{and-left, and-right, and-of, or-cases, or-left, or-right, if-so, if-of, true-or-false}
-use Rattle.base.proofs.BelowLaws.{all-at, all-of}
+use Rattle.base.proofs.BelowLaws.{all-at, all-of, all-step, count-le, count-step}
 use Rattle.model.proofs.WellFormedLaws.{wellFormed-iff}
-use Rattle.table.specs.Slots.{cornerOk, frontOk, farOk, cornersOk, slotOk}
+use Rattle.table.specs.Slots.{cornerOk, frontOk, farOk, cornersOk, slotOk, surveyed}
+use Rattle.table.specs.declared.Finding.the-variants.{Live, Broken}
 
 -- ---- a link, test by test
 
@@ -224,8 +225,21 @@ module _ (n : ℕ) (m : Map) (s : (x : ℕ) → x < m .slots → slotOk n m x �
 
 -- ---- the pass
 
+-- the slots below x are right, and k darts of them are live
+pub record Passed (n : ℕ) (m : Map) (x k : ℕ) : Type 0 where
+  pub fits : x ≤ m .slots
+  pub right : all x (slotOk n m) ≡ true
+  pub counted : k ≡ count x (live m)
+
+pub pass-none : (n : ℕ) (m : Map) → Passed n m 0 0
+unfolding all count
+pass-none n m = record { fits = omega arith; right = refl; counted = refl }
+
+pub pass-few : (n : ℕ) (m : Map) (x k : ℕ) → Passed n m x k → k ≤ x
+pass-few n m x k p = rw (p .counted) (count-le x (live m))
+
 module _ (n : ℕ) (m : Map) (x s : ℕ) (e : s ≡ m .state x) where
-  pub slot-unused : s ≡ 0 → slotOk n m x ≡ true
+  slot-unused : s ≡ 0 → slotOk n m x ≡ true
   unfolding slotOk _and_ _or_ _⇒_
   slot-unused h = rw (← e, h)
 
@@ -237,9 +251,32 @@ module _ (n : ℕ) (m : Map) (x s : ℕ) (e : s ≡ m .state x) where
   unfolding slotOk _and_ _or_ _⇒_
   slot-live r h q = rw (← e, h, ← q)
 
--- it may stop where a slot is wrong
-pub stops : (n : ℕ) (m : Map) (x : ℕ) → x < m .slots → slotOk n m x ≡ false → false ≡ wellFormed n m
-stops n m x h e = ⊎-elim (λ w. absurd (true≢false (sym (slot-formed n m (wellFormed-iff n m .0 w) x h) ∙ e))) (λ w. sym w) (true-or-false (wellFormed n m))
+  module _ (k : ℕ) (p : Passed n m x k) (b : x < m .slots) where
+    pub pass-unused : s ≡ 0 → Passed n m (x + 1) k
+    pass-unused h = record {
+      fits = omega arith;
+      right = all-step x (slotOk n m) ∙ and-of (p .right) (slot-unused h);
+      counted = rw (count-step x (live m), ← e, h, ← p .counted) (omega arith);
+    }
 
-pub passes : (n : ℕ) (m : Map) (x : ℕ) → all x (slotOk n m) ≡ true → m .slots ≤ x → true ≡ wellFormed n m
-passes n m x e h = sym (wellFormed-iff n m .1 (slots-formed n m (λ k l. all-at x (slotOk n m) e k (omega arith))))
+    pub pass-live : (r : Bool) → s ≡ 1 → r ≡ cornersOk n m x → r ≡ true → Passed n m (x + 1) (k + 1)
+    pass-live r h q t = record {
+      fits = omega arith;
+      right = all-step x (slotOk n m) ∙ and-of (p .right) (slot-live r h q ∙ t);
+      counted = rw (count-step x (live m), ← e, h, ← p .counted) refl;
+    }
+
+-- it may stop where a slot is wrong
+pub stops : (n : ℕ) (m : Map) (x : ℕ) → x < m .slots → slotOk n m x ≡ false → Broken ≡ surveyed n m
+unfolding surveyed
+stops n m x h e = ⊎-elim
+    (λ w. absurd (true≢false (sym (slot-formed n m (wellFormed-iff n m .0 w) x h) ∙ e)))
+    (λ w. rw w refl)
+    (true-or-false (wellFormed n m))
+
+pub passes : (n : ℕ) (m : Map) (x k : ℕ) → Passed n m x k → m .slots ≤ x → Live k ≡ surveyed n m
+unfolding surveyed
+passes n m x k p h =
+    let same : x ≡ m .slots = omega (arith, p .fits) in
+    let well = wellFormed-iff n m .1 (slots-formed n m (λ y b. all-at x (slotOk n m) (p .right) y (omega arith))) in
+    rw (well, p .counted, same) refl

@@ -2,12 +2,14 @@
 -- and those of its neighbours.
 -- Assumes nothing.
 use Prim.Native.Nat.{ℕ, suc}
-use mathlib.Core.Bool.{Bool}
+use mathlib.Core.Bool.{Bool, cond}
 use lib.Dec.{eqb}
 use Rattle.base.specs.Test.{_and_, _or_, _⇒_}
-use Rattle.base.specs.Below.{all}
+use Rattle.base.specs.Below.{all, count}
 use Rattle.model.specs.Map.{Map, live, unused}
-use Rattle.model.specs.WellFormed.{linkOk, allPairs}
+use Rattle.model.specs.WellFormed.{linkOk, allPairs, wellFormed}
+use Rattle.table.specs.declared.Finding.{Finding}
+use Rattle.table.specs.declared.Finding.the-variants.{Live, Broken}
 
 -- αi then αj, and αj then αi, lead from x to one dart
 unfoldable pub cornerOk : Map → ℕ → ℕ → ℕ → Bool
@@ -26,3 +28,7 @@ cornersOk n m x = all (suc n) (linkOk m x) and (eqb n 2 ⇒ eqb (m .link 3 x) x)
 
 unfoldable pub slotOk : ℕ → Map → ℕ → Bool
 slotOk n m x = (unused m x or live m x) and (live m x ⇒ cornersOk n m x)
+
+-- what the survey of a map finds
+unfoldable pub surveyed : ℕ → Map → Finding
+surveyed n m = cond (wellFormed n m) (Live (count (m .slots) (live m))) Broken

@@ -1,30 +1,24 @@
--- `table::well_formed` meets its contract. The loop's invariant: the slots below x are right.
+-- `table::survey` meets its contract. The loop's invariant: the slots below x are right, and their live darts are counted.
 -- Assumes nothing.
-use Prim.Native.Nat.{_-_, _≤_, _<_}
-use mathlib.Core.Path.{_≡_, refl, sym, _∙_}
-use mathlib.Core.Bool.{true}
+use Prim.Native.Nat.{_-_}
+use mathlib.Core.Path.{_∙_}
 use mathlib.Core.Logic.{⊎-elim}
 use native.Mathlib.Omega.{arith}
 use borrow.Author.Needs.{needs}
 use borrow.Author.Tests.{not-true, not-false}
-use Rattle.base.specs.Below.{all}
 use Rattle.model.specs.Map.{view}
-use Rattle.base.proofs.TestLaws.{and-of}
-use Rattle.base.proofs.BelowLaws.{all-step}
-use Rattle.table.specs.Slots.{slotOk}
-use Rattle.table.proofs.SlotLaws.{stops, passes, slot-unused, slot-bad, slot-live}
-use Rattle.table.proofs.well_formed.Statement.{statement}
-use Rattle.table.proofs.well_formed.Tie as tie
+use Rattle.table.proofs.SlotLaws.{Passed, pass-none, pass-few, pass-unused, pass-live, slot-bad, slot-live, stops, passes}
+use Rattle.table.proofs.survey.Statement.{statement}
+use Rattle.table.proofs.survey.Tie as tie
 
 abbrev Inv-loop : tie.InvT-loop
-Inv-loop n slots table x₀ x = (x ≤ slots) × (all x (slotOk n (view slots table)) ≡ true)
+Inv-loop n slots table live₀ x₀ live x = Passed n (view slots table) x live
 
 abbrev μ-loop : tie.MeasureT-loop
-μ-loop n slots table x₀ x = slots - x
+μ-loop n slots table live₀ x₀ live x = slots - x
 
 loop-holds : tie.Need-loop-holds Inv-loop μ-loop
-unfolding all
-loop-holds c = (omega arith, refl)
+loop-holds c = pass-none _ _
 
 state-requires : tie.Need-state-requires Inv-loop μ-loop
 state-requires c κs = search needs
@@ -43,6 +37,9 @@ returns-2 c =
     stops _ _ _ (l .before .loop-test .taken)
     (slot-live _ _ _ _ (l .state .ensures) _ (c .before .before .if2 .left) (c .before .dart .ensures) ∙ not-true _ (c .if3 .taken))
 
+add-live : tie.Need-add-live Inv-loop μ-loop
+add-live c = let l = c .before .before .before .before .before .before in omega (arith, pass-few _ _ _ _ (l .loop .inv))
+
 add-x : tie.Need-add-x Inv-loop μ-loop
 add-x c = omega arith
 
@@ -51,20 +48,19 @@ loop-less c = omega arith
 
 loop-again : tie.Need-loop-again Inv-loop μ-loop
 loop-again c =
-    let l = c .before in (
-      omega arith,
-      all-step _ _ ∙ and-of (l .before .before .loop .inv .1)
-          (⊎-elim
-          (λ w. slot-live _ _ _ _ (l .state .ensures) _ (w .1 .left) (w .2 .ensures) ∙ not-false _ (w .3 .left))
-          (λ w. slot-unused _ _ _ _ (l .state .ensures) (w .left))
-          (c .if1 .came)),
-    )
+    let l = c .before in
+    let inv = l .before .before .loop .inv in
+    let b = l .before .loop-test .taken in
+    ⊎-elim
+    (λ w. rw (w .4) (pass-live _ _ _ _ (l .state .ensures) _ inv b _ (w .1 .left) (w .2 .ensures) (not-false _ (w .3 .left))))
+    (λ w. rw (w .1) (pass-unused _ _ _ _ (l .state .ensures) _ inv b (w .0 .left)))
+    (c .if1 .came)
 
 returns-3 : tie.Need-returns-3 Inv-loop μ-loop
-returns-3 c = passes _ _ _ (c .before .loop .inv .1) (c .loop-test .left)
+returns-3 c = passes _ _ _ _ (c .before .loop .inv) (c .loop-test .left)
 
-pub well-formed-spec : {M : Type 1} → statement M
-well-formed-spec =
+pub survey-spec : {M : Type 1} → statement M
+survey-spec =
     tie.close
     (tie.spec
     Inv-loop
@@ -74,6 +70,7 @@ well-formed-spec =
     returns
     dart-requires
     returns-2
+    add-live
     add-x
     loop-less
     loop-again
