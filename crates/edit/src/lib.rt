@@ -1,0 +1,1 @@
+// Applying a scheme at a dart.
