@@ -15,7 +15,7 @@ fn refused(number: u32, node: u32, i: u32, j: u32) -> u64
         + (j as u64) * 16777216
 }
 
-pub fn pack(a: Answer) -> u64
+pub(crate) fn pack(a: Answer) -> u64
     requires { ⌜ Small a ⌝ }
     ensures { λ r. ⌜ r ≡ packed a ⌝ }
 {
