@@ -1,0 +1,110 @@
+-- The bench program: what it prints for what stands on its standard input.
+-- Assumes nothing.
+use Prim.Native.Nat.{ℕ, zero, suc, _+_, _*_, _/_, _%_}
+use mathlib.Core.Bool.{Bool, cond}
+use mathlib.Core.List.{List, [], _∷_, _++_}
+use lib.ListN.{length, getD, take, drop, replicate}
+use lib.Dec.{eqb, ltb, leb}
+use Rattle.base.specs.Test.{_and_}
+use Rattle.base.specs.Below.{count}
+use Rattle.base.specs.Lists.{joined}
+use Rattle.model.specs.Answer.{number, values}
+use Rattle.model.specs.Map.{view, tableSize, live, unused}
+use Rattle.model.specs.File.{twoAt}
+use Rattle.model.specs.Calls.{editAnswer, editTable, readAnswer, readTable}
+use Rattle.model.specs.declared.Answer.{Answer}
+
+-- ---- lines
+
+-- a number in decimal, with the fewest digits; `most` is how many there may be
+unfoldable pub spelled : ℕ → ℕ → List ℕ
+spelled zero v = []
+spelled (suc most) v = cond (ltb v 10) ((48 + v) ∷ []) (spelled most (v / 10) ++ ((48 + v % 10) ∷ []))
+
+unfoldable pub decimal : ℕ → List ℕ
+decimal v = spelled 20 v
+
+abbrev pub space : List ℕ
+space = 32 ∷ []
+
+abbrev pub lineFeed : List ℕ
+lineFeed = 10 ∷ []
+
+-- the words live, unused and refused
+abbrev pub liveWord : List ℕ
+liveWord = 108 ∷ 105 ∷ 118 ∷ 101 ∷ []
+
+abbrev pub unusedWord : List ℕ
+unusedWord = 117 ∷ 110 ∷ 117 ∷ 115 ∷ 101 ∷ 100 ∷ []
+
+abbrev pub refusedWord : List ℕ
+refusedWord = 114 ∷ 101 ∷ 102 ∷ 117 ∷ 115 ∷ 101 ∷ 100 ∷ []
+
+-- value f of an edit that is done; 0 on refusal
+abbrev pub shown : Answer → ℕ → ℕ
+shown a f = cond (eqb (number a) 0) (getD (values a) f 0) 0
+
+-- dart, answer number, size of O, added, deleted
+unfoldable pub dartLine : ℕ → Answer → List ℕ
+dartLine d a = decimal d ++ space ++ decimal (number a) ++ space ++ decimal (shown a 0) ++ space ++ decimal (shown a 1) ++ space ++ decimal (shown a 2) ++ lineFeed
+
+unfoldable pub lastLine : ℕ → ℕ → List ℕ
+lastLine lives rest = liveWord ++ space ++ decimal lives ++ space ++ unusedWord ++ space ++ decimal rest ++ lineFeed
+
+unfoldable pub refusedLine : ℕ → List ℕ
+refusedLine k = refusedWord ++ space ++ decimal k ++ lineFeed
+
+-- ---- the input: map file, scheme and dart list, each after a two-byte count
+
+module _ (b : List ℕ) where
+  abbrev pub mapLength : ℕ
+  mapLength = twoAt 0 0 b 0
+
+  abbrev pub schemeLength : ℕ
+  schemeLength = twoAt 0 0 b (2 + mapLength)
+
+  abbrev pub dartCount : ℕ
+  dartCount = twoAt 0 0 b (4 + mapLength + schemeLength)
+
+  unfoldable pub mapBytes : List ℕ
+  mapBytes = take mapLength (drop 2 b)
+
+  unfoldable pub schemeBytes : List ℕ
+  schemeBytes = take schemeLength (drop (4 + mapLength) b)
+
+  unfoldable pub dartAt : ℕ → ℕ
+  dartAt k = twoAt 0 0 b (6 + mapLength + schemeLength + 2 * k)
+
+  -- the counts are within their limits, and nothing is missing or left over
+  unfoldable pub framed : Bool
+  framed = leb mapLength 14345 and leb schemeLength 537 and leb dartCount 1024
+      and eqb (length b) (6 + mapLength + schemeLength + 2 * dartCount)
+
+  -- ---- the run
+
+  -- n and N as the map file has them
+  unfoldable pub mapDimension : ℕ
+  mapDimension = getD mapBytes 0 0
+
+  unfoldable pub mapSlots : ℕ
+  mapSlots = twoAt 0 0 mapBytes 1
+
+  unfoldable pub mapAnswer : Answer
+  mapAnswer = readAnswer mapDimension mapSlots (replicate (tableSize mapSlots) 0) mapBytes
+
+  -- the table after the first k edits
+  unfoldable pub tableAfter : ℕ → List ℕ
+  tableAfter zero = readTable mapDimension mapSlots (replicate (tableSize mapSlots) 0) mapBytes
+  tableAfter (suc k) = editTable mapDimension mapSlots (tableAfter k) (replicate (16 * mapSlots) 0) schemeBytes (dartAt k)
+
+  unfoldable pub answerAt : ℕ → Answer
+  answerAt k = editAnswer mapDimension mapSlots (tableAfter k) (replicate (16 * mapSlots) 0) schemeBytes (dartAt k)
+
+  unfoldable pub runLines : List ℕ
+  runLines = joined dartCount (λ k. dartLine (dartAt k) (answerAt k))
+      ++ lastLine (count mapSlots (live (view mapSlots (tableAfter dartCount)))) (count mapSlots (unused (view mapSlots (tableAfter dartCount))))
+
+  unfoldable pub printed : List ℕ
+  printed = cond (framed and leb 3 mapLength)
+      (cond (eqb (number mapAnswer) 0) runLines (refusedLine (number mapAnswer)))
+      (refusedLine 11)
