@@ -1,0 +1,29 @@
+-- What each call promises: its answer, and the final content of every buffer that it may change, for all inputs.
+-- r is the answer, and t′, store′, out′ are what table, store and output hold afterwards.
+-- The promises are the calls' `ensures`; any two outcomes that one of them allows are equal (proofs/OneOutcome.antt).
+-- Assumes nothing.
+use Prim.Native.Nat.{ℕ}
+use mathlib.Core.Path.{_≡_}
+use mathlib.Core.List.{List}
+use Rattle.model.specs.Answer.{Answers}
+use Rattle.model.specs.Calls.{checkTable, checkScheme, editAnswer, editTable, editStore, readAnswer, readTable, writeAnswer, writeOut}
+use Rattle.model.specs.declared.Answer.{Answer}
+
+pub record TableChecked (n N : ℕ) (t : List ℕ) (r : Answer) : Type 0 where
+  pub answer : Answers r (checkTable n N t)
+
+pub record SchemeChecked (b : List ℕ) (r : Answer) : Type 0 where
+  pub answer : Answers r (checkScheme b)
+
+pub record MapEdited (n N : ℕ) (t store b : List ℕ) (d : ℕ) (r : Answer) (t′ store′ : List ℕ) : Type 0 where
+  pub answer : Answers r (editAnswer n N t store b d)
+  pub table : t′ ≡ editTable n N t store b d
+  pub cleared : store′ ≡ editStore n N t store b d
+
+pub record FileRead (n N : ℕ) (t b : List ℕ) (r : Answer) (t′ : List ℕ) : Type 0 where
+  pub answer : Answers r (readAnswer n N t b)
+  pub table : t′ ≡ readTable n N t b
+
+pub record FileWritten (n N : ℕ) (t out : List ℕ) (r : Answer) (out′ : List ℕ) : Type 0 where
+  pub answer : Answers r (writeAnswer n N t out)
+  pub output : out′ ≡ writeOut n N t out
