@@ -1,25 +1,27 @@
 -- A scheme in the form that has no fault has what `Accepted` says.
 -- Assumes nothing.
-use Prim.Native.Nat.{ℕ, _+_, _≤_, _<_}
-use mathlib.Core.Path.{_≡_, refl, sym, ap, _∙_}
-use mathlib.Core.Logic.{_⊎_, inl, inr, ⊎-elim}
-use mathlib.Core.Bool.{true, not, true≢false}
+use Prim.Native.Nat.{ℕ, suc, _+_, _≤_, _<_}
+use mathlib.Core.Path.{_≡_, refl, sym, ap, _∙_, subst}
+use mathlib.Core.Logic.{_⊎_, inl, inr, ⊎-elim, _↔_}
+use mathlib.Core.Bool.{Bool, true, false, not, cond, true≢false}
 use mathlib.Core.Option.{Option, none, some}
 use native.Mathlib.Omega.{arith}
 use lib.Dec.{eqb, leb}
 use borrow.Author.Tests.{eqb-true, eqb-false, eq-eqb, leb-true, le-leb, not-false}
 use Rattle.base.specs.Test.{_and_, _⇒_}
-use Rattle.base.specs.First.{there}
-use Rattle.base.proofs.TestLaws.{and-left, and-right, and-of, if-so, true-or-false}
-use Rattle.base.proofs.BelowLaws.{all-at}
-use Rattle.base.proofs.FirstLaws.{some-not-none, when-none, or-else-none, first-none, least-none}
+use Rattle.base.specs.First.{when, _orElse_, there}
+use Rattle.base.proofs.TestLaws.{and-left, and-right, and-of, if-so, if-of, true-or-false}
+use Rattle.base.proofs.BelowLaws.{all-at, all-of}
+use Rattle.base.proofs.FirstLaws.{some-not-none, when-none, or-else-none, first-none, first-none-of, least-none, least-none-of}
 use Rattle.model.specs.Scheme.{Side, left, right, kind, orbitDim, word, has, deleted, preserved, added}
 use Rattle.model.specs.Formed.{Formed}
-use Rattle.model.specs.Conditions.{arcsOfDim, pathTo, hookRight, hookFault, incidenceOk, incidenceFault, cycleOk, cycleFault, schemeFault, noted}
+use Rattle.model.specs.Conditions.{arcAt, arcsOfDim, sameArc, onCycle, Cycle, pathTo, hookRight, hookFault, incidenceOk, incidenceFault, cycleOk, cycleFault, schemeFault, noted}
 use Rattle.model.specs.Accepted.{Accepted, SingleSide}
 use Rattle.model.specs.declared.Scheme.{Scheme}
+use Rattle.model.proofs.CycleLaws.{cycle-at, cycle-of, same-arc, arc-same}
+use Rattle.model.proofs.HookLaws.{found-reached, reached-found}
 use Rattle.model.specs.declared.Answer.{Answer}
-use Rattle.model.specs.declared.Answer.the-variants.{BadHook, BadIncidence}
+use Rattle.model.specs.declared.Answer.the-variants.{BadHook, BadIncidence, BadCycle}
 
 noted-none : (f : ℕ → Answer) (o : Option ℕ) → noted f o ≡ none → o ≡ none
 noted-none f none e = refl
@@ -31,6 +33,15 @@ one-of-three k l h = ⊎-elim (λ e. inl e)
     (λ f. inr (let a = eqb-false k 1 e in let c = eqb-false k 2 f in eq-eqb k 3 (omega arith)))
     (true-or-false (eqb k 2))))
     (true-or-false (eqb k 1))
+
+-- what is asked of a preserved node that is on a left cycle, or on none
+abbrev keptOk : Scheme → ℕ → ℕ → ℕ → Bool → Bool
+keptOk S s i j c = cond c (onCycle S right s i j) (sameArc (arcAt S left s i) (arcAt S right s i) and sameArc (arcAt S left s j) (arcAt S right s j))
+
+not-both : (a b : Bool) → (a ≡ true → b ≡ true) → (a and not b) ≡ false
+unfolding _and_
+not-both true b f = ap not (f refl)
+not-both false b f = refl
 
 module _ (S : Scheme) (f : Formed S) where
   pub small : S .n ≤ 3
@@ -87,6 +98,24 @@ module _ (S : Scheme) (f : Formed S) where
         absurd (true≢false (sym (and-of (le-leb (i + 2) j ij) (ap not e)) ∙ g)))
         (true-or-false (cycleOk S s i j))
 
+    module _ (s i j : ℕ) (h : s < S .nodes) (ij : i + 2 ≤ j) (jn : j ≤ S .n) where
+      added-cycle : added S s ≡ true → Cycle S right s i j
+      unfolding cycleOk
+      added-cycle e = cycle-at S right s i j (if-so _ (and-left _ _ (cycled s i j h ij jn)) e)
+
+      kept-ok : preserved S s ≡ true → keptOk S s i j (onCycle S left s i j) ≡ true
+      unfolding cycleOk
+      kept-ok e = if-so _ (and-right _ _ (cycled s i j h ij jn)) e
+
+      kept-cycle : preserved S s ≡ true → Cycle S left s i j → Cycle S right s i j
+      kept-cycle e c = cycle-at S right s i j (subst (λ (b : Bool). keptOk S s i j b ≡ true) (cycle-of S left s i j c) (kept-ok e))
+
+      kept-arcs : preserved S s ≡ true → (Cycle S left s i j → ⊥) → (arcAt S left s i ≡ arcAt S right s i) × (arcAt S left s j ≡ arcAt S right s j)
+      kept-arcs e c = ⊎-elim
+          (λ t. absurd (c (cycle-at S left s i j t)))
+          (λ t. let both = subst (λ (b : Bool). keptOk S s i j b ≡ true) t (kept-ok e) in (same-arc _ _ (and-left _ _ both), same-arc _ _ (and-right _ _ both)))
+          (true-or-false (onCycle S left s i j))
+
     side-of : (side : Side) → SingleSide S side
     side-of left = record {
       formed = f .sides left;
@@ -102,10 +131,53 @@ module _ (S : Scheme) (f : Formed S) where
       formed = f;
       hookKind = hook-kind;
       hookWord = hook-word;
-      reach = reached;
+      reach = λ s h l. found-reached S f s h (reached s h l);
       sides = side-of;
       same = λ s i h l e. eqb-true _ _ (if-so _ (and-right _ _ (and-left _ _ (and-left _ _ (incident s i h l)))) e);
       allLeft = λ s i h l e. eqb-true _ _ (if-so _ (and-right _ _ (and-left _ _ (incident s i h l))) e);
       allRight = λ s i h l e. eqb-true _ _ (if-so _ (and-right _ _ (incident s i h l)) e);
-      cycles = cycled;
+      addedCycle = added-cycle;
+      keptCycle = kept-cycle;
+      keptArcs = kept-arcs;
     }
+
+-- ---- and the other way: an accepted scheme has no fault
+
+module _ (S : Scheme) (a : Accepted S) where
+  hook-none : hookFault S ≡ none
+  unfolding hookFault hookRight when _orElse_
+  hook-none =
+      let right-hook : hookRight S ≡ true = and-of (a .hookKind) (all-of (S .places) _ (λ p h. eq-eqb _ _ (a .hookWord p h))) in
+      rw right-hook (least-none-of (S .nodes) _ (λ s h. not-both (has S left s) (there (pathTo S s)) (λ l. reached-found S (a .formed) (a .reach s h l))))
+
+  incidence-none : incidenceFault S ≡ none
+  unfolding incidenceFault incidenceOk
+  incidence-none = least-none-of (S .nodes) _ (λ s h. ap not (all-of _ _ (λ i l. let k : i ≤ S .n = omega arith in
+      and-of (and-of (and-of (and-of
+      (le-leb _ _ (a .sides left .single s i h k)) (le-leb _ _ (a .sides right .single s i h k)))
+      (if-of _ (λ e. eq-eqb _ _ (a .same s i h k e)))) (if-of _ (λ e. eq-eqb _ _ (a .allLeft s i h k e)))) (if-of _ (λ e. eq-eqb _ _ (a .allRight s i h k e))))))
+
+  module _ (s i j : ℕ) (h : s < S .nodes) (ij : i + 2 ≤ j) (jn : j ≤ S .n) where
+    kept-true : preserved S s ≡ true → keptOk S s i j (onCycle S left s i j) ≡ true
+    kept-true e = ⊎-elim
+        (λ t. subst (λ (c : Bool). keptOk S s i j c ≡ true) (sym t) (cycle-of S right s i j (a .keptCycle s i j h ij jn e (cycle-at S left s i j t))))
+        (λ t.
+        let arcs = a .keptArcs s i j h ij jn e (λ c. true≢false (sym (cycle-of S left s i j c) ∙ t)) in
+        subst (λ (c : Bool). keptOk S s i j c ≡ true) (sym t) (and-of (arc-same (arcs .0)) (arc-same (arcs .1))))
+        (true-or-false (onCycle S left s i j))
+
+    cycle-true : cycleOk S s i j ≡ true
+    unfolding cycleOk
+    cycle-true = and-of (if-of _ (λ e. cycle-of S right s i j (a .addedCycle s i j h ij jn e))) (if-of _ kept-true)
+
+  cycle-none : cycleFault S ≡ none
+  unfolding cycleFault when
+  cycle-none = first-none-of (S .nodes) _ (λ s h. first-none-of (suc (S .n)) _ (λ i k. first-none-of (suc (S .n)) _ (λ j l.
+      ap (λ (c : Bool). when c (BadCycle s i j)) (not-both (leb (i + 2) j) (cycleOk S s i j) (λ e. cycle-true s i j h (leb-true _ _ e) (omega arith))))))
+
+  pub no-fault : schemeFault S ≡ none
+  unfolding schemeFault _orElse_
+  no-fault = rw (hook-none, incidence-none) cycle-none
+
+pub accepted-iff : (S : Scheme) → Formed S → (schemeFault S ≡ none) ↔ Accepted S
+accepted-iff S f = (accepted S f, no-fault S)

@@ -42,6 +42,14 @@ same-arc (implicit o) absent e = absurd (false≢true e)
 same-arc (implicit o) (explicit t) e = absurd (false≢true e)
 same-arc (implicit o) (implicit p) e = ap implicit (eqb-true o p e)
 
+own-arc : (c : Arc) → sameArc c c ≡ true
+own-arc absent = refl
+own-arc (explicit t) = eq-eqb t t refl
+own-arc (implicit p) = eq-eqb p p refl
+
+pub arc-same : {c d : Arc} → c ≡ d → sameArc c d ≡ true
+arc-same {c} e = ap (sameArc c) (sym e) ∙ own-arc c
+
 module _ (S : Scheme) (side : Side) (s i j : ℕ) where
   from-four : fourArcs S side s i j ≡ true → Cycle S side s i j
   unfolding fourArcs

@@ -348,19 +348,12 @@ module _ (m : Map) (S : Scheme) (O : ℕ → Bool) (w : WellFormed (S .n) m) (g 
 
     -- a preserved node on no left cycle has the same arcs on both sides
     same-arcs : (s k : ℕ) → One k → s < S .nodes → preserved S s ≡ true → (Cycle S left s i j → ⊥) → arcAt S left s k ≡ arcAt S right s k
-    unfolding cycleOk
     same-arcs s k y h z c =
-        let both = if-so (preserved S s) (and-right _ _ (g .cycles s i j h ij jn)) z in
+        let arcs = g .keptArcs s i j h ij jn z c in
         ⊎-elim
-        (λ t. absurd (c (cycle-at S left s i j t)))
-        (λ t.
-        let arcs = subst (λ (b : Bool). cond b (onCycle S right s i j)
-        (sameArc (arcAt S left s i) (arcAt S right s i) and sameArc (arcAt S left s j) (arcAt S right s j)) ≡ true) t both in
-        ⊎-elim
-        (λ e. ap (arcAt S left s) e ∙ same-arc _ _ (and-left _ _ arcs) ∙ ap (arcAt S right s) (sym e))
-        (λ e. ap (arcAt S left s) e ∙ same-arc _ _ (and-right _ _ arcs) ∙ ap (arcAt S right s) (sym e))
-        y)
-        (true-or-false (onCycle S left s i j))
+        (λ e. ap (arcAt S left s) e ∙ arcs .0 ∙ ap (arcAt S right s) (sym e))
+        (λ e. ap (arcAt S left s) e ∙ arcs .1 ∙ ap (arcAt S right s) (sym e))
+        y
 
     plain-loose : (k x : ℕ) → One k → Loose k x → (new .link k x ≡ m .link k x) × Plain (m .link k x)
     plain-loose k x y z = (new-loose k x (in-range y) z .0, loose-plain k (m .link k x) y (loose-link k x (in-range y) z))
@@ -397,17 +390,13 @@ module _ (m : Map) (S : Scheme) (O : ℕ → Bool) (w : WellFormed (S .n) m) (g 
         chain (new .link i) (new .link j) (a .0) (b .0) (c .0) (e .0) ∙ w .square x (d .0) (d .1) i j ij jn
 
     square-of : (x : ℕ) → Live x → Square x
-    unfolding cycleOk
     square-of x (liveOther p h l) = plain-square x (plainOther p h l)
     square-of x (livePair u s e h r q) = subst Square (sym q) (⊎-elim
         (λ z. ⊎-elim
-        (λ t. cycle-square u s e h r (cycle-at S right s i j
-        (subst (λ (b : Bool). cond b (onCycle S right s i j)
-        (sameArc (arcAt S left s i) (arcAt S right s i) and sameArc (arcAt S left s j) (arcAt S right s j)) ≡ true) t
-        (if-so (preserved S s) (and-right _ _ (g .cycles s i j h ij jn)) z))))
+        (λ t. cycle-square u s e h r (g .keptCycle s i j h ij jn z (cycle-at S left s i j t)))
         (λ t. plain-square (D u s) (plainKept u s e h z (λ c. true≢false (sym (cycle-of S left s i j c) ∙ t)) refl))
         (true-or-false (onCycle S left s i j)))
-        (λ z. cycle-square u s e h r (cycle-at S right s i j (if-so (added S s) (and-left _ _ (g .cycles s i j h ij jn)) z)))
+        (λ z. cycle-square u s e h r (g .addedCycle s i j h ij jn z))
         (or-cases _ _ r))
 
   -- ---- the theorem

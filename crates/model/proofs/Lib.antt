@@ -5,6 +5,7 @@ pub mod AnswerLaws
 pub mod ReachLaws
 pub mod OrbitLaws
 pub mod ArcLaws
+pub mod HookLaws
 pub mod CycleLaws
 pub mod MatchLaws
 pub mod SchemeLaws

@@ -24,7 +24,8 @@ use Rattle.base.proofs.BelowLaws.{all-at, all-of}
 use Rattle.base.proofs.FirstLaws.{when-at, there-at, first-at}
 use Rattle.model.proofs.ArcLaws.{explicit-at, implicit-at, explicit-from, implicit-from, far-from, far-to, touches-from, touches-to}
 use Rattle.model.proofs.AcceptedLaws.{small}
-use Rattle.model.proofs.ReachLaws.{path-leads, path-start}
+use Rattle.model.proofs.ReachLaws.{path-start}
+use Rattle.model.proofs.HookLaws.{Path, arc-between, found-path, reached-found}
 
 -- what the match needs of an orbit: its darts are live, and it is closed under the links of the orbit type
 pub record GoodOrbit (m : Map) (S : Scheme) (O : ℕ → Bool) : Type 0 where
@@ -40,30 +41,8 @@ walk-more m [] i x = refl
 walk-more m (j ∷ p) i x = walk-more m p i (m .link j x)
 
 module _ (m : Map) (S : Scheme) (g : Accepted S) where
-  -- a left arc between s and t
-  arcBetween : (s t i : ℕ) → leftArc S s t ≡ some i → (a : ℕ) × (a < arcs S left) × (arcPart S left a 0 ≡ i)
-      × (((arcPart S left a 1 ≡ s) × (arcPart S left a 2 ≡ t)) ⊎ ((arcPart S left a 1 ≡ t) × (arcPart S left a 2 ≡ s)))
-  unfolding leftArc
-  arcBetween s t i e =
-      let f = first-at (arcs S left) _ i e in
-      let w = when-at _ (f .2) in (
-        f .0,
-        f .1,
-        w .1,
-        ⊎-elim
-            (λ q. inl (eqb-true _ _ (and-left _ _ q), eqb-true _ _ (and-right _ _ q)))
-            (λ q. inr (eqb-true _ _ (and-left _ _ q), eqb-true _ _ (and-right _ _ q)))
-            (or-cases _ _ (w .0)),
-      )
-
-  abbrev Path : List ℕ → ℕ → Type 0
-  Path = Leads (S .nodes) (λ t. eqb t 0) (leftArc S)
-
-  pathLeads : (s : ℕ) → s < S .nodes → has S left s ≡ true → (p : List ℕ) × (pathTo S s ≡ some p) × Path p s
-  unfolding pathTo
-  pathLeads s h l =
-      let f = there-at (pathTo S s) (g .reach s h l) in
-      (f .0, f .1, path-leads (S .nodes) (λ t. eqb t 0) (leftArc S) s (f .0) h (f .1))
+  pathLeads : (s : ℕ) → s < S .nodes → has S left s ≡ true → (p : List ℕ) × (pathTo S s ≡ some p) × Path S p s
+  pathLeads s h l = found-path S (g .formed) s h (reached-found S (g .formed) (g .reach s h l))
 
   image-zero : (u : ℕ) → image m S u 0 ≡ u
   unfolding image pathTo walk
@@ -89,12 +68,12 @@ module _ (m : Map) (S : Scheme) (g : Accepted S) where
     -- ---- a match is an assignment
 
     module _ (w : WellFormed (S .n) m) where
-      walk-dart : (u : ℕ) → O u ≡ true → {p : List ℕ} {s : ℕ} → Path p s → (walk m p u < m .slots) × (m .state (walk m p u) ≡ 1)
+      walk-dart : (u : ℕ) → O u ≡ true → {p : List ℕ} {s : ℕ} → Path S p s → (walk m p u < m .slots) × (m .state (walk m p u) ≡ 1)
       unfolding walk
       walk-dart u e (here h z) = (o .slot u e, o .alive u e)
       walk-dart u e (step {p} {x} {y} {i} l h j) =
           let r = walk-dart u e l in
-          let a = arcBetween x y i j in
+          let a = arc-between S x y i j in
           let d : i ≤ S .n = subst (λ (k : ℕ). k ≤ S .n) (a .2) (gl .formed .dims (a .0) (a .1)) in (
             subst (λ (x : ℕ). x < m .slots) (sym (walk-more m p i u)) (w .below (walk m p u) (r .0) (r .1) i d),
             ap (m .state) (walk-more m p i u) ∙ w .alive (walk m p u) (r .0) (r .1) i d,
@@ -147,11 +126,11 @@ module _ (m : Map) (S : Scheme) (g : Accepted S) where
     -- ---- an assignment is the match
 
     module _ (f : ℕ → ℕ → ℕ) (A : Assignment m S O f) where
-      walk-is : (u : ℕ) → O u ≡ true → {p : List ℕ} {s : ℕ} → Path p s → walk m p u ≡ f u s
+      walk-is : (u : ℕ) → O u ≡ true → {p : List ℕ} {s : ℕ} → Path S p s → walk m p u ≡ f u s
       unfolding walk
       walk-is u e (here {y} h z) = sym (A .hook u (o .slot u e) e) ∙ ap (f u) (sym (eqb-true y 0 z))
       walk-is u e (step {p} {x} {y} {i} l h j) =
-          let a = arcBetween x y i j in
+          let a = arc-between S x y i j in
           let x-arc = A .explicitArc u (o .slot u e) e (a .0) (a .1) in
           walk-more m p i u ∙ ap (m .link i) (walk-is u e l)
           ∙ ⊎-elim
