@@ -1,1 +1,2 @@
 // Applying a scheme at a dart.
+mod store;

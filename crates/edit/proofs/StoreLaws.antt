@@ -1,0 +1,176 @@
+-- What stands in the store after one word of it was set, after a slot took a place, and after all marks were cleared.
+-- Assumes nothing.
+use Prim.Native.Nat.{ℕ, _+_, _*_, _-_, _≤_, _<_}
+use mathlib.Core.Path.{_≡_, refl, sym, ap, _∙_}
+use mathlib.Core.Logic.{_≢_, by-cases}
+use mathlib.Core.Bool.{Bool, true, false, true≢false}
+use mathlib.Core.List.{List}
+use native.Mathlib.Decide.{ℕ-discrete}
+use native.Mathlib.Omega.{arith}
+use lib.Dec.{ltb, leb}
+use lib.ListN.{length, getD, set, drop, replicate, length-set, length-append, length-replicate, length-drop, getD-replicate, List·getD-append}
+use lib.Seq.{getD-set-same, getD-set-other}
+use borrow.Author.Tests.{lt-ltb, le-ltb, le-leb, ltb-true, leb-true}
+use Rattle.base.specs.Below.{count}
+use Rattle.base.specs.Test.{_and_}
+use Rattle.base.proofs.TestLaws.{and-left, and-right, and-of, same-test}
+use Rattle.base.proofs.BelowLaws.{count-one-more, count-room, count-zero}
+use Rattle.edit.specs.Store.{mark, place, next, dartAt, marked, among, Taken, Kept}
+use Rattle.edit.specs.Places.{pushed, Pushed, unmarked}
+
+-- ---- one word
+
+module _ (s : List ℕ) (i v : ℕ) where
+  pub mark-set-same : i < length s → mark (set s i v) i ≡ v
+  unfolding mark
+  mark-set-same h = getD-set-same s i v 0 h
+
+  pub mark-set-other : (x : ℕ) → x ≢ i → mark (set s i v) x ≡ mark s x
+  unfolding mark
+  mark-set-other x ne = getD-set-other s i x v 0 ne
+
+  pub place-set-other : (N e : ℕ) → N + e ≢ i → place N (set s i v) e ≡ place N s e
+  unfolding place
+  place-set-other N e ne = getD-set-other s i (N + e) v 0 ne
+
+  pub next-set-other : (N r p : ℕ) → 4 * N + 4 * r + p ≢ i → next N (set s i v) r p ≡ next N s r p
+  unfolding next
+  next-set-other N r p ne = getD-set-other s i (4 * N + 4 * r + p) v 0 ne
+
+  pub dartAt-set-other : (base r : ℕ) → base + r ≢ i → dartAt (set s i v) base r ≡ dartAt s base r
+  unfolding dartAt
+  dartAt-set-other base r ne = getD-set-other s i (base + r) v 0 ne
+
+pub place-set-same : (N : ℕ) (s : List ℕ) (e v : ℕ) → N + e < length s → place N (set s (N + e) v) e ≡ v
+unfolding place
+place-set-same N s e v h = getD-set-same s (N + e) v 0 h
+
+pub next-set-same : (N : ℕ) (s : List ℕ) (r p v : ℕ) → 4 * N + 4 * r + p < length s → next N (set s (4 * N + 4 * r + p) v) r p ≡ v
+unfolding next
+next-set-same N s r p v h = getD-set-same s (4 * N + 4 * r + p) v 0 h
+
+pub dartAt-set-same : (s : List ℕ) (base r v : ℕ) → base + r < length s → dartAt (set s (base + r) v) base r ≡ v
+unfolding dartAt
+dartAt-set-same s base r v h = getD-set-same s (base + r) v 0 h
+
+-- ---- marks
+
+module _ (s : List ℕ) (size x : ℕ) where
+  pub among-at : among s size x ≡ true → (1 ≤ mark s x) × (mark s x ≤ size)
+  unfolding among
+  among-at a = (ltb-true 0 (mark s x) (and-left _ _ a), leb-true (mark s x) size (and-right _ _ a))
+
+  pub among-of : 1 ≤ mark s x → mark s x ≤ size → among s size x ≡ true
+  unfolding among
+  among-of h k = and-of (lt-ltb 0 (mark s x) h) (le-leb (mark s x) size k)
+
+-- ---- a place more
+
+module _ (N : ℕ) (s : List ℕ) (end y : ℕ) where
+  pub length-pushed : length (pushed N s end y) ≡ length s
+  unfolding pushed
+  length-pushed = simp length-set
+
+  -- a word that is neither the mark of y nor the new place
+  pub pushed-other : (i : ℕ) → i ≢ y → i ≢ N + end → getD (pushed N s end y) i 0 ≡ getD s i 0
+  unfolding pushed
+  pushed-other i ne nf = getD-set-other (set s y (end + 1)) (N + end) i y 0 nf ∙ getD-set-other s y i (end + 1) 0 ne
+
+  pub pushed-place-other : (e : ℕ) → y < N → e ≢ end → place N (pushed N s end y) e ≡ place N s e
+  unfolding place
+  pushed-place-other e l ne = pushed-other (N + e) (λ h. absurd (omega arith)) (λ h. ne (omega arith))
+
+  pub pushed-mark-other : (x : ℕ) → x < N → x ≢ y → mark (pushed N s end y) x ≡ mark s x
+  unfolding mark
+  pushed-mark-other x l ne = pushed-other x ne (λ h. absurd (omega arith))
+
+  module _ (t : Taken N s end) (l : y < N) where
+    pub pushed-place : place N (pushed N s end y) end ≡ y
+    unfolding pushed
+    pushed-place = place-set-same N (set s y (end + 1)) end y (simp length-set (omega (arith, t .long, t .fits)))
+
+    pub pushed-mark : mark (pushed N s end y) y ≡ end + 1
+    unfolding pushed
+    pushed-mark = mark-set-other (set s y (end + 1)) (N + end) y y (λ h. absurd (omega arith)) ∙ mark-set-same s y (end + 1) (omega (arith, t .long))
+
+    module _ (fresh : mark s y ≡ 0) where
+      unmarked-y : marked s y ≡ false
+      unfolding marked
+      unmarked-y = le-ltb 0 (mark s y) (omega arith)
+
+      -- a slot without a mark leaves a place free
+      pub room : end < N
+      room = omega (arith, t .total, count-room N (marked s) y l unmarked-y)
+
+      -- y stands at no place
+      pub nowhere : (e : ℕ) → e < end → place N s e ≢ y
+      nowhere e h q = let r : mark s y ≡ e + 1 = ap (mark s) (sym q) ∙ t .back e h in absurd (omega arith)
+
+      more : count N (marked (pushed N s end y)) ≡ count N (marked s) + 1
+      unfolding marked
+      more = count-one-more N (marked s) (marked (pushed N s end y)) y l unmarked-y (lt-ltb 0 (mark (pushed N s end y) y) (omega (arith, pushed-mark)))
+          (λ x h ne. ap (ltb 0) (pushed-mark-other x h ne))
+
+      pub taken-pushed : Taken N (pushed N s end y) (end + 1)
+      taken-pushed = record {
+        long = length-pushed ∙ t .long;
+        fits = omega (arith, room);
+        slot = λ e h. by-cases (ℕ-discrete e end)
+            (λ q. rw (q, pushed-place) l)
+            (λ ne. rw (pushed-place-other e l ne) (t .slot e (omega arith)));
+        back = λ e h. by-cases (ℕ-discrete e end)
+            (λ q. rw (q, pushed-place) pushed-mark)
+            (λ ne. let h′ : e < end = omega arith in
+            ap (mark (pushed N s end y)) (pushed-place-other e l ne) ∙ pushed-mark-other (place N s e) (t .slot e h′) (nowhere e h′) ∙ t .back e h′);
+        found = λ x h m. by-cases (ℕ-discrete x y)
+            (λ q. let mx : mark (pushed N s end y) x ≡ end + 1 = rw q pushed-mark in
+            let at : mark (pushed N s end y) x - 1 ≡ end = omega arith in
+            (omega arith, ap (place N (pushed N s end y)) at ∙ pushed-place ∙ sym q))
+            (λ ne. let mx : mark (pushed N s end y) x ≡ mark s x = pushed-mark-other x h ne in
+            let f = t .found x h (omega arith) in
+            (omega (arith, f .0), ap (λ (z : ℕ). place N (pushed N s end y) (z - 1)) mx ∙ pushed-place-other (mark s x - 1) l (λ q. absurd (omega (arith, f .0))) ∙ f .1));
+        total = omega (arith, more, t .total);
+      }
+
+      -- what stood at the first places stands there
+      pub pushed-kept : (size : ℕ) → size ≤ end → Kept N s (pushed N s end y) size
+      unfolding among next
+      pushed-kept size few = record {
+        long = length-pushed;
+        places = λ r h. pushed-place-other r l (λ q. absurd (omega arith));
+        marks = λ x h. by-cases (ℕ-discrete x y)
+            (λ q. same-test _ _
+            (λ a. let mx : mark (pushed N s end y) x ≡ end + 1 = rw q pushed-mark in absurd (omega (arith, among-at _ _ _ a)))
+            (λ a. let mx : mark s x ≡ 0 = rw q fresh in absurd (omega (arith, among-at _ _ _ a))))
+            (λ ne. ap (λ (z : ℕ). ltb 0 z and leb z size) (pushed-mark-other x h ne));
+        ranks = λ x h a. pushed-mark-other x h (λ q. let z : mark s x ≡ 0 = rw q fresh in absurd (omega (arith, among-at _ _ _ a)));
+        nexts = λ r p h k. pushed-other (4 * N + 4 * r + p) (λ q. absurd (omega arith)) (λ q. absurd (omega (arith, room)));
+      }
+
+      -- the two stores of a push
+      pub push-done : {a b : List ℕ} → a ≡ set s y (end + 1) → b ≡ set a (N + end) y → Pushed N s end y b
+      unfolding pushed
+      push-done e f = let w : _ ≡ pushed N s end y = f ∙ ap (λ (z : List ℕ). set z (N + end) y) e in record { is = w; taken = rw w taken-pushed }
+
+-- ---- no marks
+
+pub length-unmarked : (N : ℕ) (s : List ℕ) → N ≤ length s → length (unmarked N s) ≡ length s
+unfolding unmarked
+length-unmarked N s h = simp (length-append, length-replicate, length-drop) (omega arith)
+
+pub unmarked-mark : (N : ℕ) (s : List ℕ) (x : ℕ) → x < N → mark (unmarked N s) x ≡ 0
+unfolding unmarked mark
+unmarked-mark N s x h =
+    List·getD-append (replicate N 0) (drop N s) 0 x (simp length-replicate h) ∙ getD-replicate N x 0 0 h
+
+-- a store without marks has no place taken
+pub taken-none : (N : ℕ) (s : List ℕ) → length s ≡ 16 * N → ((x : ℕ) → x < N → mark s x ≡ 0) → Taken N s 0
+unfolding marked
+taken-none N s e none = record {
+  long = e;
+  fits = omega arith;
+  slot = λ i h. absurd (omega arith);
+  back = λ i h. absurd (omega arith);
+  found = λ x h m. absurd (omega (arith, none x h));
+  total = count-zero N (marked s) (λ x h. le-ltb 0 (mark s x) (omega (arith, none x h)));
+}
