@@ -1,11 +1,11 @@
 -- What stands in the store after one word of it was set, after a slot took a place, and after all marks were cleared.
 -- Assumes nothing.
 use Prim.Native.Nat.{ℕ, _+_, _*_, _-_, _≤_, _<_}
-use mathlib.Core.Path.{_≡_, refl, sym, ap, _∙_}
+use mathlib.Core.Path.{_≡_, sym, ap, _∙_}
 use mathlib.Core.Logic.{_≢_, by-cases}
-use mathlib.Core.Bool.{Bool, true, false, true≢false}
+use mathlib.Core.Bool.{true, false}
 use mathlib.Core.List.{List}
-use native.Mathlib.Decide.{ℕ-discrete}
+use native.Mathlib.Decide.{ℕ-discrete, decLt}
 use native.Mathlib.Omega.{arith}
 use lib.Dec.{ltb, leb}
 use lib.ListN.{length, getD, set, drop, replicate, length-set, length-append, length-replicate, length-drop, getD-replicate, List·getD-append}
@@ -14,7 +14,7 @@ use borrow.Author.Tests.{lt-ltb, le-ltb, le-leb, ltb-true, leb-true}
 use Rattle.base.specs.Below.{count}
 use Rattle.base.specs.Test.{_and_}
 use Rattle.base.proofs.TestLaws.{and-left, and-right, and-of, same-test}
-use Rattle.base.proofs.BelowLaws.{count-one-more, count-room, count-zero}
+use Rattle.base.proofs.BelowLaws.{count-same, count-one-more, count-room, count-zero}
 use Rattle.edit.specs.Store.{mark, place, next, dartAt, marked, among, Taken, Kept}
 use Rattle.edit.specs.Places.{pushed, Pushed, unmarked}
 
@@ -63,6 +63,41 @@ module _ (s : List ℕ) (size x : ℕ) where
   pub among-of : 1 ≤ mark s x → mark s x ≤ size → among s size x ≡ true
   unfolding among
   among-of h k = and-of (lt-ltb 0 (mark s x) h) (le-leb (mark s x) size k)
+
+pub mark-le : (N : ℕ) (s : List ℕ) (end : ℕ) → Taken N s end → (x : ℕ) → x < N → mark s x ≤ end
+mark-le N s end t x l = by-cases (decLt 0 (mark s x)) (λ h. t .found x l h .0) (λ h. omega arith)
+
+-- what is marked stands among the places that are taken
+pub among-all : (N : ℕ) (s : List ℕ) (end : ℕ) → Taken N s end → (x : ℕ) → x < N → among s end x ≡ marked s x
+unfolding marked
+among-all N s end t x l = same-test _ _
+    (λ a. lt-ltb 0 (mark s x) (among-at s end x a .0))
+    (λ a. let h = ltb-true 0 (mark s x) a in among-of s end x h (t .found x l h .0))
+
+-- ---- a word behind the places
+
+module _ (N : ℕ) (s : List ℕ) (i v : ℕ) (behind : 2 * N ≤ i) where
+  pub mark-set-behind : (x : ℕ) → x < N → mark (set s i v) x ≡ mark s x
+  mark-set-behind x h = mark-set-other s i v x (λ q. absurd (omega arith))
+
+  pub place-set-behind : (e : ℕ) → e < N → place N (set s i v) e ≡ place N s e
+  place-set-behind e h = place-set-other s i v N e (λ q. absurd (omega arith))
+
+  pub taken-set-behind : (end : ℕ) → Taken N s end → Taken N (set s i v) end
+  unfolding marked
+  taken-set-behind end t =
+      let at : (e : ℕ) → e < end → place N (set s i v) e ≡ place N s e = λ e h. place-set-behind e (omega (arith, t .fits)) in
+      record {
+        long = simp length-set (t .long);
+        fits = t .fits;
+        slot = λ e h. rw (at e h) (t .slot e h);
+        back = λ e h. ap (mark (set s i v)) (at e h) ∙ mark-set-behind (place N s e) (t .slot e h) ∙ t .back e h;
+        found = λ x h m.
+            let mx : mark (set s i v) x ≡ mark s x = mark-set-behind x h in
+            let f = t .found x h (omega arith) in
+            (omega (arith, f .0), ap (λ (z : ℕ). place N (set s i v) (z - 1)) mx ∙ at (mark s x - 1) (omega (arith, f .0)) ∙ f .1);
+        total = count-same N (marked s) (marked (set s i v)) (λ x h. ap (ltb 0) (mark-set-behind x h)) ∙ t .total;
+      }
 
 -- ---- a place more
 
