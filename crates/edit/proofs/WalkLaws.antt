@@ -1,8 +1,9 @@
--- A turn of the loops of the walk, on plain values.
+-- A turn of the loops of the walk, on plain values, and what the walk found after the later phases.
 -- Assumes nothing.
 use Prim.Native.Nat.{ℕ, _+_, _*_, _-_, _≤_, _<_}
 use mathlib.Core.Path.{_≡_, refl, sym, ap, _∙_, subst}
 use mathlib.Core.Logic.{_≢_, by-cases}
+use mathlib.Core.Bool.{true}
 use mathlib.Core.List.{List}
 use native.Mathlib.Decide.{decLt}
 use native.Mathlib.Omega.{arith}
@@ -15,7 +16,7 @@ use Rattle.model.specs.Map.{Map}
 use Rattle.model.specs.WellFormed.{WellFormed}
 use Rattle.model.specs.Orbit.{orbit, InOrbit, itself, onward}
 use Rattle.model.proofs.OrbitLaws.{reached-dart, orbit-iff}
-use Rattle.edit.specs.Store.{mark, place, next, marked, among, Taken, Walked}
+use Rattle.edit.specs.Store.{mark, place, next, marked, among, Taken, Walked, Kept}
 use Rattle.edit.specs.Places.{Pushed}
 use Rattle.edit.specs.Walk.{Grown, Followed, Expanded}
 use Rattle.edit.proofs.StoreLaws.{place-set-behind, taken-set-behind, pushed-place, pushed-place-other, pushed-other, among-at, among-of, among-all}
@@ -175,3 +176,28 @@ module _ (m : Map) (k : ℕ) (dim : ℕ → ℕ) (d : ℕ) where
         counted = count-same (m .slots) (marked s) (orbit m k dim d)
             (λ x b. sym (is-orbit x b) ∙ among-all (m .slots) s tail (v .taken) x b) ∙ v .taken .total;
       }
+
+-- ---- after the walk
+
+-- a phase that keeps the orbit's places, marks and links keeps what the walk found
+pub walked-kept : (m : Map) (k : ℕ) (dim : ℕ → ℕ) (d : ℕ) (s s′ : List ℕ) (size : ℕ) → k ≤ 4 → Walked m k dim d s size → Kept (m .slots) s s′ size
+    → Walked m k dim d s′ size
+walked-kept m k dim d s s′ size few w c =
+    let N = m .slots in
+    record {
+      some = w .some;
+      fits = w .fits;
+      slot = λ r h. rw (c .places r h) (w .slot r h);
+      back = λ r h.
+          let there : among s size (place N s r) ≡ true = among-of s size (place N s r) (omega (arith, w .back r h)) (omega (arith, w .back r h)) in
+          ap (mark s′) (c .places r h) ∙ c .ranks (place N s r) (w .slot r h) there ∙ w .back r h;
+      is = λ x h. c .marks x h ∙ w .is x h;
+      found = λ x h a.
+          let there : among s size x ≡ true = sym (c .marks x h) ∙ a in
+          ap (λ (z : ℕ). place N s′ (z - 1)) (c .ranks x h there) ∙ c .places (mark s x - 1) (omega (arith, among-at s size x there)) ∙ w .found x h there;
+      links = λ r p h b.
+          let o = w .links r p h b in
+          let same : next N s′ r p ≡ next N s r p = c .nexts r p h (omega arith) in
+          (omega (arith, o .0), ap (place N s′) same ∙ c .places (next N s r p) (o .0) ∙ o .1 ∙ ap (m .link (dim p)) (sym (c .places r h)));
+      counted = w .counted;
+    }

@@ -4,11 +4,11 @@ use Prim.Native.Nat.{ℕ, _*_, _≤_, _<_}
 use mathlib.Core.Path.{_≡_}
 use mathlib.Core.Logic.{_≢_}
 use mathlib.Core.List.{List}
-use lib.ListN.{length, getD}
+use lib.ListN.{getD}
 use Rattle.model.specs.Map.{Map, view}
 use Rattle.model.specs.WellFormed.{WellFormed}
 use Rattle.table.specs.Words.{Sized}
-use Rattle.edit.specs.Store.{mark, place, next, Taken}
+use Rattle.edit.specs.Store.{place, next, Taken}
 
 -- the table is well-formed for some n, for which the first k of `dims` are dimensions
 pub record Ready (slots : ℕ) (t dims : List ℕ) (k : ℕ) : Type 0 where
@@ -18,11 +18,6 @@ pub record Ready (slots : ℕ) (t dims : List ℕ) (k : ℕ) : Type 0 where
   pub formed : WellFormed n (view slots t)
   pub few : k ≤ 4
   pub dim : (p : ℕ) → p < k → getD dims p 0 ≤ n
-
--- a store for N slots in which no slot is marked
-pub record Blank (N : ℕ) (s : List ℕ) : Type 0 where
-  pub long : length s ≡ 16 * N
-  pub none : (x : ℕ) → x < N → mark s x ≡ 0
 
 -- the first `end` places stay, and those up to `end′` are taken too
 pub record Grown (N : ℕ) (s : List ℕ) (end : ℕ) (s′ : List ℕ) (end′ : ℕ) : Type 0 where

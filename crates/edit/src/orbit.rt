@@ -9,7 +9,8 @@ ghost use Prim.Native.Nat.{_*_, _<_, _≤_};
 ghost use lib.ListN.{getD};
 ghost use Rattle.model.specs.Map.{view};
 ghost use Rattle.edit.specs.Store.{Taken, Walked, place};
-ghost use Rattle.edit.specs.Walk.{Ready, Blank, Followed, Expanded};
+ghost use Rattle.edit.specs.Places.{Blank};
+ghost use Rattle.edit.specs.Walk.{Ready, Followed, Expanded};
 
 // Slot y takes the place `end`, unless it has a place, and the word `at` becomes the place of y. It returns the new end.
 fn follow(slots: usize, store: &mut [u32], end: usize, at: usize, y: usize) -> usize

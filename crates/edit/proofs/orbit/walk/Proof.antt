@@ -5,7 +5,7 @@ use Prim.Native.Nat.{_-_}
 use native.Mathlib.Omega.{arith}
 use lib.ListN.{getD}
 use Rattle.model.specs.Map.{view}
-use Rattle.edit.proofs.StoreLaws.{taken-none}
+use Rattle.edit.proofs.StoreLaws.{blank-taken}
 use Rattle.edit.proofs.WalkLaws.{Walking, walking-first, walking-more, walking-live, walking-done}
 use Rattle.edit.proofs.orbit.walk.Statement.{statement}
 use Rattle.edit.proofs.orbit.walk.Tie as tie
@@ -23,12 +23,12 @@ push-requires : tie.Need-push-requires Inv-loop μ-loop
 push-requires c κs =
     let p = c .before .before .before .pre in
     let b = p .1 .1 in
-    (p .0 .sized .few, (taken-none _ _ (b .long) (b .none), (p .1 .0 .0, b .none _ (p .1 .0 .0))))
+    (p .0 .sized .few, (blank-taken _ _ b, (p .1 .0 .0, b .none _ (p .1 .0 .0))))
 
 loop-holds : tie.Need-loop-holds Inv-loop μ-loop
 loop-holds c =
     let p = c .before .before .before .before .before .before .pre .1 in
-    walking-first _ _ _ _ _ _ (taken-none _ _ (p .1 .long) (p .1 .none)) (p .0 .0) (c .before .before .push .ensures)
+    walking-first _ _ _ _ _ _ (blank-taken _ _ (p .1)) (p .0 .0) (c .before .before .push .ensures)
 
 expand-requires : tie.Need-expand-requires Inv-loop μ-loop
 expand-requires c κs =
