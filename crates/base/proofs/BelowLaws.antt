@@ -4,7 +4,7 @@ use Prim.Native.Nat.{ℕ, zero, suc, _+_, _≤_, _<_}
 use mathlib.Core.Path.{_≡_, refl, sym, ap, ap₂, _∙_, subst}
 use mathlib.Core.Logic.{_⊎_, inl, inr, ⊎-elim}
 use mathlib.Core.Bool.{Bool, true, false, false≢true, true≢false}
-use native.Mathlib.Nat.{not-suc-le-zero, le-of-suc-le-suc, eq-or-lt-of-le, eq-zero-or-pos}
+use native.Mathlib.Nat.{not-suc-le-zero, le-of-suc-le-suc, eq-or-lt-of-le, eq-zero-or-pos, lt-of-not-le}
 use native.Mathlib.Numerals.{add-one}
 use native.Mathlib.Omega.{arith}
 use lib.Dec.{leb, ltb}
@@ -127,6 +127,32 @@ count-zero (suc n) p f = ap₂ (λ (a : ℕ) (b : Bool). a + bit b) (count-zero 
 
 pub count-some : (n : ℕ) (p : ℕ → Bool) (k : ℕ) → k < n → p k ≡ true → 1 ≤ count n p
 count-some n p k h e = ⊎-elim (λ z. absurd (true≢false (sym e ∙ count-none n p z k h))) (λ l. l) (eq-zero-or-pos (count n p))
+
+-- tests that agree are counted equally often
+pub count-same : (n : ℕ) (p q : ℕ → Bool) → ((k : ℕ) → k < n → q k ≡ p k) → count n q ≡ count n p
+unfolding count
+count-same zero p q f = refl
+count-same (suc n) p q f = ap₂ (λ (a : ℕ) (b : Bool). a + bit b) (count-same n p q (λ k h. f k (omega arith))) (f n (omega arith))
+
+-- a test that agrees with p but at one number, which it has and p has not, is counted once more
+pub count-one-more : (n : ℕ) (p q : ℕ → Bool) (k : ℕ) → k < n → p k ≡ false → q k ≡ true
+    → ((j : ℕ) → j < n → (j ≡ k → ⊥) → q j ≡ p j) → count n q ≡ count n p + 1
+unfolding count
+count-one-more zero p q k h e g f = absurd (not-suc-le-zero h)
+count-one-more (suc n) p q k h e g f = ⊎-elim
+    (λ w. here (p n) (q n) (ap p (sym w) ∙ e) (ap q (sym w) ∙ g) (count-same n p q (λ j l. f j (omega arith) (λ u. absurd (omega arith)))))
+    (λ w. past (p n) (q n) (f n (omega arith) (λ u. absurd (omega arith))) (count-one-more n p q k w e g (λ j l. f j (omega arith))))
+    (below-suc h)
+  where
+    here : (a b : Bool) → a ≡ false → b ≡ true → count n q ≡ count n p → count n q + bit b ≡ count n p + bit a + 1
+    here a b x y l = rw (x, y) (omega arith)
+
+    past : (a b : Bool) → b ≡ a → count n q ≡ count n p + 1 → count n q + bit b ≡ count n p + bit a + 1
+    past a b x l = rw x (omega arith)
+
+-- where one number has not p, fewer are counted than there are
+pub count-room : (n : ℕ) (p : ℕ → Bool) (k : ℕ) → k < n → p k ≡ false → count n p < n
+count-room n p k h e = lt-of-not-le (λ l. true≢false (sym (count-full n p l k h) ∙ e))
 
 -- ---- a loop's step: the numbers below i + 1 are those below i, and i
 

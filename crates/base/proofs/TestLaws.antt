@@ -1,6 +1,6 @@
 -- Laws of the tests: what a joined test says of its parts.
 -- Assumes nothing.
-use mathlib.Core.Path.{_≡_, refl}
+use mathlib.Core.Path.{_≡_, refl, sym}
 use mathlib.Core.Logic.{_⊎_, inl, inr}
 use mathlib.Core.Bool.{Bool, true, false, false≢true}
 use Rattle.base.specs.Test.{_and_, _or_, _⇒_}
@@ -46,3 +46,9 @@ if-of false f = refl
 pub true-or-false : (a : Bool) → (a ≡ true) ⊎ (a ≡ false)
 true-or-false true = inl refl
 true-or-false false = inr refl
+
+-- two tests that hold together are one
+pub same-test : (a b : Bool) → (a ≡ true → b ≡ true) → (b ≡ true → a ≡ true) → a ≡ b
+same-test true b f g = sym (f refl)
+same-test false true f g = g refl
+same-test false false f g = refl

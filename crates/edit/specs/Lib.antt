@@ -1,2 +1,4 @@
 pub mod Store
+pub mod Places
+pub mod Walk
 pub mod Phases
