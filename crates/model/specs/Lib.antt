@@ -11,3 +11,4 @@ pub mod Match
 pub mod Edit
 pub mod File
 pub mod Calls
+pub mod Alike
