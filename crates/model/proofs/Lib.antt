@@ -15,3 +15,6 @@ pub mod EditLaws
 pub mod KeepLaws
 pub mod CallLaws
 pub mod AlikeLaws
+pub mod AlikeMatch
+pub mod AlikeEdit
+pub mod FileLaws
