@@ -65,7 +65,7 @@ module _ (n : ℕ) (m : Map) (small : n ≤ 3) (w : WellFormed n m) where
 
 -- ---- an edit
 
-passed : (t : Bool) (a : Answer) → when (not t) a ≡ none → t ≡ true
+pub passed : (t : Bool) (a : Answer) → when (not t) a ≡ none → t ≡ true
 passed t a e = not-false t (when-none (not t) a e)
 
 -- what has been tested of an edit that is not refused

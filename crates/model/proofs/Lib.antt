@@ -18,3 +18,6 @@ pub mod AlikeLaws
 pub mod AlikeMatch
 pub mod AlikeEdit
 pub mod FileLaws
+pub mod HoldsLaws
+pub mod AlikeCalls
+pub mod SequenceLaws

@@ -12,3 +12,4 @@ pub mod Edit
 pub mod File
 pub mod Calls
 pub mod Alike
+pub mod Sequence
