@@ -1,32 +1,26 @@
 -- Each call on two tables that hold alike well-formed maps: equal answers, equal written files, and again two such tables.
 -- Assumes nothing.
-use Prim.Native.Nat.{ℕ, _*_, _≤_, _<_}
+use Prim.Native.Nat.{ℕ, _*_, _<_}
 use mathlib.Core.Path.{_≡_, refl, sym, ap, ap₂, _∙_, subst}
-use mathlib.Core.Logic.{inl, inr, ⊎-elim, _↔_}
-use mathlib.Core.Bool.{Bool, true, false, not, cond}
+use mathlib.Core.Bool.{Bool, not, cond}
 use mathlib.Core.Option.{Option, none, some, Option·getD}
 use mathlib.Core.List.{List, [], _++_}
-use native.Mathlib.Omega.{arith}
-use lib.ListN.{length, getD, take, drop, replicate, length-replicate, getD-replicate}
-use lib.Seq.{take-append-seam}
-use lib.Dec.{eqb, ltb, leb}
-use borrow.Author.Tests.{eqb-true, eq-eqb, ne-eqb, ltb-true, leb-true}
-use Rattle.base.specs.Test.{_and_, _or_}
-use Rattle.base.specs.Below.{count}
+use lib.ListN.{length, drop, replicate}
+use lib.Dec.{eqb, ltb}
+use borrow.Author.Tests.{eqb-true, ltb-true}
+use Rattle.base.specs.Test.{_and_}
 use Rattle.base.specs.First.{when, there, _orElse_}
-use Rattle.base.proofs.TestLaws.{and-left, and-right, and-of, or-cases, and-same, true-or-false}
-use Rattle.base.proofs.FirstLaws.{or-else-none, or-else-same, getD-same, there-of, there-none}
-use Rattle.model.specs.Map.{Map, view, words, tableSize, live, unused}
+use Rattle.base.proofs.TestLaws.{and-left, and-right, and-same}
+use Rattle.base.proofs.FirstLaws.{or-else-none, or-else-same, getD-same}
+use Rattle.model.specs.Map.{Map, view, words, live}
 use Rattle.model.specs.WellFormed.{WellFormed, wellFormed}
-use Rattle.model.specs.Scheme.{inForm, schemeOf, orbitDim}
-use Rattle.model.specs.Conditions.{schemeFault}
+use Rattle.model.specs.Scheme.{schemeOf, orbitDim}
 use Rattle.model.specs.Accepted.{Accepted}
 use Rattle.model.specs.Edit.{orbitSize, addedDarts, deletedDarts, edited}
-use Rattle.model.specs.File.{file, fileForm, fileMap}
-use Rattle.model.specs.Answer.{values}
-use Rattle.model.specs.Calls.{zeros, sizesOk, tableFault, checkTable, bytesFault, roomFault, orbitOf, editFault, editAnswer, editTable, editStore, readFault, readAnswer, readTable, writeFault, writeAnswer, writeOut}
+use Rattle.model.specs.File.{file, fileMap}
+use Rattle.model.specs.Calls.{sizesOk, tableFault, checkTable, bytesFault, roomFault, orbitOf, editFault, editAnswer, editTable, editStore, readFault, readAnswer, readTable, writeFault, writeAnswer, writeOut}
 use Rattle.model.specs.Alike.{Alike}
-use Rattle.model.specs.Sequence.{Holds, AlikeTables}
+use Rattle.model.specs.Sequence.{AlikeTables, writtenFile}
 use Rattle.model.specs.declared.Scheme.{Scheme}
 use Rattle.model.specs.declared.Answer.{Answer}
 use Rattle.model.specs.declared.Answer.the-variants.{Done, Edited, Written, BadCall, BadTable, NoDart, NoMatch, NoRoom, ShortOutput}
@@ -35,8 +29,8 @@ use Rattle.model.proofs.SchemeLaws.{formed}
 use Rattle.model.proofs.AcceptedLaws.{accepted, small}
 use Rattle.model.proofs.MatchLaws.{GoodOrbit, match-assigns}
 use Rattle.model.proofs.MatchIff.{good-orbit}
-use Rattle.model.proofs.CallLaws.{Granted, passed, words-well, granted, edit-table, edit-table-well, refused-table}
-use Rattle.model.proofs.HoldsLaws.{holds-free, dimension-small, table-length, edit-holds, read-holds, written-file}
+use Rattle.model.proofs.CallLaws.{Granted, passed, granted, edit-table, refused-table}
+use Rattle.model.proofs.HoldsLaws.{holds-free, dimension-small, table-length, edit-holds, store-zero, read-holds, written-file}
 use Rattle.model.proofs.AlikeLaws.{alike-refl, alike-sym, alike-trans, words-alike, same-live, same-room, same-orbit}
 use Rattle.model.proofs.AlikeMatch.{same-matches}
 use Rattle.model.proofs.AlikeEdit.{same-size, same-added, same-deleted, edited-alike}
@@ -85,10 +79,6 @@ module _ (n N : ℕ) (t t′ : List ℕ) (a : AlikeTables n N t t′) where
 
   same-table-fault : tableFault n N t ≡ tableFault n N t′
   same-table-fault = holds-free n N t (a .one) ∙ sym (holds-free n N t′ (a .other))
-
-  -- tables that are equal to these are alike too
-  alike-at : {u u′ : List ℕ} → u ≡ t → u′ ≡ t′ → AlikeTables n N u u′
-  alike-at {u} {u′} e f = subst (λ (l : List ℕ). AlikeTables n N l u′) (sym e) (subst (λ (l : List ℕ). AlikeTables n N t l) (sym f) a)
 
   -- ---- a table check
 
@@ -184,16 +174,17 @@ module _ (n N : ℕ) (t t′ : List ℕ) (a : AlikeTables n N t t′) where
         go : (o : Option Answer) → editFault n N t store b d ≡ o → AlikeTables n N (editTable n N t store b d) (editTable n N t′ store′ b d)
         go none q =
             let q′ = sym same-fault ∙ q in
-            let r = edit-table n N t store b d q in
-            let r′ = edit-table n N t′ store′ b d q′ in
             record {
               one = edit-holds n N t store b d q;
               other = edit-holds n N t′ store′ b d q′;
-              alike = subst (λ (l : List ℕ). Alike (view N l) (view N (editTable n N t′ store′ b d))) (sym r)
-                  (subst (λ (l : List ℕ). Alike (view N (words (edited m S O))) (view N l)) (sym r′)
-                  (alike-trans (words-alike (edited m S O)) (alike-trans (edited-like q) (alike-sym (words-alike (edited m′ S O′))))));
+              alike = rw (edit-table n N t store b d q, edit-table n N t′ store′ b d q′)
+                  (alike-trans (words-alike (edited m S O)) (alike-trans (edited-like q) (alike-sym (words-alike (edited m′ S O′)))));
             }
-        go (some r) q = alike-at (refused-table n N t store b d r q) (refused-table n N t′ store′ b d r (sym same-fault ∙ q))
+        go (some r) q = rw (refused-table n N t store b d r q, refused-table n N t′ store′ b d r (sym same-fault ∙ q)) a
+
+    -- both stores come back zero; where their length is wrong each stays as it was (`store-kept`)
+    pub same-store : length store ≡ 16 * N → editStore n N t store b d ≡ editStore n N t′ store′ b d
+    same-store k = store-zero n N t store b d (a .one .sizes) k ∙ sym (store-zero n N t′ store′ b d (a .other .sizes) (sym e ∙ k))
 
   -- ---- a read
 
@@ -215,7 +206,7 @@ module _ (n N : ℕ) (t t′ : List ℕ) (a : AlikeTables n N t t′) where
   read-alike b = record {
     one = read-holds n N t b (a .one .sizes);
     other = read-holds n N t′ b (a .other .sizes);
-    alike = subst (λ (l : List ℕ). Alike (view N (readTable n N t b)) (view N l)) (same-read-table b) (alike-refl (view N (readTable n N t b)));
+    alike = rw (same-read-table b) (alike-refl (view N (readTable n N t′ b)));
   }
 
   -- ---- a write
@@ -233,9 +224,7 @@ module _ (n N : ℕ) (t t′ : List ℕ) (a : AlikeTables n N t t′) where
     unfolding writeAnswer
     same-write = ap₂ (λ (o : Option Answer) (l : List ℕ). Option·getD o (Written (length l))) same-write-fault same-bytes
 
-    -- the bytes written, as many as the answer counts
-    pub same-written : take (getD (values (writeAnswer n N t out)) 0 0) (writeOut n N t out)
-        ≡ take (getD (values (writeAnswer n N t′ out′)) 0 0) (writeOut n N t′ out′)
+    pub same-written : writtenFile n N t out ≡ writtenFile n N t′ out′
     same-written = written-file n N t out (a .one)
         ∙ ap₂ (λ (k : ℕ) (l : List ℕ). cond (ltb k (length l)) [] l) e same-bytes
         ∙ sym (written-file n N t′ out′ (a .other))

@@ -1,9 +1,10 @@
--- Alike maps: the relation is an equivalence, a map and its table are alike, and alike well-formed maps have the same states, free slots and orbits.
+-- Alike maps: the relation is an equivalence, a map and its table are alike, what is like a well-formed map is well-formed,
+-- and alike well-formed maps have the same states, free slots and orbits.
 -- Assumes nothing.
 use Prim.Native.Nat.{ℕ, _≤_, _<_}
 use mathlib.Core.Path.{_≡_, refl, sym, ap, _∙_, subst, fun-ext}
-use mathlib.Core.Logic.{⊎-elim}
-use mathlib.Core.Bool.{Bool, true}
+use mathlib.Core.Logic.{_⊎_, inl, inr, ⊎-elim}
+use mathlib.Core.Bool.{Bool}
 use mathlib.Core.Option.{Option, Option·getD}
 use native.Mathlib.Omega.{arith}
 use lib.Dec.{eqb}
@@ -56,6 +57,47 @@ words-alike m = record {
   link = λ x h l i k. link-words m x h i k;
   tag = λ x h l. tag-words m x h;
 }
+
+-- ---- well-formedness
+
+-- what is like a well-formed map, with states 0 or 1, is well-formed
+module _ (n : ℕ) (small : n ≤ 3) (m m′ : Map) (a : Alike m m′) (w : WellFormed n m)
+    (states : (x : ℕ) → x < m′ .slots → (m′ .state x ≡ 0) ⊎ (m′ .state x ≡ 1)) where
+  one-step : (x : ℕ) → x < m .slots → m .state x ≡ 1 → (i : ℕ) → i ≤ n → m′ .link i x ≡ m .link i x
+  one-step x h l i k = sym (a .link x h l i (omega arith))
+
+  two-steps : (x : ℕ) → x < m .slots → m .state x ≡ 1 → (i j : ℕ) → i ≤ n → j ≤ n → m′ .link j (m′ .link i x) ≡ m .link j (m .link i x)
+  two-steps x h l i j k r = ap (m′ .link j) (one-step x h l i k) ∙ one-step (m .link i x) (w .below x h l i k) (w .alive x h l i k) j r
+
+  dart : (x : ℕ) → x < m′ .slots → m′ .state x ≡ 1 → (x < m .slots) × (m .state x ≡ 1)
+  dart x h l = let b : x < m .slots = omega arith in (b, a .live x b .1 l)
+
+  pub well-alike : WellFormed n m′
+  well-alike = record {
+    states = states;
+    below = λ x h l i k.
+        let d = dart x h l in
+        subst (λ (z : ℕ). z < m′ .slots) (sym (one-step x (d .0) (d .1) i k)) (subst (λ (z : ℕ). m .link i x < z) (a .slots) (w .below x (d .0) (d .1) i k));
+    alive = λ x h l i k.
+        let d = dart x h l in
+        ap (m′ .state) (one-step x (d .0) (d .1) i k) ∙ a .live (m .link i x) (w .below x (d .0) (d .1) i k) .0 (w .alive x (d .0) (d .1) i k);
+    back = λ x h l i k. let d = dart x h l in two-steps x (d .0) (d .1) i i k k ∙ w .back x (d .0) (d .1) i k;
+    flat = λ two x h l. let d = dart x h l in sym (a .link x (d .0) (d .1) 3 (omega arith)) ∙ w .flat two x (d .0) (d .1);
+    square = λ x h l i j ij jn.
+        let d = dart x h l in
+        let k : i ≤ n = omega arith in
+        let y = m .link i x in
+        let yh = w .below x (d .0) (d .1) i k in
+        let yl = w .alive x (d .0) (d .1) i k in
+        ap (λ (z : ℕ). m′ .link j (m′ .link i z)) (two-steps x (d .0) (d .1) i j k jn)
+        ∙ two-steps (m .link j y) (w .below y yh yl j jn) (w .alive y yh yl j jn) i j k jn
+        ∙ w .square x (d .0) (d .1) i j ij jn;
+  }
+
+-- the table of a well-formed map is well-formed
+pub words-well : (n : ℕ) (m : Map) → n ≤ 3 → WellFormed n m → WellFormed n (view (m .slots) (words m))
+words-well n m small w = well-alike n small m _ (alike-sym (words-alike m)) w
+    (λ x h. ⊎-elim (λ e. inl (state-words m x h ∙ e)) (λ e. inr (state-words m x h ∙ e)) (w .states x h))
 
 -- ---- states
 

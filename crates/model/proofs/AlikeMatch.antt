@@ -8,7 +8,7 @@ use native.Mathlib.Omega.{arith}
 use Rattle.base.proofs.TestLaws.{same-test}
 use Rattle.model.specs.Map.{Map}
 use Rattle.model.specs.WellFormed.{WellFormed}
-use Rattle.model.specs.Scheme.{left, orbitDim, word, has}
+use Rattle.model.specs.Scheme.{left, orbitDim, has}
 use Rattle.model.specs.Match.{image, matches, Assignment}
 use Rattle.model.specs.Accepted.{Accepted}
 use Rattle.model.specs.Alike.{Alike}

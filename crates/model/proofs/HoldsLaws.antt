@@ -22,12 +22,13 @@ use Rattle.model.specs.Edit.{edited}
 use Rattle.model.specs.File.{file, fileMap}
 use Rattle.model.specs.Answer.{values}
 use Rattle.model.specs.Calls.{zeros, sizesOk, tableFault, orbitOf, editFault, editTable, editStore, readFault, readTable, writeFault, writeAnswer, writeOut}
-use Rattle.model.specs.Sequence.{Holds}
+use Rattle.model.specs.Sequence.{Holds, writtenFile}
 use Rattle.model.specs.declared.Answer.{Answer}
 use Rattle.model.specs.declared.Answer.the-variants.{Written, ShortOutput}
 use Rattle.model.proofs.WellFormedLaws.{wellFormed-iff}
 use Rattle.model.proofs.MapLaws.{length-words}
-use Rattle.model.proofs.CallLaws.{passed, words-well, granted, edit-table, edit-table-well}
+use Rattle.model.proofs.AlikeLaws.{words-well}
+use Rattle.model.proofs.CallLaws.{passed, granted, edit-table, edit-table-well}
 
 module _ (n N : ℕ) (t : List ℕ) where
   pub holds-free : Holds n N t → tableFault n N t ≡ none
@@ -120,10 +121,10 @@ read-holds n N t b s = rw s (go (readFault n N t b) refl)
     go none q = words-hold n N t s (fileMap n N b) refl (read-well n N t b q)
     go (some r) q = zeros-hold n N t s
 
--- a write's output holds as many bytes as the answer counts: the file where there is room for it, else none
+-- a write leaves the map's file where there is room for it, else none
 pub written-file : (n N : ℕ) (t out : List ℕ) → Holds n N t
-    → take (getD (values (writeAnswer n N t out)) 0 0) (writeOut n N t out) ≡ cond (ltb (length out) (length (file n (view N t)))) [] (file n (view N t))
-unfolding writeAnswer writeOut writeFault when _orElse_ there
+    → writtenFile n N t out ≡ cond (ltb (length out) (length (file n (view N t)))) [] (file n (view N t))
+unfolding writtenFile writeAnswer writeOut writeFault when _orElse_ there
 written-file n N t out h = rw (holds-free n N t h) (go (ltb (length out) (length (file n (view N t)))))
   where
     go : (c : Bool) → take (getD (values (Option·getD (when c ShortOutput) (Written (length (file n (view N t)))))) 0 0)

@@ -19,5 +19,6 @@ pub mod AlikeMatch
 pub mod AlikeEdit
 pub mod FileLaws
 pub mod HoldsLaws
+pub mod UnusedLaws
 pub mod AlikeCalls
 pub mod SequenceLaws

@@ -2,7 +2,7 @@
 -- Assumes nothing.
 use Prim.Native.Nat.{ℕ}
 use mathlib.Core.Path.{_≡_, refl, subst}
-use mathlib.Core.List.{List, [], _∷_, Forall₂, Forall₂·nil, Forall₂·cons}
+use mathlib.Core.List.{List, Forall₂, Forall₂·nil, Forall₂·cons}
 use lib.ListN.{length}
 use Rattle.model.specs.Sequence.{AlikeTables, Request, tableCheck, schemeCheck, edit, read, write, Call, SameCall, outcomeOf, outcome, run, AlikeOutcomes}
 use Rattle.model.proofs.AlikeCalls.{same-check, same-edit, edit-alike, same-read, read-alike, same-write, same-written}

@@ -12,12 +12,12 @@ use Rattle.model.specs.Map.{view}
 use Rattle.model.specs.WellFormed.{WellFormed}
 use Rattle.model.specs.Alike.{Alike}
 use Rattle.model.specs.Answer.{values}
-use Rattle.model.specs.Calls.{sizesOk, checkTable, checkScheme, editAnswer, editTable, editStore, readAnswer, readTable, writeAnswer, writeOut}
+use Rattle.model.specs.Calls.{sizesOk, checkTable, checkScheme, editAnswer, editTable, readAnswer, readTable, writeAnswer, writeOut}
 use Rattle.model.specs.declared.Answer.{Answer}
 
 -- ---- two well-formed maps of one dimension and slot count, with the same live slots and equal live records
 
--- the table t holds a well-formed map of dimension n and N slots; the table check answers 0 to just these (`holds-iff` of proofs/AlikeCalls.antt)
+-- the table t holds a well-formed map of dimension n and N slots; the table check answers 0 to just these (`holds-iff` of proofs/HoldsLaws.antt)
 pub record Holds (n N : ℕ) (t : List ℕ) : Type 0 where
   pub sizes : sizesOk n N t ≡ true
   pub well : WellFormed n (view N t)
@@ -37,7 +37,7 @@ pub data Request : Type 0 where
   read : (file : List ℕ) → Request
   write : Request
 
--- a call: its request, and the buffer lent to it with what that holds, an edit's working store or a write's output; the others leave it alone
+-- a call: its request, and the buffer lent to it with what that holds, an edit's working store or a write's output; the other calls take none
 pub record Call : Type 0 where
   pub request : Request
   pub lent : List ℕ
@@ -48,26 +48,23 @@ pub record SameCall (c c′ : Call) : Type 0 where
 
 -- ---- what comes of every call
 
--- the answer, the table and the lent buffer as the call leaves them, and the file that it has written
+-- the answer, the table that the call leaves, and the file that it has written
 pub record Outcome : Type 0 where
   pub answer : Answer
   pub table : List ℕ
-  pub lent : List ℕ
   pub file : List ℕ
 
 module _ (n N : ℕ) (t : List ℕ) where
-  -- a written file is as much of the output as the answer counts
+  -- the file that a write leaves in the output: as many bytes as the answer counts, none where it is a refusal
+  unfoldable pub writtenFile : List ℕ → List ℕ
+  writtenFile out = take (getD (values (writeAnswer n N t out)) 0 0) (writeOut n N t out)
+
   unfoldable pub outcomeOf : Request → List ℕ → Outcome
-  outcomeOf tableCheck l = record { answer = checkTable n N t; table = t; lent = l; file = [] }
-  outcomeOf (schemeCheck b) l = record { answer = checkScheme b; table = t; lent = l; file = [] }
-  outcomeOf (edit b d) l = record { answer = editAnswer n N t l b d; table = editTable n N t l b d; lent = editStore n N t l b d; file = [] }
-  outcomeOf (read b) l = record { answer = readAnswer n N t b; table = readTable n N t b; lent = l; file = [] }
-  outcomeOf write l = record {
-    answer = writeAnswer n N t l;
-    table = t;
-    lent = writeOut n N t l;
-    file = take (getD (values (writeAnswer n N t l)) 0 0) (writeOut n N t l);
-  }
+  outcomeOf tableCheck l = record { answer = checkTable n N t; table = t; file = [] }
+  outcomeOf (schemeCheck b) l = record { answer = checkScheme b; table = t; file = [] }
+  outcomeOf (edit b d) l = record { answer = editAnswer n N t l b d; table = editTable n N t l b d; file = [] }
+  outcomeOf (read b) l = record { answer = readAnswer n N t b; table = readTable n N t b; file = [] }
+  outcomeOf write l = record { answer = writeAnswer n N t l; table = t; file = writtenFile l }
 
   unfoldable pub outcome : Call → Outcome
   outcome c = outcomeOf (c .request) (c .lent)
