@@ -19,7 +19,7 @@ use Rattle.model.proofs.AlikeLaws.{alike-sym}
 
 module _ (S : Scheme) (g : Accepted S) (O : ℕ → Bool) where
   module _ (m m′ : Map) (a : Alike m m′) (o : GoodOrbit m S O) where
-    -- the links of a live dart are the same in both, whatever the dimension
+    -- a live dart has the same links in both
     link-same : (x i : ℕ) → x < m .slots → m .state x ≡ 1 → i ≤ S .n → m .link i x ≡ m′ .link i x
     link-same x i h l k = let n3 = small S (g .formed) in a .link x h l i (omega arith)
 

@@ -2,9 +2,9 @@
 -- Assumes nothing.
 use Prim.Native.Nat.{ℕ}
 use mathlib.Core.Path.{_≡_, refl, subst}
-use mathlib.Core.List.{List, Forall₂, Forall₂·nil, Forall₂·cons}
+use mathlib.Core.List.{List, Forall₂·nil, Forall₂·cons}
 use lib.ListN.{length}
-use Rattle.model.specs.Sequence.{AlikeTables, Request, tableCheck, schemeCheck, edit, read, write, Call, SameCall, outcomeOf, outcome, run, AlikeOutcomes}
+use Rattle.model.specs.Sequence.{AlikeTables, Request, tableCheck, schemeCheck, edit, read, write, Call, SameCall, outcomeOf, outcome, run, AlikeOutcomes, AlikeThroughout}
 use Rattle.model.proofs.AlikeCalls.{same-check, same-edit, edit-alike, same-read, read-alike, same-write, same-written}
 
 -- one call
@@ -22,9 +22,8 @@ module _ (n N : ℕ) (t t′ : List ℕ) (a : AlikeTables n N t t′) where
   call-alike c c′ s = subst (λ (r : Request). AlikeOutcomes n N (outcomeOf n N t (c .request) (c .lent)) (outcomeOf n N t′ r (c′ .lent)))
       (s .request) (request-alike (c .request) (c .lent) (c′ .lent) (s .lengths))
 
--- any sequence: after every call the outcomes are alike
-pub alike-throughout : (n N : ℕ) (t t′ : List ℕ) → AlikeTables n N t t′ → (s s′ : List Call) → Forall₂ SameCall s s′
-    → Forall₂ (AlikeOutcomes n N) (run n N t s) (run n N t′ s′)
+-- any sequence
+pub alike-throughout : AlikeThroughout
 unfolding run
 alike-throughout n N t t′ a s s′ Forall₂·nil = Forall₂·nil
 alike-throughout n N t t′ a s s′ (Forall₂·cons {a = c} {b = c′} {l₁ = r} {l₂ = r′} same rest) =

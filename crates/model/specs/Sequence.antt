@@ -1,12 +1,12 @@
 -- Demand 3: "Take two well-formed maps of one dimension and slot count, with the same live slots and equal live records; unused records and working
 -- stores may hold anything. Give both the same sequence of edits, checks, reads and writes at that dimension and slot count, with equal other arguments
 -- and lent buffers of equal length. After every call both maps are well-formed, still alike in this sense, and answers and written files are equal."
--- The definitions below say this in its order; `alike-throughout` of proofs/SequenceLaws.antt is the theorem.
+-- The definitions below say this in its order. The last of them, `AlikeThroughout`, is the demand; proofs/SequenceLaws.antt proves it.
 -- Assumes nothing.
 use Prim.Native.Nat.{ℕ}
 use mathlib.Core.Path.{_≡_}
 use mathlib.Core.Bool.{true}
-use mathlib.Core.List.{List, [], _∷_}
+use mathlib.Core.List.{List, [], _∷_, Forall₂}
 use lib.ListN.{length, getD, take}
 use Rattle.model.specs.Map.{view}
 use Rattle.model.specs.WellFormed.{WellFormed}
@@ -79,3 +79,10 @@ pub record AlikeOutcomes (n N : ℕ) (o o′ : Outcome) : Type 0 where
   pub tables : AlikeTables n N (o .table) (o′ .table)
   pub answers : o .answer ≡ o′ .answer
   pub files : o .file ≡ o′ .file
+
+-- ---- the demand
+
+-- the sequences correspond call by call, and so do their outcomes
+abbrev pub AlikeThroughout : Type 0
+AlikeThroughout = (n N : ℕ) (t t′ : List ℕ) → AlikeTables n N t t′
+    → (s s′ : List Call) → Forall₂ SameCall s s′ → Forall₂ (AlikeOutcomes n N) (run n N t s) (run n N t′ s′)
