@@ -3,7 +3,7 @@
 use Prim.Native.Nat.{ℕ, _*_, _≤_, _<_}
 use mathlib.Core.Path.{_≡_, refl, sym, ap, _∙_, subst}
 use mathlib.Core.Logic.{inl, ⊎-elim, _↔_}
-use mathlib.Core.Bool.{Bool, true, false, cond}
+use mathlib.Core.Bool.{Bool, true, false, not, cond}
 use mathlib.Core.Option.{Option, none, some, Option·getD}
 use mathlib.Core.List.{List, [], _++_}
 use native.Mathlib.Omega.{arith}
@@ -16,15 +16,15 @@ use Rattle.base.specs.First.{when, there, _orElse_}
 use Rattle.base.proofs.TestLaws.{and-left, and-right, or-cases}
 use Rattle.base.proofs.FirstLaws.{or-else-none}
 use Rattle.model.specs.Map.{Map, view, words, tableSize}
-use Rattle.model.specs.WellFormed.{WellFormed}
+use Rattle.model.specs.WellFormed.{WellFormed, wellFormed}
 use Rattle.model.specs.Scheme.{schemeOf}
 use Rattle.model.specs.Edit.{edited}
 use Rattle.model.specs.File.{file, fileMap}
-use Rattle.model.specs.Answer.{values}
-use Rattle.model.specs.Calls.{zeros, sizesOk, tableFault, orbitOf, editFault, editTable, editStore, readFault, readTable, writeFault, writeAnswer, writeOut}
+use Rattle.model.specs.Answer.{number, values}
+use Rattle.model.specs.Calls.{zeros, sizesOk, tableFault, checkTable, orbitOf, editFault, editTable, editStore, readFault, readTable, writeFault, writeAnswer, writeOut}
 use Rattle.model.specs.Sequence.{Holds, writtenFile}
 use Rattle.model.specs.declared.Answer.{Answer}
-use Rattle.model.specs.declared.Answer.the-variants.{Written, ShortOutput}
+use Rattle.model.specs.declared.Answer.the-variants.{Done, Written, BadCall, BadTable, ShortOutput}
 use Rattle.model.proofs.WellFormedLaws.{wellFormed-iff}
 use Rattle.model.proofs.MapLaws.{length-words}
 use Rattle.model.proofs.AlikeLaws.{words-well}
@@ -35,15 +35,22 @@ module _ (n N : ℕ) (t : List ℕ) where
   unfolding tableFault when _orElse_
   holds-free h = rw (h .sizes, wellFormed-iff n (view N t) .1 (h .well)) refl
 
-  -- a table check answers 0 just where the table holds a well-formed map
-  pub holds-iff : Holds n N t ↔ (tableFault n N t ≡ none)
+  holds-of : tableFault n N t ≡ none → Holds n N t
   unfolding tableFault
+  holds-of q = let r = or-else-none _ _ q in record { sizes = passed _ _ (r .0); well = wellFormed-iff n (view N t) .0 (passed _ _ (r .1)) }
+
+  -- a table check answers 0 just where the table holds a well-formed map
+  pub holds-iff : Holds n N t ↔ (checkTable n N t ≡ Done)
+  unfolding checkTable tableFault when _orElse_
   holds-iff = (
-    holds-free,
-    (λ q.
-        let r = or-else-none _ _ q in
-        record { sizes = passed _ _ (r .0); well = wellFormed-iff n (view N t) .0 (passed _ _ (r .1)) }),
+    (λ h. ap (λ (o : Option Answer). Option·getD o Done) (holds-free h)),
+    (λ e. holds-of (go (not (sizesOk n N t)) (not (wellFormed n (view N t))) e)),
   )
+    where
+      go : (a b : Bool) → Option·getD (when a BadCall orElse when b BadTable) Done ≡ Done → when a BadCall orElse when b BadTable ≡ none
+      go true b e = let z = ap number e in absurd (omega arith)
+      go false true e = let z = ap number e in absurd (omega arith)
+      go false false e = refl
 
   module _ (s : sizesOk n N t ≡ true) where
     pub dimension-small : n ≤ 3
