@@ -129,7 +129,7 @@ pub count-some : (n : ℕ) (p : ℕ → Bool) (k : ℕ) → k < n → p k ≡ tr
 count-some n p k h e = ⊎-elim (λ z. absurd (true≢false (sym e ∙ count-none n p z k h))) (λ l. l) (eq-zero-or-pos (count n p))
 
 -- tests that agree are counted equally often
-pub count-same : (n : ℕ) (p q : ℕ → Bool) → ((k : ℕ) → k < n → q k ≡ p k) → count n q ≡ count n p
+pub count-same : (n : ℕ) (p q : ℕ → Bool) → ((k : ℕ) → k < n → p k ≡ q k) → count n p ≡ count n q
 unfolding count
 count-same zero p q f = refl
 count-same (suc n) p q f = ap₂ (λ (a : ℕ) (b : Bool). a + bit b) (count-same n p q (λ k h. f k (omega arith))) (f n (omega arith))
@@ -140,7 +140,7 @@ pub count-one-more : (n : ℕ) (p q : ℕ → Bool) (k : ℕ) → k < n → p k 
 unfolding count
 count-one-more zero p q k h e g f = absurd (not-suc-le-zero h)
 count-one-more (suc n) p q k h e g f = ⊎-elim
-    (λ w. here (p n) (q n) (ap p (sym w) ∙ e) (ap q (sym w) ∙ g) (count-same n p q (λ j l. f j (omega arith) (λ u. absurd (omega arith)))))
+    (λ w. here (p n) (q n) (ap p (sym w) ∙ e) (ap q (sym w) ∙ g) (count-same n q p (λ j l. f j (omega arith) (λ u. absurd (omega arith)))))
     (λ w. past (p n) (q n) (f n (omega arith) (λ u. absurd (omega arith))) (count-one-more n p q k w e g (λ j l. f j (omega arith))))
     (below-suc h)
   where

@@ -4,15 +4,17 @@ use Prim.Native.Nat.{ℕ, zero, suc, _+_, _<_}
 use mathlib.Core.Path.{_≡_, refl, sym, ap, ap₂, _∙_}
 use mathlib.Core.Logic.{_⊎_, inl, inr, ⊎-elim}
 use mathlib.Core.Bool.{Bool, true, false, false≢true, true≢false}
-use mathlib.Core.Option.{Option, none, some}
+use mathlib.Core.Option.{Option, none, some, Option·getD}
 use native.Mathlib.Nat.{not-suc-le-zero}
 use native.Mathlib.Numerals.{add-one}
 use native.Mathlib.Omega.{arith}
+use lib.Dec.{eqb}
 use borrow.Author.Tests.{eqb-true, eq-eqb}
+use Rattle.base.specs.Test.{_and_}
 use Rattle.base.specs.Below.{count}
 use Rattle.base.specs.First.{when, _orElse_, there, first, least, nth}
 use Rattle.base.proofs.TestLaws.{and-left, and-right, and-of}
-use Rattle.base.proofs.BelowLaws.{below-suc, count-reaches}
+use Rattle.base.proofs.BelowLaws.{below-suc, count-same, count-reaches}
 
 module _ {A : Type 0} where
   pub or-else-cases : (o r : Option A) (a : A) → o orElse r ≡ some a → (o ≡ some a) ⊎ ((o ≡ none) × (r ≡ some a))
@@ -51,6 +53,22 @@ module _ {A : Type 0} where
   unfolding _orElse_
   or-else-none none r e = (refl, e)
   or-else-none (some b) r e = absurd (some-not-none {o = some b} {a = b} refl e)
+
+  -- what comes second is asked only where the first is not there
+  pub or-else-same : {o u : Option A} (r v : Option A) → o ≡ u → (o ≡ none → r ≡ v) → o orElse r ≡ u orElse v
+  unfolding _orElse_
+  or-else-same {o} {u} r v e f = go o f ∙ ap (λ (z : Option A). z orElse v) e
+    where
+      go : (o : Option A) → (o ≡ none → r ≡ v) → o orElse r ≡ o orElse v
+      go none f = f refl
+      go (some a) f = refl
+
+  pub getD-same : {o u : Option A} (a b : A) → o ≡ u → (o ≡ none → a ≡ b) → Option·getD o a ≡ Option·getD u b
+  getD-same {o} {u} a b e f = go o f ∙ ap (λ (z : Option A). Option·getD z b) e
+    where
+      go : (o : Option A) → (o ≡ none → a ≡ b) → Option·getD o a ≡ Option·getD o b
+      go none f = f refl
+      go (some c) f = refl
 
   -- where `first` gives nothing, no number does
   pub first-none : (n : ℕ) (f : ℕ → Option A) → first n f ≡ none → (k : ℕ) → k < n → f k ≡ none
@@ -139,3 +157,7 @@ unfolding nth least when
 nth-found n p k h =
     let r = count-reaches p n k h in
     first-of n _ (r .0) (r .0) (r .1) (ap (λ (b : Bool). when b (r .0)) (and-of (r .2) (eq-eqb _ _ (r .3))))
+
+pub nth-same : (n : ℕ) (p q : ℕ → Bool) (k : ℕ) → ((x : ℕ) → x < n → p x ≡ q x) → nth n p k ≡ nth n q k
+unfolding nth least
+nth-same n p q k f = first-same n _ _ (λ x h. ap₂ (λ (a : Bool) (c : ℕ). when (a and eqb c k) x) (f x h) (count-same x p q (λ y l. f y (omega arith))))

@@ -55,6 +55,11 @@ module _ {A : Type 0} (k : ℕ) (f : ℕ → List A) (each : (x : ℕ) → lengt
       (below-suc h)
 
 module _ {A : Type 0} where
+  pub joined-same : (n : ℕ) (f g : ℕ → List A) → ((x : ℕ) → x < n → f x ≡ g x) → joined n f ≡ joined n g
+  unfolding joined
+  joined-same zero f g h = refl
+  joined-same (suc n) f g h = ap₂ _++_ (joined-same n f g (λ x l. h x (omega arith))) (h n (omega arith))
+
   pub joined-step : (i : ℕ) (f : ℕ → List A) → joined (i + 1) f ≡ joined i f ++ f i
   unfolding joined
   joined-step i f = rw add-one refl

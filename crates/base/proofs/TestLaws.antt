@@ -2,7 +2,7 @@
 -- Assumes nothing.
 use mathlib.Core.Path.{_≡_, refl, sym}
 use mathlib.Core.Logic.{_⊎_, inl, inr}
-use mathlib.Core.Bool.{Bool, true, false, false≢true}
+use mathlib.Core.Bool.{Bool, true, false, cond, false≢true}
 use Rattle.base.specs.Test.{_and_, _or_, _⇒_}
 
 pub and-left : (a b : Bool) → (a and b) ≡ true → a ≡ true
@@ -52,3 +52,12 @@ pub same-test : (a b : Bool) → (a ≡ true → b ≡ true) → (b ≡ true →
 same-test true b f g = sym (f refl)
 same-test false true f g = g refl
 same-test false false f g = refl
+
+pub and-same : (a : Bool) {b c : Bool} → (a ≡ true → b ≡ c) → (a and b) ≡ (a and c)
+unfolding _and_
+and-same true f = f refl
+and-same false f = refl
+
+pub cond-same : {A : Type 0} (b : Bool) (x y u v : A) → (b ≡ true → x ≡ u) → (b ≡ false → y ≡ v) → cond b x y ≡ cond b u v
+cond-same true x y u v f g = f refl
+cond-same false x y u v f g = g refl

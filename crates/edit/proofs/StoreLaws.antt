@@ -79,7 +79,7 @@ module _ (N : ℕ) (s : List ℕ) (i v : ℕ) (behind : 2 * N ≤ i) where
             let mx : mark (set s i v) x ≡ mark s x = mark-set-behind x h in
             let f = t .found x h (omega arith) in
             (omega (arith, f .0), ap (λ (z : ℕ). place N (set s i v) (z - 1)) mx ∙ at (mark s x - 1) (omega (arith, f .0)) ∙ f .1);
-        total = count-same N (marked s) (marked (set s i v)) (λ x h. ap (ltb 0) (mark-set-behind x h)) ∙ t .total;
+        total = count-same N (marked (set s i v)) (marked s) (λ x h. ap (ltb 0) (mark-set-behind x h)) ∙ t .total;
       }
 
 -- ---- a place more

@@ -15,3 +15,11 @@ pub mod MapLaws
 pub mod EditLaws
 pub mod KeepLaws
 pub mod CallLaws
+pub mod AlikeLaws
+pub mod AlikeMatch
+pub mod AlikeEdit
+pub mod FileLaws
+pub mod HoldsLaws
+pub mod UnusedLaws
+pub mod AlikeCalls
+pub mod SequenceLaws

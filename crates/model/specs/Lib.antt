@@ -11,4 +11,6 @@ pub mod Match
 pub mod Edit
 pub mod File
 pub mod Calls
+pub mod Alike
+pub mod Sequence
 pub mod Bench
