@@ -41,13 +41,17 @@ module _ (N : ℕ) (store : List ℕ) (size : ℕ) (cols : List ℕ) where
       cond (ltb code 16) (column c (dartAt store base) (dartAt store (getD cols code 0)) size t)
       (cond (ltb code 255) (column c (dartAt store base) (λ r. dartAt store base (next N store r (code - 16))) size t) t)
 
-  -- the links of the darts of c nodes, by the codes of their arcs
+  -- the links of the darts of all nodes, by the first n codes of their arcs
   unfoldable pub relinked : List ℕ → ℕ → List ℕ → List ℕ
   relinked codes n = steps n (λ k. followed (1 + k % 4) (getD cols (k / 4) 0) (getD codes k 0))
 
-  -- the records of the darts of those of c nodes that are deleted
+  -- the records of the darts of the node whose column begins at `base`, where its kind is deleted
+  unfoldable pub clearedBy : ℕ → ℕ → List ℕ → List ℕ
+  clearedBy base kind t = cond (eqb kind 1) (erased (dartAt store base) size t) t
+
+  -- the records of the darts of those of the first n nodes that are deleted
   unfoldable pub cleared : List ℕ → ℕ → List ℕ → List ℕ
-  cleared kinds c = steps c (λ v t. cond (eqb (getD kinds v 0) 1) (erased (dartAt store (getD cols v 0)) size t) t)
+  cleared kinds n = steps n (λ v. clearedBy (getD cols v 0) (getD kinds v 0))
 
 -- ---- what makes it safe
 
@@ -68,11 +72,14 @@ pub record Legible (N : ℕ) (store : List ℕ) (size : ℕ) (cols : List ℕ) (
   pub node : code < 16 → getD cols code 0 + size ≤ length store
   pub position : 16 ≤ code → code < 255 → Turns N store size (code - 16)
 
--- each of c nodes has its column and its codes
-pub record Laid (N : ℕ) (store : List ℕ) (size : ℕ) (codes : List ℕ) (c : ℕ) (cols : List ℕ) : Type 0 where
+-- each of c nodes has a column
+pub record Columns (N : ℕ) (store : List ℕ) (size c : ℕ) (cols : List ℕ) : Type 0 where
   pub few : c ≤ 16
-  pub columns : (v : ℕ) → v < c → Slots N store (getD cols v 0) size
-  pub arcs : (k : ℕ) → k < 4 * c → Legible N store size cols (getD codes k 0)
+  pub at : (v : ℕ) → v < c → Slots N store (getD cols v 0) size
+
+-- each arc of c nodes has a code
+pub record Codes (N : ℕ) (store : List ℕ) (size : ℕ) (codes : List ℕ) (c : ℕ) (cols : List ℕ) : Type 0 where
+  pub at : (k : ℕ) → k < 4 * c → Legible N store size cols (getD codes k 0)
 
 -- ---- what the phase is handed
 

@@ -1,7 +1,7 @@
 -- `edit::links::join` meets its contract. The loop's invariant: the column is written for the first r darts.
 -- Assumes nothing.
 use Prim.Native.Nat.{_-_}
-use native.Mathlib.Omega.{arith}
+use mathlib.Core.Path.{refl}
 use borrow.Author.Needs.{needs}
 use Rattle.table.specs.Words.{put}
 use Rattle.edit.specs.Store.{dartAt}
@@ -58,7 +58,7 @@ loop-again c =
     let w = c .before .before .before .before .before in
     let l = w .before .before in
     stage-more _ _ _ _ _ _ (l .loop .inv) _ (w .before .loop-test .taken) (c .before .before .put .kept .1 .0)
-    (put-at _ _ _ _ _ _ (c .before .before .put .ensures) (w .word .ensures))
+    (put-at _ _ _ _ _ _ _ (c .before .before .put .ensures) (w .word .ensures) refl)
 
 same-length : tie.Need-same-length Inv-loop μ-loop
 same-length c = stage-length _ _ _ _ _ _ (c .before .loop .inv) (c .before .before .before .before .pre .0)
