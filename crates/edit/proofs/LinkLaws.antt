@@ -67,27 +67,28 @@ module _ (N : ℕ) (store : List ℕ) (r p q : ℕ) (e : q ≡ getD store (4 * N
 
 -- ---- an arc by its code
 
-module _ (N : ℕ) (store : List ℕ) (size : ℕ) (cols : List ℕ) (c base code : ℕ) (t : List ℕ) where
-  pub by-node : code < 16 → followed N store size cols c base code t ≡ column c (dartAt store base) (dartAt store (getD cols code 0)) size t
+module _ (N : ℕ) (store : List ℕ) (size : ℕ) (cols : List ℕ) (c base code : ℕ) (t t′ : List ℕ) where
+  pub by-node : code < 16 → t′ ≡ column c (dartAt store base) (dartAt store (getD cols code 0)) size t
+      → t′ ≡ followed N store size cols c base code t
   unfolding followed
-  by-node h = rw (lt-ltb code 16 h) refl
+  by-node h e = rw (lt-ltb code 16 h) e
 
-  pub by-position : 16 ≤ code → code < 255
-      → followed N store size cols c base code t ≡ column c (dartAt store base) (λ r. dartAt store base (next N store r (code - 16))) size t
+  pub by-position : 16 ≤ code → code < 255 → t′ ≡ column c (dartAt store base) (λ r. dartAt store base (next N store r (code - 16))) size t
+      → t′ ≡ followed N store size cols c base code t
   unfolding followed
-  by-position h l = rw (le-ltb code 16 h, lt-ltb code 255 l) refl
+  by-position h l e = rw (le-ltb code 16 h, lt-ltb code 255 l) e
 
-  pub by-none : 255 ≤ code → followed N store size cols c base code t ≡ t
+  pub by-none : 255 ≤ code → t′ ≡ t → t′ ≡ followed N store size cols c base code t
   unfolding followed
-  by-none h = rw (le-ltb code 16 (omega arith), le-ltb code 255 h) refl
+  by-none h e = rw (le-ltb code 16 (omega arith), le-ltb code 255 h) e
 
 -- ---- a node by its kind
 
-module _ (N : ℕ) (store : List ℕ) (size : ℕ) (cols : List ℕ) (base kind : ℕ) (t : List ℕ) where
-  pub by-deleted : kind ≡ 1 → clearedBy N store size cols base kind t ≡ erased (dartAt store base) size t
+module _ (N : ℕ) (store : List ℕ) (size : ℕ) (cols : List ℕ) (base kind : ℕ) (t t′ : List ℕ) where
+  pub by-deleted : kind ≡ 1 → t′ ≡ erased (dartAt store base) size t → t′ ≡ clearedBy N store size cols base kind t
   unfolding clearedBy
-  by-deleted h = rw (eq-eqb kind 1 h) refl
+  by-deleted h e = rw (eq-eqb kind 1 h) e
 
-  pub by-other : (kind ≡ 1 → ⊥) → clearedBy N store size cols base kind t ≡ t
+  pub by-other : (kind ≡ 1 → ⊥) → t′ ≡ t → t′ ≡ clearedBy N store size cols base kind t
   unfolding clearedBy
-  by-other h = rw (ne-eqb kind 1 h) refl
+  by-other h e = rw (ne-eqb kind 1 h) e

@@ -101,3 +101,4 @@ pub record Ready (slots : ℕ) (table store : List ℕ) (size : ℕ) (kinds code
   pub nodes : c ≡ scheme .nodes
   pub kinded : kinds ≡ scheme .kinds
   pub coded : Coded scheme right codes
+  pub lettered : length codes ≡ 64

@@ -1,7 +1,7 @@
 -- `edit::links::clear` meets its contract. The loop's invariant: the first v nodes are cleared where they are deleted.
 -- Assumes nothing.
 use Prim.Native.Nat.{_-_}
-use mathlib.Core.Path.{sym, ap, _∙_}
+use mathlib.Core.Path.{ap, _∙_}
 use mathlib.Core.Logic.{⊎-elim}
 use native.Mathlib.Omega.{arith}
 use lib.ListN.{length, getD}
@@ -50,8 +50,8 @@ loop-again c =
     let h = c .before .before .loop-test .taken in
     ⊎-elim
     (λ w. stage-more _ _ _ _ _ _ (l .loop .inv) _ h (ap length (w .6) ∙ w .3 .kept .1 .0)
-    (w .6 ∙ w .3 .ensures ∙ sym (by-deleted _ _ _ _ _ _ _ (w .0 .taken))))
-    (λ w. stage-more _ _ _ _ _ _ (l .loop .inv) _ h (ap length (w .1)) (w .1 ∙ sym (by-other _ _ _ _ _ _ _ (w .0 .left))))
+    (by-deleted _ _ _ _ _ _ _ _ (w .0 .taken) (w .6 ∙ w .3 .ensures)))
+    (λ w. stage-more _ _ _ _ _ _ (l .loop .inv) _ h (ap length (w .1)) (by-other _ _ _ _ _ _ _ _ (w .0 .left) (w .1)))
     (c .if1 .came)
 
 same-length : tie.Need-same-length Inv-loop μ-loop

@@ -1,6 +1,6 @@
 -- `edit::links::follow` meets its contract. Each return is one of the kinds of arcs.
 -- Assumes nothing.
-use mathlib.Core.Path.{sym, _∙_}
+use mathlib.Core.Path.{refl}
 use borrow.Author.Needs.{needs}
 use Rattle.edit.proofs.LinkLaws.{by-node, by-position, by-none}
 use Rattle.edit.proofs.links.follow.Statement.{statement}
@@ -30,7 +30,7 @@ same-length : tie.Need-same-length
 same-length c = search needs
 
 returns : tie.Need-returns
-returns c = c .before .before .join .ensures ∙ sym (by-node _ _ _ _ _ _ _ _ (c .before .before .before .before .before .if1 .taken))
+returns c = by-node _ _ _ _ _ _ _ _ _ (c .before .before .before .before .before .if1 .taken) (c .before .before .join .ensures)
 
 same-length-2 : tie.Need-same-length-2
 same-length-2 c = search needs
@@ -38,10 +38,10 @@ same-length-2 c = search needs
 returns-2 : tie.Need-returns-2
 returns-2 c =
     let b = c .before .before .before .before in
-    c .before .before .turn .ensures ∙ sym (by-position _ _ _ _ _ _ _ _ (b .before .if1 .left) (b .if2 .taken))
+    by-position _ _ _ _ _ _ _ _ _ (b .before .if1 .left) (b .if2 .taken) (c .before .before .turn .ensures)
 
 returns-3 : tie.Need-returns-3
-returns-3 c = sym (by-none _ _ _ _ _ _ _ _ (c .if2 .left))
+returns-3 c = by-none _ _ _ _ _ _ _ _ _ (c .if2 .left) refl
 
 pub follow-spec : {M : Type 1} → statement M
 follow-spec =
