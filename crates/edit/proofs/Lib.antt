@@ -1,1 +1,2 @@
 pub mod LinkLaws
+pub mod WriteLaws
