@@ -59,6 +59,12 @@ module _ {A : Type 0} where
   unfolding joined
   joined-step i f = rw add-one refl
 
+  -- what is joined decides the whole
+  pub joined-same : (n : ℕ) (f g : ℕ → List A) → ((x : ℕ) → x < n → f x ≡ g x) → joined n f ≡ joined n g
+  unfolding joined
+  joined-same zero f g h = refl
+  joined-same (suc n) f g h = ap₂ _++_ (joined-same n f g (λ x l. h x (omega arith))) (h n (omega arith))
+
 -- ---- a list that is filled from its start
 
 module _ {A : Type 0} where
