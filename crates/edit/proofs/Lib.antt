@@ -1,2 +1,3 @@
 pub mod LinkLaws
 pub mod WriteLaws
+pub mod EditedLaws

@@ -22,7 +22,7 @@ use Rattle.base.proofs.TestLaws.{and-left, and-right, or-cases, or-left, or-rig
 use Rattle.base.proofs.FirstLaws.{some-not-none}
 use Rattle.model.proofs.ArcLaws.{explicit-end, implicit-from, absent-of, absent-from}
 use Rattle.model.proofs.CycleLaws.{cycle-at, cycle-of, same-arc, not-absent, not-absent′, pass-i, pass-j, none-i, none-j}
-use Rattle.model.proofs.AcceptedLaws.{kind-cases}
+use Rattle.model.proofs.AcceptedLaws.{kind-cases, side-cases}
 use Rattle.model.proofs.MatchLaws.{GoodOrbit, arc-of}
 use Rattle.model.proofs.EditLaws as E
 
@@ -35,7 +35,7 @@ module _ (S : Scheme) (s : ℕ) where
   kind-not : (a b : ℕ) → (a ≡ b → ⊥) → eqb (kind S s) a ≡ true → eqb (kind S s) b ≡ false
   kind-not a b ne e = ne-eqb (kind S s) b (λ q. ne (sym (eqb-true _ _ e) ∙ q))
 
-  right-stays : has S right s ≡ true → deleted S s ≡ false
+  pub right-stays : has S right s ≡ true → deleted S s ≡ false
   right-stays e = ⊎-elim (kind-not 2 1 (λ q. omega arith)) (kind-not 3 1 (λ q. omega arith)) (or-cases _ _ e)
 
   both-preserved : has S left s ≡ true → has S right s ≡ true → preserved S s ≡ true
@@ -44,19 +44,19 @@ module _ (S : Scheme) (s : ℕ) where
       (λ e. e)
       (or-cases _ _ l)
 
-  preserved-left : preserved S s ≡ true → has S left s ≡ true
+  pub preserved-left : preserved S s ≡ true → has S left s ≡ true
   preserved-left e = or-right _ e
 
   preserved-right : preserved S s ≡ true → has S right s ≡ true
   preserved-right e = or-left _ e
 
-  preserved-not-added : preserved S s ≡ true → added S s ≡ false
+  pub preserved-not-added : preserved S s ≡ true → added S s ≡ false
   preserved-not-added e = kind-not 2 3 (λ q. omega arith) e
 
 module _ (m : Map) (S : Scheme) (O : ℕ → Bool) (w : WellFormed (S .n) m) (g : Accepted S) (o : GoodOrbit m S O)
     (A : Assignment m S O (image m S)) (room : addedDarts m S O ≤ count (m .slots) (unused m)) where
   left-or-added : (s : ℕ) → s < S .nodes → (has S left s ≡ true) ⊎ (added S s ≡ true)
-  left-or-added s h = ⊎-elim (λ e. inl (or-left _ e)) (⊎-elim (λ e. inl (or-right _ e)) (λ e. inr e)) (kind-cases S (g .formed) s h)
+  left-or-added = side-cases S (g .formed)
 
   abbrev D : ℕ → ℕ → ℕ
   D u s = dartOf m S O u s

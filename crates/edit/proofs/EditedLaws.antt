@@ -1,0 +1,182 @@
+-- After the loops of the phase `links` the table is that of the edited map: slot by slot and column by column, the word that stands
+-- there is the model's. The darts of all pairs are different slots, so each word is written once.
+-- Assumes nothing.
+use Prim.Native.Nat.{ℕ, _+_, _*_, _-_, _/_, _%_, _≤_, _<_}
+use mathlib.Core.Path.{_≡_, refl, sym, ap, ap₂, _∙_, subst}
+use mathlib.Core.Logic.{_⊎_, inl, inr, ⊎-elim}
+use mathlib.Core.Bool.{Bool, true, false, true≢false}
+use mathlib.Core.Option.{Option, none, some}
+use mathlib.Core.List.{List}
+use native.Mathlib.Omega.{arith}
+use lib.ListN.{length, getD}
+use lib.Dec.{leb}
+use borrow.Author.Tests.{eqb-true, lt-ltb, ltb-true, le-leb, leb-true, leb-false}
+use Rattle.base.proofs.TestLaws.{and-left, and-right, and-of, or-cases, or-left, or-right, true-or-false}
+use Rattle.base.proofs.FirstLaws.{some-not-none}
+use Rattle.base.proofs.ListLaws.{getD-inside}
+use Rattle.model.specs.Map.{Map, view, tableSize, words}
+use Rattle.model.specs.Scheme.{left, right, orbitDim, has, deleted, preserved, added}
+use Rattle.model.specs.Conditions.{Arc, absent, explicit, implicit, arcAt}
+use Rattle.model.specs.Orbit.{orbit}
+use Rattle.model.specs.Edit.{Pair, dartOf, pairOf, edited}
+use Rattle.model.specs.declared.Scheme.{Scheme}
+use Rattle.model.proofs.MapLaws.{words-are}
+use Rattle.model.proofs.AcceptedLaws.{small, kind-cases, side-cases}
+use Rattle.model.proofs.ArcLaws.{explicit-end, implicit-from, absent-from}
+use Rattle.model.proofs.OrbitLaws.{orbit-slot}
+use Rattle.model.proofs.KeepLaws.{right-stays, preserved-left, preserved-not-added}
+use Rattle.model.proofs.EditLaws as E
+use Rattle.table.specs.Words.{wordAt}
+use Rattle.table.proofs.WordLaws.{word-state, word-link, word-tag}
+use Rattle.edit.specs.Store.{mark, place, next, among}
+use Rattle.edit.specs.Phases.{arcCode, AddedDart}
+use Rattle.edit.specs.Links.{relinked, cleared, Slots, Turns, Legible, Columns, Codes, Ready}
+use Rattle.edit.proofs.WriteLaws.{pairDart, Different, relinked-long, relinked-leaves, relinked-node, relinked-position, relinked-none, cleared-long, cleared-leaves, cleared-sets}
+
+module _ {slots : ℕ} {table store : List ℕ} {size : ℕ} {kinds codes : List ℕ} {c : ℕ} {cols : List ℕ}
+    (R : Ready slots table store size kinds codes c cols) where
+  abbrev S : Scheme
+  S = R .scheme
+
+  abbrev m : Map
+  m = view slots (R .before)
+
+  abbrev O : ℕ → Bool
+  O = orbit m (S .places) (orbitDim S) (R .dart)
+
+  abbrev new : Map
+  new = edited m S O
+
+  -- the dart of a pair, by the orbit dart and by its place
+  abbrev D : ℕ → ℕ → ℕ
+  D u v = dartOf m S O u v
+
+  abbrev dart : ℕ → ℕ → ℕ
+  dart v r = pairDart slots store size cols v r
+
+  abbrev P : ℕ → ℕ
+  P r = place slots store r
+
+  slot : (u : ℕ) → O u ≡ true → u < slots
+  slot = orbit-slot m (S .places) (orbitDim S) (R .dart)
+
+  sides : (v : ℕ) → v < S .nodes → (has S left v ≡ true) ⊎ (added S v ≡ true)
+  sides = side-cases S (R .accepted .formed)
+
+  node : {v : ℕ} → v < c → v < S .nodes
+  node {v} h = subst (λ (n : ℕ). v < n) (R .nodes) h
+
+  counted : {v : ℕ} → v < S .nodes → v < c
+  counted {v} h = subst (λ (n : ℕ). v < n) (sym (R .nodes)) h
+
+  -- ---- the orbit's darts by place
+
+  place-in : (r : ℕ) → r < size → O (P r) ≡ true
+  unfolding among
+  place-in r h =
+      let b = R .walked .back r h in
+      sym (R .walked .is (P r) (R .walked .slot r h))
+      ∙ and-of (lt-ltb 0 (mark store (P r)) (omega arith)) (le-leb (mark store (P r)) size (omega arith))
+
+  place-of : (u : ℕ) → O u ≡ true → (r : ℕ) × (r < size) × (P r ≡ u)
+  unfolding among
+  place-of u e =
+      let h = slot u e in
+      let a = R .walked .is u h ∙ e in
+      let low = ltb-true 0 (mark store u) (and-left _ _ a) in
+      let high = leb-true (mark store u) size (and-right _ _ a) in
+      (mark store u - 1, omega arith, R .walked .found u h a)
+
+  place-once : (q r : ℕ) → q < size → r < size → P q ≡ P r → q ≡ r
+  place-once q r h l e =
+      let a = R .walked .back q h in
+      let b = R .walked .back r l in
+      let same = ap (mark store) e in
+      omega arith
+
+  dart-is : (v r : ℕ) → v < S .nodes → r < size → dart v r ≡ D (P r) v
+  dart-is = R .darts .dart
+
+  different : Different slots store size cols c
+  different = record {
+    slot = λ v r hv hr. subst (λ (x : ℕ). x < slots) (sym (dart-is v r (node hv) hr))
+        (E.dart-slot m S O slot sides (R .match) (R .room) (P r) v (place-in r hr) (node hv));
+    once = λ v q w r hv hq hw hr e.
+        let d = E.dart-injective m S O slot sides (R .match) (R .room) (P q) v (P r) w (place-in q hq) (place-in r hr) (node hv) (node hw)
+        (sym (dart-is v q (node hv) hq) ∙ e ∙ dart-is w r (node hw) hr) in
+        (d .1, place-once q r hq hr (d .0));
+  }
+
+  -- ---- what makes the loops safe
+
+  pub columns : Columns slots store size c cols
+  columns = record {
+    few = let few = R .accepted .formed .nodesFew in let same = R .nodes in omega arith;
+    at = λ v h. record {
+      inside = let i = R .darts .inside v (node h) .1 in let long = R .stored in omega arith;
+      slot = λ r b. different .slot v r h b;
+    };
+  }
+
+  legible : (v i : ℕ) → v < S .nodes → (a : Arc) → arcAt S right v i ≡ a → Legible slots store size cols (arcCode a)
+  legible v i h absent e = record { node = λ l. absurd (omega arith); position = λ l k. absurd (omega arith) }
+  legible v i h (explicit t) e =
+      let b = explicit-end S right (R .accepted .sides right) v i t e .0 in
+      let few = R .accepted .formed .nodesFew in
+      let long = R .stored in
+      record { node = λ l. let w = R .darts .inside t b .1 in omega arith; position = λ l k. absurd (omega arith) }
+  legible v i h (implicit p) e =
+      let b = implicit-from S right v i p e .0 in
+      let same : p ≡ 16 + p - 16 = omega arith in
+      record {
+        node = λ l. absurd (omega arith);
+        position = λ l k. subst (Turns slots store size) same record {
+          long = R .stored;
+          fits = R .walked .fits;
+          position = let few = R .accepted .formed .placesFew in let n3 = small S (R .accepted .formed) in omega arith;
+          place = λ r w. R .walked .links r p w b .0;
+        };
+      }
+
+  code-is : (v i : ℕ) → v < S .nodes → i < 4 → getD codes (4 * v + i) 0 ≡ arcCode (arcAt S right v i)
+  code-is v i h l =
+      let few = R .accepted .formed .nodesFew in
+      let long = R .lettered in
+      getD-inside codes (4 * v + i) 0 255 (omega arith) ∙ R .coded .at v i h l
+
+  pub coding : Codes slots store size codes c cols
+  coding = record {
+    at = λ k h.
+        let v : k / 4 < S .nodes = node (omega arith) in
+        let same : 4 * (k / 4) + k % 4 ≡ k = omega arith in
+        subst (Legible slots store size cols) (sym (code-is (k / 4) (k % 4) v (omega arith)) ∙ ap (λ (j : ℕ). getD codes j 0) same)
+        (legible (k / 4) (k % 4) v (arcAt S right (k / 4) (k % 4)) refl);
+  }
+
+  -- ---- the table after the loops
+
+  abbrev linked : List ℕ
+  linked = relinked slots store size cols codes (4 * c) table
+
+  abbrev after : List ℕ
+  after = cleared slots store size cols kinds c linked
+
+  linked-long : length linked ≡ tableSize slots
+  linked-long = relinked-long slots store size cols codes (4 * c) table (R .sized .long)
+
+  after-long : length after ≡ tableSize slots
+  after-long = cleared-long slots store size cols kinds c linked linked-long
+
+  -- the pair of a dart is found
+  not-none : (u v : ℕ) → O u ≡ true → v < S .nodes → pairOf m S O (D u v) ≡ none → ⊥
+  not-none u v e h n = some-not-none (E.pair-of m S O slot sides (R .match) (R .room) u v e h) n
+
+  -- a slot that is no pair's dart
+  untouched : (x : ℕ) → pairOf m S O x ≡ none → (d : ℕ) → d < 6 → wordAt after x d ≡ wordAt (R .before) x d
+  untouched x e d h =
+      cleared-leaves slots store size cols kinds c x d h (λ v r hv k hr w. off v r hv hr w) linked linked-long
+      ∙ relinked-leaves slots store size cols codes (4 * c) x d h (λ k r hk hr w z. off (k / 4) r (omega arith) hr w) table (R .sized .long)
+      ∙ R .given .other x d h (λ a. not-none (a .dart) (a .node) (a .inOrbit) (a .below) (ap (pairOf m S O) (a .same) ∙ e))
+    where
+      off : (v r : ℕ) → v < c → r < size → dart v r ≡ x → ⊥
+      off v r hv hr w = not-none (P r) v (place-in r hr) (node hv) (ap (pairOf m S O) (sym (dart-is v r (node hv) hr) ∙ w) ∙ e)
