@@ -35,7 +35,7 @@ digits A q r v t h l e = (same, add-left-cancel (q * A) (e ∙ ap (λ (z : ℕ).
 abbrev pair : ℕ → ℕ → Pair
 pair u s = record { dart = u; node = s }
 
-left-not-added : (S : Scheme) (s : ℕ) → has S left s ≡ true → added S s ≡ false
+pub left-not-added : (S : Scheme) (s : ℕ) → has S left s ≡ true → added S s ≡ false
 left-not-added S s e = ⊎-elim
     (λ q. let k = eqb-true (kind S s) 1 q in ne-eqb (kind S s) 3 (λ z. omega arith))
     (λ q. let k = eqb-true (kind S s) 2 q in ne-eqb (kind S s) 3 (λ z. omega arith))
