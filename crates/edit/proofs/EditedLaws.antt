@@ -30,7 +30,7 @@ use Rattle.table.specs.Words.{wordAt}
 use Rattle.table.proofs.WordLaws.{word-state, word-link, word-tag}
 use Rattle.edit.specs.Store.{mark, place, next, among}
 use Rattle.edit.specs.Phases.{arcCode, AddedDart}
-use Rattle.edit.specs.Links.{relinked, cleared, Slots, Turns, Legible, Columns, Codes, Ready}
+use Rattle.edit.specs.Links.{relinked, cleared, Slots, Turns, Legible, Columns, Codes, Ready, editedBy}
 use Rattle.edit.proofs.WriteLaws.{pairDart, Different, relinked-long, relinked-leaves, relinked-node, relinked-position, relinked-none, cleared-long, cleared-leaves, cleared-sets}
 
 module _ {slots : ℕ} {table store : List ℕ} {size : ℕ} {kinds codes : List ℕ} {c : ℕ} {cols : List ℕ}
@@ -314,13 +314,13 @@ module _ {slots : ℕ} {table store : List ℕ} {size : ℕ} {kinds codes : List
       (gone v r hv hr k 5 (omega arith) ∙ sym (E.tag-deleted m S O slot sides (R .match) (R .room) (P r) v (place-in r hr) hv k))
   tag-is x (rightPair v r hv hr k e) = subst (λ (y : ℕ). wordAt after y 5 ≡ new .tag y) e (tag-stays v r hv hr k)
 
-  same-slots : slots ≡ new .slots
-  unfolding edited
-  same-slots = refl
-
-  pub edited-words : after ≡ words new
+  edited-words : after ≡ words new
   unfolding edited
   edited-words = words-are new after after-long
       (λ x h. sym (word-state slots after x) ∙ state-is x (role x))
       (λ i x l h. sym (word-link slots after x i) ∙ link-is i x l (role x))
       (λ x h. sym (word-tag slots after x) ∙ tag-is x (role x))
+
+  pub rewritten : (t t′ : List ℕ) → t ≡ relinked slots store size cols codes (4 * c) table → t′ ≡ cleared slots store size cols kinds c t
+      → t′ ≡ words (editedBy R)
+  rewritten t t′ e f = f ∙ ap (cleared slots store size cols kinds c) e ∙ edited-words

@@ -102,3 +102,8 @@ pub record Ready (slots : ℕ) (table store : List ℕ) (size : ℕ) (kinds code
   pub kinded : kinds ≡ scheme .kinds
   pub coded : Coded scheme right codes
   pub lettered : length codes ≡ 64
+
+-- the map after the edit
+abbrev pub editedBy : {slots : ℕ} {table store : List ℕ} {size : ℕ} {kinds codes : List ℕ} {c : ℕ} {cols : List ℕ}
+    → Ready slots table store size kinds codes c cols → Map
+editedBy {slots} R = edited (view slots (R .before)) (R .scheme) (orbit (view slots (R .before)) (R .scheme .places) (orbitDim (R .scheme)) (R .dart))

@@ -5,9 +5,10 @@ use table::words::put;
 ghost use mathlib.Core.Path.{_≡_};
 ghost use Prim.Native.Nat.{_+_, _*_, _≤_, _<_};
 ghost use lib.ListN.{length, getD};
+ghost use Rattle.model.specs.Map.{words};
 ghost use Rattle.table.specs.Words.{Sized};
 ghost use Rattle.edit.specs.Store.{next, dartAt};
-ghost use Rattle.edit.specs.Links.{column, zeroed, erased, followed, relinked, cleared, Slots, Turns, Legible, Columns, Codes};
+ghost use Rattle.edit.specs.Links.{column, zeroed, erased, followed, relinked, cleared, Slots, Turns, Legible, Columns, Codes, Ready, editedBy};
 
 // Column c of the darts of one node becomes the darts of another node, for the same orbit darts.
 fn join(slots: usize, table: &mut [u32], store: &[u32], size: usize, c: usize, from: usize, to: usize)
@@ -116,4 +117,14 @@ fn clear(slots: usize, table: &mut [u32], store: &[u32], size: usize, kinds: &[u
         }
         v += 1;
     }
+}
+
+// The table after the edit, from the table with the darts of the added pairs.
+pub(crate) fn rewrite(slots: usize, table: &mut [u32], store: &[u32], size: usize, kinds: &[u8; 16], codes: &[u8; 64], c: usize, cols: &[usize; 16])
+    requires { ⌜ Ready slots (now table) (now store) size (now kinds) (now codes) c (now cols) ⌝ }
+    ensures { λ _. ⌜ ((R : Ready slots (now (table .entry)) (now (store .entry)) size (now (kinds .entry)) (now (codes .entry)) c (now (cols .entry)))
+        → now (table .exit) ≡ words (editedBy R)) ⌝ }
+{
+    relink(slots, table, store, size, codes, c, cols);
+    clear(slots, table, store, size, kinds, c, cols);
 }
