@@ -1,9 +1,9 @@
 -- After the loops of the phase `links` the table is that of the edited map: slot by slot and column by column, the word that stands
 -- there is the model's. The darts of all pairs are different slots, so each word is written once.
 -- Assumes nothing.
-use Prim.Native.Nat.{ℕ, _+_, _*_, _-_, _/_, _%_, _≤_, _<_}
-use mathlib.Core.Path.{_≡_, refl, sym, ap, ap₂, _∙_, subst}
-use mathlib.Core.Logic.{_⊎_, inl, inr, ⊎-elim}
+use Prim.Native.Nat.{ℕ, _+_, _*_, _-_, _/_, _%_, _<_}
+use mathlib.Core.Path.{_≡_, refl, sym, ap, _∙_, subst}
+use mathlib.Core.Logic.{_⊎_, ⊎-elim}
 use mathlib.Core.Bool.{Bool, true, false, true≢false}
 use mathlib.Core.Option.{Option, none, some}
 use mathlib.Core.List.{List}
@@ -11,26 +11,24 @@ use native.Mathlib.Omega.{arith}
 use lib.ListN.{length, getD}
 use lib.Dec.{leb}
 use borrow.Author.Tests.{eqb-true, eq-eqb, lt-ltb, ltb-true, le-leb, leb-true, leb-false}
-use Rattle.base.proofs.TestLaws.{and-left, and-right, and-of, or-cases, or-left, or-right, true-or-false}
+use Rattle.base.proofs.TestLaws.{and-left, and-right, and-of, true-or-false}
 use Rattle.base.proofs.FirstLaws.{some-not-none}
 use Rattle.base.proofs.ListLaws.{getD-inside}
 use Rattle.model.specs.Map.{Map, view, tableSize, words}
-use Rattle.model.specs.Scheme.{left, right, orbitDim, has, deleted, preserved, added}
+use Rattle.model.specs.Scheme.{left, right, orbitDim, has, deleted, added}
 use Rattle.model.specs.Conditions.{Arc, absent, explicit, implicit, arcAt}
-use Rattle.model.specs.Orbit.{orbit}
 use Rattle.model.specs.Edit.{Pair, dartOf, pairOf, edited}
 use Rattle.model.specs.declared.Scheme.{Scheme}
 use Rattle.model.proofs.MapLaws.{words-are}
-use Rattle.model.proofs.AcceptedLaws.{small, kind-cases, side-cases}
+use Rattle.model.proofs.AcceptedLaws.{small, side-cases}
 use Rattle.model.proofs.ArcLaws.{explicit-end, implicit-from, absent-from}
 use Rattle.model.proofs.OrbitLaws.{orbit-slot}
-use Rattle.model.proofs.KeepLaws.{right-stays, preserved-left, preserved-not-added}
 use Rattle.model.proofs.EditLaws as E
 use Rattle.table.specs.Words.{wordAt}
 use Rattle.table.proofs.WordLaws.{word-state, word-link, word-tag}
 use Rattle.edit.specs.Store.{mark, place, next, among}
-use Rattle.edit.specs.Phases.{arcCode, AddedDart}
-use Rattle.edit.specs.Links.{relinked, cleared, Slots, Turns, Legible, Columns, Codes, Ready, editedBy}
+use Rattle.edit.specs.Phases.{arcCode}
+use Rattle.edit.specs.Links.{orbitFor, relinked, cleared, Turns, Legible, Columns, Codes, Ready, editedBy}
 use Rattle.edit.proofs.WriteLaws.{pairDart, Different, relinked-long, relinked-leaves, relinked-node, relinked-position, relinked-none, cleared-long, cleared-leaves, cleared-sets}
 
 module _ {slots : ℕ} {table store : List ℕ} {size : ℕ} {kinds codes : List ℕ} {c : ℕ} {cols : List ℕ}
@@ -42,7 +40,7 @@ module _ {slots : ℕ} {table store : List ℕ} {size : ℕ} {kinds codes : List
   m = view slots (R .before)
 
   abbrev O : ℕ → Bool
-  O = orbit m (S .places) (orbitDim S) (R .dart)
+  O = orbitFor m S (R .dart)
 
   abbrev new : Map
   new = edited m S O

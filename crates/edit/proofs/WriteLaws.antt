@@ -146,14 +146,13 @@ module _ (N : ℕ) where
           (λ j s l ne o. followed-leaves (1 + j % 4) _ _ (pairDart v r) (1 + i) (omega arith) (omega arith)
           (λ q b w z. let same = D .once (j / 4) q v r (omega arith) b hv hr w .0 in ne (omega arith)) s o)
           g
-          (λ s o. subst (λ (a : ℕ). wordAt (followed N store size cols (1 + a) (getD cols ((4 * v + i) / 4) 0) (getD codes (4 * v + i) 0) s) (pairDart v r) (1 + i) ≡ g (wordAt s (pairDart v r) (1 + i))) rest
-          (subst (λ (a : ℕ). wordAt (followed N store size cols (1 + i) (getD cols a 0) (getD codes (4 * v + i) 0) s) (pairDart v r) (1 + i) ≡ g (wordAt s (pairDart v r) (1 + i))) quotient (one s o)))
+          (λ s o. rw (quotient, rest) (one s o))
           t e
         where
-          quotient : v ≡ (4 * v + i) / 4
+          quotient : (4 * v + i) / 4 ≡ v
           quotient = omega arith
 
-          rest : i ≡ (4 * v + i) % 4
+          rest : (4 * v + i) % 4 ≡ i
           rest = omega arith
 
       module _ (code : ℕ) (is : getD codes (4 * v + i) 0 ≡ code) (t : List ℕ) (e : Long t) where

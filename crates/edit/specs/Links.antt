@@ -8,8 +8,7 @@ use lib.ListN.{length, getD}
 use lib.Dec.{eqb, ltb}
 use Rattle.base.specs.Below.{count}
 use Rattle.base.specs.Steps.{steps}
-use Rattle.model.specs.Map.{Map, view, tableSize, unused}
-use Rattle.model.specs.WellFormed.{WellFormed}
+use Rattle.model.specs.Map.{Map, view, unused}
 use Rattle.model.specs.Scheme.{right, orbitDim}
 use Rattle.model.specs.Accepted.{Accepted}
 use Rattle.model.specs.Orbit.{orbit}
@@ -83,6 +82,10 @@ pub record Codes (N : ℕ) (store : List ℕ) (size : ℕ) (codes : List ℕ) (c
 
 -- ---- what the phase is handed
 
+-- the orbit of a dart for the orbit type of a scheme
+abbrev pub orbitFor : Map → Scheme → ℕ → ℕ → Bool
+orbitFor m S d = orbit m (S .places) (orbitDim S) d
+
 -- the scheme, the dart of the edit and the table before it, with what the earlier phases found and left
 pub record Ready (slots : ℕ) (table store : List ℕ) (size : ℕ) (kinds codes : List ℕ) (c : ℕ) (cols : List ℕ) : Type 0 where
   pub scheme : Scheme
@@ -91,13 +94,11 @@ pub record Ready (slots : ℕ) (table store : List ℕ) (size : ℕ) (kinds code
   pub accepted : Accepted scheme
   pub sized : Sized slots table
   pub stored : length store ≡ 16 * slots
-  pub long : length before ≡ tableSize slots
-  pub formed : WellFormed (scheme .n) (view slots before)
   pub walked : Walked (view slots before) (scheme .places) (orbitDim scheme) dart store size
-  pub darts : Darts (view slots before) scheme (orbit (view slots before) (scheme .places) (orbitDim scheme) dart) store cols size
-  pub match : Assignment (view slots before) scheme (orbit (view slots before) (scheme .places) (orbitDim scheme) dart) (image (view slots before) scheme)
-  pub room : addedDarts (view slots before) scheme (orbit (view slots before) (scheme .places) (orbitDim scheme) dart) ≤ count slots (unused (view slots before))
-  pub given : Given (view slots before) scheme (orbit (view slots before) (scheme .places) (orbitDim scheme) dart) before table
+  pub darts : Darts (view slots before) scheme (orbitFor (view slots before) scheme dart) store cols size
+  pub match : Assignment (view slots before) scheme (orbitFor (view slots before) scheme dart) (image (view slots before) scheme)
+  pub room : addedDarts (view slots before) scheme (orbitFor (view slots before) scheme dart) ≤ count slots (unused (view slots before))
+  pub given : Given (view slots before) scheme (orbitFor (view slots before) scheme dart) before table
   pub nodes : c ≡ scheme .nodes
   pub kinded : kinds ≡ scheme .kinds
   pub coded : Coded scheme right codes
@@ -106,4 +107,4 @@ pub record Ready (slots : ℕ) (table store : List ℕ) (size : ℕ) (kinds code
 -- the map after the edit
 abbrev pub editedBy : {slots : ℕ} {table store : List ℕ} {size : ℕ} {kinds codes : List ℕ} {c : ℕ} {cols : List ℕ}
     → Ready slots table store size kinds codes c cols → Map
-editedBy {slots} R = edited (view slots (R .before)) (R .scheme) (orbit (view slots (R .before)) (R .scheme .places) (orbitDim (R .scheme)) (R .dart))
+editedBy {slots} R = edited (view slots (R .before)) (R .scheme) (orbitFor (view slots (R .before)) (R .scheme) (R .dart))

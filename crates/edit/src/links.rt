@@ -11,7 +11,15 @@ ghost use Rattle.edit.specs.Store.{next, dartAt};
 ghost use Rattle.edit.specs.Links.{column, zeroed, erased, followed, relinked, cleared, Slots, Turns, Legible, Columns, Codes, Ready, editedBy};
 
 // Column c of the darts of one node becomes the darts of another node, for the same orbit darts.
-fn join(slots: usize, table: &mut [u32], store: &[u32], size: usize, c: usize, from: usize, to: usize)
+fn join(
+    slots: usize,
+    table: &mut [u32],
+    store: &[u32],
+    size: usize,
+    c: usize,
+    from: usize,
+    to: usize,
+)
     requires { ⌜ Sized slots (now table) ⌝ }
     requires { ⌜ Slots slots (now store) from size ⌝ }
     requires { ⌜ (to + size ≤ length (now store)) × (c < 6) ⌝ }
@@ -26,7 +34,15 @@ fn join(slots: usize, table: &mut [u32], store: &[u32], size: usize, c: usize, f
 }
 
 // Column c of the darts of one node becomes the node's darts for the orbit darts to which the links at position p lead.
-fn turn(slots: usize, table: &mut [u32], store: &[u32], size: usize, c: usize, base: usize, p: usize)
+fn turn(
+    slots: usize,
+    table: &mut [u32],
+    store: &[u32],
+    size: usize,
+    c: usize,
+    base: usize,
+    p: usize,
+)
     requires { ⌜ Sized slots (now table) ⌝ }
     requires { ⌜ Slots slots (now store) base size ⌝ }
     requires { ⌜ Turns slots (now store) size p ⌝ }
@@ -76,7 +92,16 @@ fn wide(code: u8) -> usize
 }
 
 // Column c of the darts of the node whose column of the store begins at `base`, by the code of an arc.
-fn follow(slots: usize, table: &mut [u32], store: &[u32], size: usize, c: usize, base: usize, code: usize, cols: &[usize; 16])
+fn follow(
+    slots: usize,
+    table: &mut [u32],
+    store: &[u32],
+    size: usize,
+    c: usize,
+    base: usize,
+    code: usize,
+    cols: &[usize; 16],
+)
     requires { ⌜ Sized slots (now table) ⌝ }
     requires { ⌜ Slots slots (now store) base size ⌝ }
     requires { ⌜ Legible slots (now store) size (now cols) code ⌝ }
@@ -91,7 +116,15 @@ fn follow(slots: usize, table: &mut [u32], store: &[u32], size: usize, c: usize,
 }
 
 // The links of the darts of all pairs, by the codes of the right arcs.
-fn relink(slots: usize, table: &mut [u32], store: &[u32], size: usize, codes: &[u8; 64], c: usize, cols: &[usize; 16])
+fn relink(
+    slots: usize,
+    table: &mut [u32],
+    store: &[u32],
+    size: usize,
+    codes: &[u8; 64],
+    c: usize,
+    cols: &[usize; 16],
+)
     requires { ⌜ Sized slots (now table) ⌝ }
     requires { ⌜ Columns slots (now store) size c (now cols) ⌝ }
     requires { ⌜ Codes slots (now store) size (now codes) c (now cols) ⌝ }
@@ -99,13 +132,30 @@ fn relink(slots: usize, table: &mut [u32], store: &[u32], size: usize, codes: &[
 {
     let mut k = 0;
     while k < 4 * c {
-        follow(slots, table, store, size, 1 + k % 4, cols[k / 4], wide(codes[k]), cols);
+        follow(
+            slots,
+            table,
+            store,
+            size,
+            1 + k % 4,
+            cols[k / 4],
+            wide(codes[k]),
+            cols,
+        );
         k += 1;
     }
 }
 
 // The records of the darts of deleted nodes become zeros.
-fn clear(slots: usize, table: &mut [u32], store: &[u32], size: usize, kinds: &[u8; 16], c: usize, cols: &[usize; 16])
+fn clear(
+    slots: usize,
+    table: &mut [u32],
+    store: &[u32],
+    size: usize,
+    kinds: &[u8; 16],
+    c: usize,
+    cols: &[usize; 16],
+)
     requires { ⌜ Sized slots (now table) ⌝ }
     requires { ⌜ Columns slots (now store) size c (now cols) ⌝ }
     ensures { λ _. ⌜ now (table .exit) ≡ cleared slots (now (store .entry)) size (now (cols .entry)) (now (kinds .entry)) c (now (table .entry)) ⌝ }
@@ -120,7 +170,16 @@ fn clear(slots: usize, table: &mut [u32], store: &[u32], size: usize, kinds: &[u
 }
 
 // The table after the edit, from the table with the darts of the added pairs.
-pub(crate) fn rewrite(slots: usize, table: &mut [u32], store: &[u32], size: usize, kinds: &[u8; 16], codes: &[u8; 64], c: usize, cols: &[usize; 16])
+pub(crate) fn rewrite(
+    slots: usize,
+    table: &mut [u32],
+    store: &[u32],
+    size: usize,
+    kinds: &[u8; 16],
+    codes: &[u8; 64],
+    c: usize,
+    cols: &[usize; 16],
+)
     requires { ⌜ Ready slots (now table) (now store) size (now kinds) (now codes) c (now cols) ⌝ }
     ensures { λ _. ⌜ ((R : Ready slots (now (table .entry)) (now (store .entry)) size (now (kinds .entry)) (now (codes .entry)) c (now (cols .entry)))
         → now (table .exit) ≡ words (editedBy R)) ⌝ }

@@ -35,7 +35,7 @@ module _ (S : Scheme) (s : ℕ) where
   kind-not : (a b : ℕ) → (a ≡ b → ⊥) → eqb (kind S s) a ≡ true → eqb (kind S s) b ≡ false
   kind-not a b ne e = ne-eqb (kind S s) b (λ q. ne (sym (eqb-true _ _ e) ∙ q))
 
-  pub right-stays : has S right s ≡ true → deleted S s ≡ false
+  right-stays : has S right s ≡ true → deleted S s ≡ false
   right-stays e = ⊎-elim (kind-not 2 1 (λ q. omega arith)) (kind-not 3 1 (λ q. omega arith)) (or-cases _ _ e)
 
   both-preserved : has S left s ≡ true → has S right s ≡ true → preserved S s ≡ true
@@ -44,13 +44,13 @@ module _ (S : Scheme) (s : ℕ) where
       (λ e. e)
       (or-cases _ _ l)
 
-  pub preserved-left : preserved S s ≡ true → has S left s ≡ true
+  preserved-left : preserved S s ≡ true → has S left s ≡ true
   preserved-left e = or-right _ e
 
   preserved-right : preserved S s ≡ true → has S right s ≡ true
   preserved-right e = or-left _ e
 
-  pub preserved-not-added : preserved S s ≡ true → added S s ≡ false
+  preserved-not-added : preserved S s ≡ true → added S s ≡ false
   preserved-not-added e = kind-not 2 3 (λ q. omega arith) e
 
 module _ (m : Map) (S : Scheme) (O : ℕ → Bool) (w : WellFormed (S .n) m) (g : Accepted S) (o : GoodOrbit m S O)

@@ -7,9 +7,6 @@ use Rattle.edit.specs.Links.{zeroed}
 use Rattle.edit.proofs.LinkLaws.{Stage, stage-none, stage-more, stage-length, stage-done}
 use Rattle.edit.proofs.links.blank.Statement.{statement}
 use Rattle.edit.proofs.links.blank.Tie as tie
-use Rattle.edit.proofs.links.blank.Reads as reads
-use Rattle.edit.proofs.links.blank.Lts as lts
-use Rattle.table.proofs.words.put.Reads as put-reads
 
 abbrev Inv-loop : tie.InvT-loop
 Inv-loop slots table₀ x c₀ table c = Stage slots table₀ (λ k t. put t x k 0) 6 c table

@@ -3,16 +3,12 @@
 use Prim.Native.Nat.{_-_}
 use mathlib.Core.Path.{ap, _∙_}
 use mathlib.Core.Logic.{⊎-elim}
-use native.Mathlib.Omega.{arith}
 use lib.ListN.{length, getD}
 use borrow.Author.Needs.{needs}
 use Rattle.edit.specs.Links.{clearedBy, cleared}
 use Rattle.edit.proofs.LinkLaws.{Stage, stage-none, stage-more, stage-length, stage-done, by-deleted, by-other}
 use Rattle.edit.proofs.links.clear.Statement.{statement}
 use Rattle.edit.proofs.links.clear.Tie as tie
-use Rattle.edit.proofs.links.clear.Reads as reads
-use Rattle.edit.proofs.links.clear.Lts as lts
-use Rattle.edit.proofs.links.erase.Reads as erase-reads
 
 abbrev Inv-loop : tie.InvT-loop
 Inv-loop slots table₀ store size kinds c cols v₀ table v =

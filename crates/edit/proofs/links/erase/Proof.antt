@@ -1,18 +1,12 @@
 -- `edit::links::erase` meets its contract. The loop's invariant: the records of the first r darts are zero.
 -- Assumes nothing.
 use Prim.Native.Nat.{_-_}
-use mathlib.Core.Path.{ap, _∙_}
-use mathlib.Core.List.{List}
 use borrow.Author.Needs.{needs}
 use Rattle.edit.specs.Store.{dartAt}
 use Rattle.edit.specs.Links.{zeroed, erased}
 use Rattle.edit.proofs.LinkLaws.{Stage, stage-none, stage-more, stage-length, stage-done, slot-at, zeroed-at}
 use Rattle.edit.proofs.links.erase.Statement.{statement}
 use Rattle.edit.proofs.links.erase.Tie as tie
-use Rattle.edit.proofs.links.erase.Reads as reads
-use Rattle.edit.proofs.links.erase.Lts as lts
-use Rattle.edit.proofs.links.blank.Reads as blank-reads
-use Rattle.edit.proofs.store.word.Reads as word-reads
 
 abbrev Inv-loop : tie.InvT-loop
 Inv-loop slots table₀ store size base r₀ table r = Stage slots table₀ (λ k. zeroed (dartAt store base k)) size r table

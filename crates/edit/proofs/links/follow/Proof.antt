@@ -5,10 +5,6 @@ use borrow.Author.Needs.{needs}
 use Rattle.edit.proofs.LinkLaws.{by-node, by-position, by-none}
 use Rattle.edit.proofs.links.follow.Statement.{statement}
 use Rattle.edit.proofs.links.follow.Tie as tie
-use Rattle.edit.proofs.links.follow.Reads as reads
-use Rattle.edit.proofs.links.follow.Lts as lts
-use Rattle.edit.proofs.links.join.Reads as join-reads
-use Rattle.edit.proofs.links.turn.Reads as turn-reads
 
 mul-join : tie.Need-mul-join
 mul-join c = search needs

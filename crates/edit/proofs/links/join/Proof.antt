@@ -9,10 +9,6 @@ use Rattle.edit.specs.Links.{column}
 use Rattle.edit.proofs.LinkLaws.{Stage, stage-none, stage-more, stage-length, stage-done, put-at, slot-at}
 use Rattle.edit.proofs.links.join.Statement.{statement}
 use Rattle.edit.proofs.links.join.Tie as tie
-use Rattle.edit.proofs.links.join.Reads as reads
-use Rattle.edit.proofs.links.join.Lts as lts
-use Rattle.edit.proofs.store.word.Reads as word-reads
-use Rattle.table.proofs.words.put.Reads as put-reads
 
 abbrev Inv-loop : tie.InvT-loop
 Inv-loop slots table₀ store size c from to r₀ table r =

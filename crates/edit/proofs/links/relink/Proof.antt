@@ -4,14 +4,10 @@ use Prim.Native.Nat.{_+_, _*_, _-_, _/_, _%_}
 use native.Mathlib.Omega.{arith}
 use lib.ListN.{getD}
 use borrow.Author.Needs.{needs}
-use Rattle.edit.specs.Links.{followed, relinked, Legible}
+use Rattle.edit.specs.Links.{followed, relinked}
 use Rattle.edit.proofs.LinkLaws.{Stage, stage-none, stage-more, stage-length, stage-done, followed-at}
 use Rattle.edit.proofs.links.relink.Statement.{statement}
 use Rattle.edit.proofs.links.relink.Tie as tie
-use Rattle.edit.proofs.links.relink.Reads as reads
-use Rattle.edit.proofs.links.relink.Lts as lts
-use Rattle.edit.proofs.links.follow.Reads as follow-reads
-use Rattle.edit.proofs.links.wide.Reads as wide-reads
 
 abbrev Inv-loop : tie.InvT-loop
 Inv-loop slots table₀ store size codes c cols k₀ table k =
@@ -44,9 +40,10 @@ wide-requires c κs = search needs
 follow-requires : tie.Need-follow-requires Inv-loop μ-loop
 follow-requires c κs =
     let l = c .before .before .before .before .before in
-    let pre = l .before .before .before .pre in
-    (l .loop .inv .sized,
-    (pre .1 .0 .at _ (omega arith), (rw (c .wide .ensures) (pre .1 .1 .at _ (omega arith)), omega arith)))
+    let pre = l .before .before .before .pre in (
+      l .loop .inv .sized,
+      (pre .1 .0 .at _ (omega arith), (rw (c .wide .ensures) (pre .1 .1 .at _ (omega arith)), omega arith)),
+    )
 
 add-k : tie.Need-add-k Inv-loop μ-loop
 add-k c = search needs

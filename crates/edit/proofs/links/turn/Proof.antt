@@ -10,10 +10,6 @@ use Rattle.edit.specs.Links.{column}
 use Rattle.edit.proofs.LinkLaws.{Stage, stage-none, stage-more, stage-length, stage-done, put-at, slot-at, place-at, turned-at}
 use Rattle.edit.proofs.links.turn.Statement.{statement}
 use Rattle.edit.proofs.links.turn.Tie as tie
-use Rattle.edit.proofs.links.turn.Reads as reads
-use Rattle.edit.proofs.links.turn.Lts as lts
-use Rattle.edit.proofs.store.word.Reads as word-reads
-use Rattle.table.proofs.words.put.Reads as put-reads
 
 abbrev Inv-loop : tie.InvT-loop
 Inv-loop slots table₀ store size c base p r₀ table r =
