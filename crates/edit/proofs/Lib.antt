@@ -1,2 +1,5 @@
 pub mod StoreLaws
 pub mod WalkLaws
+pub mod LinkLaws
+pub mod WriteLaws
+pub mod EditedLaws

@@ -2,3 +2,4 @@ pub mod Store
 pub mod Places
 pub mod Walk
 pub mod Phases
+pub mod Links

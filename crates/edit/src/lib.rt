@@ -1,3 +1,4 @@
 // Applying a scheme at a dart.
 mod orbit;
+mod links;
 mod store;

@@ -35,7 +35,7 @@ digits A q r v t h l e = (same, add-left-cancel (q * A) (e ∙ ap (λ (z : ℕ).
 abbrev pair : ℕ → ℕ → Pair
 pair u s = record { dart = u; node = s }
 
-left-not-added : (S : Scheme) (s : ℕ) → has S left s ≡ true → added S s ≡ false
+pub left-not-added : (S : Scheme) (s : ℕ) → has S left s ≡ true → added S s ≡ false
 left-not-added S s e = ⊎-elim
     (λ q. let k = eqb-true (kind S s) 1 q in ne-eqb (kind S s) 3 (λ z. omega arith))
     (λ q. let k = eqb-true (kind S s) 2 q in ne-eqb (kind S s) 3 (λ z. omega arith))
@@ -153,10 +153,22 @@ module _ (m : Map) (S : Scheme) (O : ℕ → Bool) (slot : (u : ℕ) → O u ≡
   unfolding edited newWord
   link-other i x e = rw e refl
 
+  pub tag-other : (x : ℕ) → pairOf m S O x ≡ none → edited m S O .tag x ≡ m .tag x
+  unfolding edited newWord
+  tag-other x e = rw e refl
+
   module _ (u s : ℕ) (e : O u ≡ true) (h : s < S .nodes) where
     pub state-deleted : deleted S s ≡ true → edited m S O .state (dartOf m S O u s) ≡ 0
     unfolding edited newWord
     state-deleted d = rw (pair-of u s e h, d) refl
+
+    pub link-deleted : (i : ℕ) → deleted S s ≡ true → edited m S O .link i (dartOf m S O u s) ≡ 0
+    unfolding edited newWord
+    link-deleted i d = rw (pair-of u s e h, d) refl
+
+    pub tag-deleted : deleted S s ≡ true → edited m S O .tag (dartOf m S O u s) ≡ 0
+    unfolding edited newWord
+    tag-deleted d = rw (pair-of u s e h, d) refl
 
     module _ (k : deleted S s ≡ false) where
       pub state-pair : edited m S O .state (dartOf m S O u s) ≡ 1
@@ -186,3 +198,11 @@ module _ (m : Map) (S : Scheme) (O : ℕ → Bool) (slot : (u : ℕ) → O u ≡
       pub link-own : (i : ℕ) → added S s ≡ true → arcAt S right s i ≡ absent → edited m S O .link i (dartOf m S O u s) ≡ dartOf m S O u s
       unfolding newLink
       link-own i n a = link-pair i ∙ rw (a, n) refl
+
+      pub tag-new : added S s ≡ true → edited m S O .tag (dartOf m S O u s) ≡ m .tag u
+      unfolding edited newWord
+      tag-new n = rw (pair-of u s e h, k, n) refl
+
+      pub tag-kept : added S s ≡ false → edited m S O .tag (dartOf m S O u s) ≡ m .tag (dartOf m S O u s)
+      unfolding edited newWord
+      tag-kept n = rw (pair-of u s e h, k, n) refl
