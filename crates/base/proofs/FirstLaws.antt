@@ -12,7 +12,7 @@ use borrow.Author.Tests.{eqb-true, eq-eqb}
 use Rattle.base.specs.Below.{count}
 use Rattle.base.specs.First.{when, _orElse_, there, first, least, nth}
 use Rattle.base.proofs.TestLaws.{and-left, and-right, and-of}
-use Rattle.base.proofs.BelowLaws.{below-suc, count-reaches}
+use Rattle.base.proofs.BelowLaws.{below-suc, count-injective, count-reaches}
 
 module _ {A : Type 0} where
   pub or-else-cases : (o r : Option A) (a : A) → o orElse r ≡ some a → (o ≡ some a) ⊎ ((o ≡ none) × (r ≡ some a))
@@ -139,3 +139,8 @@ unfolding nth least when
 nth-found n p k h =
     let r = count-reaches p n k h in
     first-of n _ (r .0) (r .0) (r .1) (ap (λ (b : Bool). when b (r .0)) (and-of (r .2) (eq-eqb _ _ (r .3))))
+
+pub nth-is : (n : ℕ) (p : ℕ → Bool) (k x : ℕ) → x < n → p x ≡ true → count x p ≡ k → nth n p k ≡ some x
+unfolding nth
+nth-is n p k x h e c = least-only n _ x h (and-of e (eq-eqb _ _ c))
+    (λ j l q. count-injective p j x (and-left _ _ q) e (eqb-true _ _ (and-right _ _ q) ∙ sym c))

@@ -1,0 +1,4 @@
+pub mod StoreLaws
+pub mod ColumnLaws
+pub mod GrantLaws
+pub mod GiveLaws

@@ -1,1 +1,3 @@
 // Applying a scheme at a dart.
+mod slots;
+mod store;
