@@ -4,7 +4,7 @@ use Prim.Native.Nat.{ℕ, zero, suc, _+_, _≤_, _<_}
 use mathlib.Core.Path.{_≡_, refl, sym, ap, ap₂, _∙_, subst}
 use mathlib.Core.Logic.{_⊎_, inl, inr, ⊎-elim}
 use mathlib.Core.Bool.{Bool, true, false, false≢true, true≢false}
-use native.Mathlib.Nat.{not-suc-le-zero, le-of-suc-le-suc, eq-or-lt-of-le, eq-zero-or-pos, lt-of-not-le}
+use native.Mathlib.Nat.{not-suc-le-zero, le-of-suc-le-suc, eq-or-lt-of-le, eq-zero-or-pos, lt-of-not-le, add-zero}
 use native.Mathlib.Numerals.{add-one}
 use native.Mathlib.Omega.{arith}
 use lib.Dec.{leb, ltb}
@@ -205,3 +205,31 @@ count-reaches p (suc n) k h = go (p n) refl h (count-reaches p n k)
         one : (b : Bool) → k < count n p + bit b → count n p ≤ k → (b ≡ true) × (count n p ≡ k)
         one true u v = (refl, omega arith)
         one false u v = absurd (omega arith)
+
+-- no fewer are counted below a greater bound
+pub count-up : (p : ℕ → Bool) (j k : ℕ) → j ≤ k → count j p ≤ count k p
+unfolding count
+count-up p zero zero h = omega arith
+count-up p (suc j) zero h = absurd (not-suc-le-zero h)
+count-up p j (suc k) h = ⊎-elim
+    (λ w. subst (λ (z : ℕ). count z p ≤ count k p + bit (p k)) (sym w) (omega arith))
+    (λ (w : j < suc k). let r = count-up p j k (le-of-suc-le-suc w) in omega arith)
+    (eq-or-lt-of-le h)
+
+-- where fewer are counted, the bound is lower
+pub count-under : (p : ℕ → Bool) (j k : ℕ) → count j p < count k p → j < k
+count-under p j k h = ⊎-elim
+    (λ t. let r = count-up p k j (leb-true k j t) in absurd (omega arith))
+    (λ t. leb-false k j t)
+    (true-or-false (leb k j))
+
+-- as many are counted below two bounds between which none has p
+pub count-gap : (p : ℕ → Bool) (j k : ℕ) → j ≤ k → ((z : ℕ) → j ≤ z → z < k → p z ≡ false) → count k p ≡ count j p
+unfolding count
+count-gap p zero zero h f = refl
+count-gap p (suc j) zero h f = absurd (not-suc-le-zero h)
+count-gap p j (suc k) h f = ⊎-elim
+    (λ w. ap (λ (z : ℕ). count z p) (sym w))
+    (λ (w : j < suc k). let l = le-of-suc-le-suc w in
+    ap₂ (λ (a : ℕ) (b : Bool). a + bit b) (count-gap p j k l (λ z g i. f z g (omega arith))) (f k l (omega arith)) ∙ add-zero (count j p))
+    (eq-or-lt-of-le h)

@@ -14,7 +14,7 @@ use Rattle.base.specs.Test.{_and_}
 use Rattle.base.specs.Below.{count}
 use Rattle.base.specs.First.{when, _orElse_, there, first, least, nth}
 use Rattle.base.proofs.TestLaws.{and-left, and-right, and-of}
-use Rattle.base.proofs.BelowLaws.{below-suc, count-same, count-reaches}
+use Rattle.base.proofs.BelowLaws.{below-suc, count-same, count-injective, count-reaches}
 
 module _ {A : Type 0} where
   pub or-else-cases : (o r : Option A) (a : A) → o orElse r ≡ some a → (o ≡ some a) ⊎ ((o ≡ none) × (r ≡ some a))
@@ -161,3 +161,8 @@ nth-found n p k h =
 pub nth-same : (n : ℕ) (p q : ℕ → Bool) (k : ℕ) → ((x : ℕ) → x < n → p x ≡ q x) → nth n p k ≡ nth n q k
 unfolding nth least
 nth-same n p q k f = first-same n _ _ (λ x h. ap₂ (λ (a : Bool) (c : ℕ). when (a and eqb c k) x) (f x h) (count-same x p q (λ y l. f y (omega arith))))
+
+pub nth-is : (n : ℕ) (p : ℕ → Bool) (k x : ℕ) → x < n → p x ≡ true → count x p ≡ k → nth n p k ≡ some x
+unfolding nth
+nth-is n p k x h e c = least-only n _ x h (and-of e (eq-eqb _ _ c))
+    (λ j l q. count-injective p j x (and-left _ _ q) e (eqb-true _ _ (and-right _ _ q) ∙ sym c))

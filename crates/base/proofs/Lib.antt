@@ -1,4 +1,5 @@
 pub mod TestLaws
+pub mod DigitLaws
 pub mod BelowLaws
 pub mod FirstLaws
 pub mod ListLaws

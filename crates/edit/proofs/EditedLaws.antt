@@ -23,6 +23,7 @@ use Rattle.model.proofs.MapLaws.{words-are}
 use Rattle.model.proofs.AcceptedLaws.{small, left-or-added}
 use Rattle.model.proofs.ArcLaws.{explicit-end, implicit-from, absent-from}
 use Rattle.model.proofs.OrbitLaws.{orbit-slot}
+use Rattle.model.proofs.RankLaws.{left-not-added}
 use Rattle.model.proofs.EditLaws as E
 use Rattle.table.specs.Words.{wordAt}
 use Rattle.table.proofs.WordLaws.{word-state, word-link, word-tag}
@@ -214,7 +215,7 @@ module _ {slots : ℕ} {table store : List ℕ} {size : ℕ} {kinds codes : List
       state-stays =
           unlinked 0 (omega arith) (λ i l z. omega arith)
           ∙ ⊎-elim
-          (λ l. old (E.left-not-added S v l) 0 (omega arith) ∙ word-state slots (R .before) (D (P r) v) ∙ E.left-alive m S O slot sides (R .match) (R .room) (P r) v (place-in r hr) hv l)
+          (λ l. old (left-not-added S v l) 0 (omega arith) ∙ word-state slots (R .before) (D (P r) v) ∙ E.left-alive m S O slot sides (R .match) (R .room) (P r) v (place-in r hr) hv l)
           (λ a. R .given .state (P r) v (place-in r hr) hv a)
           (sides v hv)
           ∙ sym (E.state-pair m S O slot sides (R .match) (R .room) (P r) v (place-in r hr) hv k)
@@ -223,16 +224,16 @@ module _ {slots : ℕ} {table store : List ℕ} {size : ℕ} {kinds codes : List
       tag-stays =
           unlinked 5 (omega arith) (λ i l z. omega arith)
           ∙ ⊎-elim
-          (λ l. old (E.left-not-added S v l) 5 (omega arith) ∙ word-tag slots (R .before) (D (P r) v)
-          ∙ sym (E.tag-kept m S O slot sides (R .match) (R .room) (P r) v (place-in r hr) hv k (E.left-not-added S v l)))
+          (λ l. old (left-not-added S v l) 5 (omega arith) ∙ word-tag slots (R .before) (D (P r) v)
+          ∙ sym (E.tag-kept m S O slot sides (R .match) (R .room) (P r) v (place-in r hr) hv k (left-not-added S v l)))
           (λ a. R .given .tag (P r) v (place-in r hr) hv a ∙ sym (E.tag-new m S O slot sides (R .match) (R .room) (P r) v (place-in r hr) hv k a))
           (sides v hv)
 
       -- where the right side names no i-arc: a preserved dart keeps the link, and of an added one it is α3 with n = 2, which is the dart itself
       link-absent : (i : ℕ) → i < 4 → arcAt S right v i ≡ absent → wordAt table (D (P r) v) (1 + i) ≡ new .link i (D (P r) v)
       link-absent i l a = ⊎-elim
-          (λ z. old (E.left-not-added S v z) (1 + i) (omega arith) ∙ word-link slots (R .before) (D (P r) v) i
-          ∙ sym (E.link-kept m S O slot sides (R .match) (R .room) (P r) v (place-in r hr) hv k i (E.left-not-added S v z) a))
+          (λ z. old (left-not-added S v z) (1 + i) (omega arith) ∙ word-link slots (R .before) (D (P r) v) i
+          ∙ sym (E.link-kept m S O slot sides (R .match) (R .room) (P r) v (place-in r hr) hv k i (left-not-added S v z) a))
           (λ z. ⊎-elim
           (λ w.
           let some-arc = R .accepted .allRight v i hv (leb-true i (S .n) w) z in

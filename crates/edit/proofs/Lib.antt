@@ -3,3 +3,6 @@ pub mod WalkLaws
 pub mod LinkLaws
 pub mod WriteLaws
 pub mod EditedLaws
+pub mod ColumnLaws
+pub mod GrantLaws
+pub mod GiveLaws

@@ -3,3 +3,4 @@ pub mod Places
 pub mod Walk
 pub mod Phases
 pub mod Links
+pub mod Grant

@@ -1,4 +1,5 @@
 // Applying a scheme at a dart.
 mod orbit;
 mod links;
+mod slots;
 mod store;
