@@ -158,7 +158,7 @@ module _ {slots : ℕ} {table store : List ℕ} {size : ℕ} {kinds codes : List
   linked = relinked slots store size cols codes (4 * c) table
 
   abbrev after : List ℕ
-  after = cleared slots store size cols kinds c linked
+  after = cleared store size cols kinds c linked
 
   linked-long : length linked ≡ tableSize slots
   linked-long = relinked-long slots store size cols codes (4 * c) table (R .sized .long)
@@ -320,6 +320,6 @@ module _ {slots : ℕ} {table store : List ℕ} {size : ℕ} {kinds codes : List
       (λ i x l h. sym (word-link slots after x i) ∙ link-is i x l (role x))
       (λ x h. sym (word-tag slots after x) ∙ tag-is x (role x))
 
-  pub rewritten : (t t′ : List ℕ) → t ≡ relinked slots store size cols codes (4 * c) table → t′ ≡ cleared slots store size cols kinds c t
+  pub rewritten : (t t′ : List ℕ) → t ≡ relinked slots store size cols codes (4 * c) table → t′ ≡ cleared store size cols kinds c t
       → t′ ≡ words (editedBy R)
-  rewritten t t′ e f = f ∙ ap (cleared slots store size cols kinds c) e ∙ edited-words
+  rewritten t t′ e f = f ∙ ap (cleared store size cols kinds c) e ∙ edited-words

@@ -18,14 +18,14 @@ pub record Stage (N : ℕ) (t₀ : List ℕ) (f : ℕ → List ℕ → List ℕ)
   pub sized : Sized N t
   pub made : t ≡ steps i f t₀
 
-module _ (N : ℕ) (t₀ : List ℕ) (f : ℕ → List ℕ → List ℕ) (end : ℕ) where
+module _ {N : ℕ} {t₀ : List ℕ} {f : ℕ → List ℕ → List ℕ} {end : ℕ} where
   pub stage-none : Sized N t₀ → Stage N t₀ f end 0 t₀
   unfolding steps
   stage-none s = record { fits = omega arith; sized = s; made = refl }
 
-  module _ (i : ℕ) (t : List ℕ) (g : Stage N t₀ f end i t) where
-    pub stage-more : (t′ : List ℕ) → i < end → length t′ ≡ length t → t′ ≡ f i t → Stage N t₀ f end (i + 1) t′
-    stage-more t′ h l e = record {
+  module _ {i : ℕ} {t : List ℕ} (g : Stage N t₀ f end i t) where
+    pub stage-more : {t′ : List ℕ} → i < end → length t′ ≡ length t → t′ ≡ f i t → Stage N t₀ f end (i + 1) t′
+    stage-more h l e = record {
       fits = omega arith;
       sized = record { few = g .sized .few; long = l ∙ g .sized .long };
       made = e ∙ ap (f i) (g .made) ∙ sym (steps-step f i t₀);
@@ -84,11 +84,11 @@ module _ (N : ℕ) (store : List ℕ) (size : ℕ) (cols : List ℕ) (c base cod
 
 -- ---- a node by its kind
 
-module _ (N : ℕ) (store : List ℕ) (size : ℕ) (cols : List ℕ) (base kind : ℕ) (t t′ : List ℕ) where
-  pub by-deleted : kind ≡ 1 → t′ ≡ erased (dartAt store base) size t → t′ ≡ clearedBy N store size cols base kind t
+module _ (store : List ℕ) (size base kind : ℕ) (t t′ : List ℕ) where
+  pub by-deleted : kind ≡ 1 → t′ ≡ erased (dartAt store base) size t → t′ ≡ clearedBy store size base kind t
   unfolding clearedBy
   by-deleted h e = rw (eq-eqb kind 1 h) e
 
-  pub by-other : (kind ≡ 1 → ⊥) → t′ ≡ t → t′ ≡ clearedBy N store size cols base kind t
+  pub by-other : (kind ≡ 1 → ⊥) → t′ ≡ t → t′ ≡ clearedBy store size base kind t
   unfolding clearedBy
   by-other h e = rw (ne-eqb kind 1 h) e

@@ -182,37 +182,37 @@ module _ (N : ℕ) where
     -- ---- the records of deleted pairs
 
     cleared-cases : (P : List ℕ → Type 0) (base kind : ℕ) (t : List ℕ) → (kind ≡ 1 → P (erased (dartAt store base) size t)) → ((kind ≡ 1 → ⊥) → P t)
-        → P (clearedBy N store size cols base kind t)
+        → P (clearedBy store size base kind t)
     cleared-cases P base kind t f g = ⊎-elim
-        (λ a. subst P (by-deleted N store size cols base kind t _ (eqb-true kind 1 a) refl) (f (eqb-true kind 1 a)))
-        (λ a. subst P (by-other N store size cols base kind t _ (eqb-false kind 1 a) refl) (g (eqb-false kind 1 a)))
+        (λ a. subst P (by-deleted store size base kind t _ (eqb-true kind 1 a) refl) (f (eqb-true kind 1 a)))
+        (λ a. subst P (by-other store size base kind t _ (eqb-false kind 1 a) refl) (g (eqb-false kind 1 a)))
         (true-or-false (eqb kind 1))
 
     module _ (kinds : List ℕ) (c : ℕ) where
-      node-long : (v : ℕ) (t : List ℕ) → Long t → Long (clearedBy N store size cols (getD cols v 0) (getD kinds v 0) t)
+      node-long : (v : ℕ) (t : List ℕ) → Long t → Long (clearedBy store size (getD cols v 0) (getD kinds v 0) t)
       node-long v t e = cleared-cases Long (getD cols v 0) (getD kinds v 0) t (λ a. erased-long (pairDart v) size t e) (λ a. e)
 
-      pub cleared-long : (t : List ℕ) → Long t → Long (cleared N store size cols kinds c t)
+      pub cleared-long : (t : List ℕ) → Long t → Long (cleared store size cols kinds c t)
       unfolding cleared
       cleared-long t e = steps-keep _ Long node-long c t e
 
       node-leaves : (v y d : ℕ) → d < 6 → (getD kinds v 0 ≡ 1 → (r : ℕ) → r < size → pairDart v r ≡ y → ⊥) → (t : List ℕ) → Long t
-          → wordAt (clearedBy N store size cols (getD cols v 0) (getD kinds v 0) t) y d ≡ wordAt t y d
+          → wordAt (clearedBy store size (getD cols v 0) (getD kinds v 0) t) y d ≡ wordAt t y d
       node-leaves v y d h off t e = cleared-cases (λ s. wordAt s y d ≡ wordAt t y d) (getD cols v 0) (getD kinds v 0) t
           (λ a. erased-leaves (pairDart v) size y d h (off a) t e) (λ a. refl)
 
       pub cleared-leaves : (y d : ℕ) → d < 6 → ((v r : ℕ) → v < c → getD kinds v 0 ≡ 1 → r < size → pairDart v r ≡ y → ⊥) → (t : List ℕ) → Long t
-          → wordAt (cleared N store size cols kinds c t) y d ≡ wordAt t y d
+          → wordAt (cleared store size cols kinds c t) y d ≡ wordAt t y d
       unfolding cleared
       cleared-leaves y d h off t e = steps-leave _ Long node-long (λ s. wordAt s y d) c
           (λ v s l o. node-leaves v y d h (λ a r b. off v r l a b) s o) t e
 
       pub cleared-sets : Different c → (v r d : ℕ) → v < c → r < size → d < 6 → getD kinds v 0 ≡ 1 → (t : List ℕ) → Long t
-          → wordAt (cleared N store size cols kinds c t) (pairDart v r) d ≡ 0
+          → wordAt (cleared store size cols kinds c t) (pairDart v r) d ≡ 0
       unfolding cleared
       cleared-sets D v r d hv hr h kind t e = steps-one _ Long node-long (λ s. wordAt s (pairDart v r) d) c v hv
           (λ w s l ne o. node-leaves w (pairDart v r) d h (λ a q b z. ne (D .once w q v r l b hv hr z .0)) s o)
           (λ w. 0)
-          (λ s o. ap (λ (a : List ℕ). wordAt a (pairDart v r) d) (sym (by-deleted N store size cols (getD cols v 0) (getD kinds v 0) s _ kind refl))
+          (λ s o. ap (λ (a : List ℕ). wordAt a (pairDart v r) d) (sym (by-deleted store size (getD cols v 0) (getD kinds v 0) s _ kind refl))
           ∙ erased-sets (pairDart v) size r hr (D .slot v r hv hr) (λ q b w. D .once v q v r hv b hv hr w .1) d h s o)
           t e

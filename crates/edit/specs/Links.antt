@@ -1,4 +1,4 @@
--- The last phase of an edit: what it is handed, what each of its loops writes.
+-- The phase `links`: what its loops write, what makes them safe, and what it is handed.
 -- Assumes nothing.
 use Prim.Native.Nat.{ℕ, _+_, _*_, _-_, _/_, _%_, _≤_, _<_}
 use mathlib.Core.Path.{_≡_}
@@ -33,6 +33,15 @@ zeroed x = steps 6 (λ c t. put t x c 0)
 unfoldable pub erased : (ℕ → ℕ) → ℕ → List ℕ → List ℕ
 erased at n = steps n (λ r. zeroed (at r))
 
+-- the records of the darts of the node whose column of the store begins at `base`, where its kind is deleted
+unfoldable pub clearedBy : List ℕ → ℕ → ℕ → ℕ → List ℕ → List ℕ
+clearedBy store size base kind t = cond (eqb kind 1) (erased (dartAt store base) size t) t
+
+module _ (store : List ℕ) (size : ℕ) (cols : List ℕ) where
+  -- the records of the darts of those of the first n nodes that are deleted
+  unfoldable pub cleared : List ℕ → ℕ → List ℕ → List ℕ
+  cleared kinds n = steps n (λ v. clearedBy store size (getD cols v 0) (getD kinds v 0))
+
 module _ (N : ℕ) (store : List ℕ) (size : ℕ) (cols : List ℕ) where
   -- column c of the darts of the node whose column of the store begins at `base`, by the code of an arc
   unfoldable pub followed : ℕ → ℕ → ℕ → List ℕ → List ℕ
@@ -43,14 +52,6 @@ module _ (N : ℕ) (store : List ℕ) (size : ℕ) (cols : List ℕ) where
   -- the links of the darts of all nodes, by the first n codes of their arcs
   unfoldable pub relinked : List ℕ → ℕ → List ℕ → List ℕ
   relinked codes n = steps n (λ k. followed (1 + k % 4) (getD cols (k / 4) 0) (getD codes k 0))
-
-  -- the records of the darts of the node whose column begins at `base`, where its kind is deleted
-  unfoldable pub clearedBy : ℕ → ℕ → List ℕ → List ℕ
-  clearedBy base kind t = cond (eqb kind 1) (erased (dartAt store base) size t) t
-
-  -- the records of the darts of those of the first n nodes that are deleted
-  unfoldable pub cleared : List ℕ → ℕ → List ℕ → List ℕ
-  cleared kinds n = steps n (λ v. clearedBy (getD cols v 0) (getD kinds v 0))
 
 -- ---- what makes it safe
 

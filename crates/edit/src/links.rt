@@ -4,7 +4,7 @@ use crate::store::word;
 use table::words::put;
 ghost use mathlib.Core.Path.{_≡_};
 ghost use Prim.Native.Nat.{_+_, _*_, _≤_, _<_};
-ghost use lib.ListN.{length, getD};
+ghost use lib.ListN.{length};
 ghost use Rattle.model.specs.Map.{words};
 ghost use Rattle.table.specs.Words.{Sized};
 ghost use Rattle.edit.specs.Store.{next, dartAt};
@@ -23,7 +23,8 @@ fn join(
     requires { ⌜ Sized slots (now table) ⌝ }
     requires { ⌜ Slots slots (now store) from size ⌝ }
     requires { ⌜ (to + size ≤ length (now store)) × (c < 6) ⌝ }
-    ensures { λ _. ⌜ now (table .exit) ≡ column c (dartAt (now (store .entry)) from) (dartAt (now (store .entry)) to) size (now (table .entry)) ⌝ }
+    ensures { λ _. ⌜ now (table .exit) ≡ column c (dartAt (now (store .entry)) from)
+        (dartAt (now (store .entry)) to) size (now (table .entry)) ⌝ }
 {
     let mut r = 0;
     while r < size {
@@ -47,7 +48,8 @@ fn turn(
     requires { ⌜ Slots slots (now store) base size ⌝ }
     requires { ⌜ Turns slots (now store) size p ⌝ }
     requires { ⌜ c < 6 ⌝ }
-    ensures { λ _. ⌜ now (table .exit) ≡ column c (dartAt (now (store .entry)) base) (λ r. dartAt (now (store .entry)) base (next slots (now (store .entry)) r p)) size (now (table .entry)) ⌝ }
+    ensures { λ _. ⌜ now (table .exit) ≡ column c (dartAt (now (store .entry)) base)
+        (λ r. dartAt (now (store .entry)) base (next slots (now (store .entry)) r p)) size (now (table .entry)) ⌝ }
 {
     let mut r = 0;
     while r < size {
@@ -106,7 +108,8 @@ fn follow(
     requires { ⌜ Slots slots (now store) base size ⌝ }
     requires { ⌜ Legible slots (now store) size (now cols) code ⌝ }
     requires { ⌜ c < 6 ⌝ }
-    ensures { λ _. ⌜ now (table .exit) ≡ followed slots (now (store .entry)) size (now (cols .entry)) c base code (now (table .entry)) ⌝ }
+    ensures { λ _. ⌜ now (table .exit) ≡ followed slots (now (store .entry)) size (now (cols .entry))
+        c base code (now (table .entry)) ⌝ }
 {
     if code < 16 {
         join(slots, table, store, size, c, base, cols[code]);
@@ -128,7 +131,8 @@ fn relink(
     requires { ⌜ Sized slots (now table) ⌝ }
     requires { ⌜ Columns slots (now store) size c (now cols) ⌝ }
     requires { ⌜ Codes slots (now store) size (now codes) c (now cols) ⌝ }
-    ensures { λ _. ⌜ now (table .exit) ≡ relinked slots (now (store .entry)) size (now (cols .entry)) (now (codes .entry)) (4 * c) (now (table .entry)) ⌝ }
+    ensures { λ _. ⌜ now (table .exit) ≡ relinked slots (now (store .entry)) size (now (cols .entry))
+        (now (codes .entry)) (4 * c) (now (table .entry)) ⌝ }
 {
     let mut k = 0;
     while k < 4 * c {
@@ -158,7 +162,8 @@ fn clear(
 )
     requires { ⌜ Sized slots (now table) ⌝ }
     requires { ⌜ Columns slots (now store) size c (now cols) ⌝ }
-    ensures { λ _. ⌜ now (table .exit) ≡ cleared slots (now (store .entry)) size (now (cols .entry)) (now (kinds .entry)) c (now (table .entry)) ⌝ }
+    ensures { λ _. ⌜ now (table .exit) ≡ cleared (now (store .entry)) size (now (cols .entry))
+        (now (kinds .entry)) c (now (table .entry)) ⌝ }
 {
     let mut v = 0;
     while v < c {

@@ -15,7 +15,7 @@ abbrev μ-loop : tie.MeasureT-loop
 μ-loop slots table₀ x c₀ table c = 6 - c
 
 loop-holds : tie.Need-loop-holds Inv-loop μ-loop
-loop-holds c = stage-none _ _ _ _ (c .before .pre .0)
+loop-holds c = stage-none (c .before .pre .0)
 
 put-requires : tie.Need-put-requires Inv-loop μ-loop
 put-requires c κs = let l = c .before .before in (l .loop .inv .sized, (l .before .before .pre .1, c .before .loop-test .taken))
@@ -29,14 +29,14 @@ loop-less c = search needs
 loop-again : tie.Need-loop-again Inv-loop μ-loop
 loop-again c =
     let w = c .before .before .before .before in
-    stage-more _ _ _ _ _ _ (w .before .loop .inv) _ (w .loop-test .taken) (c .before .before .put .kept .1 .0) (c .before .before .put .ensures)
+    stage-more (w .before .loop .inv) (w .loop-test .taken) (c .before .before .put .kept .1 .0) (c .before .before .put .ensures)
 
 same-length : tie.Need-same-length Inv-loop μ-loop
-same-length c = stage-length _ _ _ _ _ _ (c .before .loop .inv) (c .before .before .before .pre .0)
+same-length c = stage-length (c .before .loop .inv) (c .before .before .before .pre .0)
 
 returns : tie.Need-returns Inv-loop μ-loop
 unfolding zeroed
-returns c = stage-done _ _ _ _ _ _ (c .before .loop .inv) (c .loop-test .left)
+returns c = stage-done (c .before .loop .inv) (c .loop-test .left)
 
 pub blank-spec : {M : Type 1} → statement M
 blank-spec =

@@ -12,13 +12,13 @@ use Rattle.edit.proofs.links.clear.Tie as tie
 
 abbrev Inv-loop : tie.InvT-loop
 Inv-loop slots table₀ store size kinds c cols v₀ table v =
-    Stage slots table₀ (λ k. clearedBy slots store size cols (getD cols k 0) (getD kinds k 0)) c v table
+    Stage slots table₀ (λ k. clearedBy store size (getD cols k 0) (getD kinds k 0)) c v table
 
 abbrev μ-loop : tie.MeasureT-loop
 μ-loop slots table₀ store size kinds c cols v₀ table v = c - v
 
 loop-holds : tie.Need-loop-holds Inv-loop μ-loop
-loop-holds c = stage-none _ _ _ _ (c .before .before .pre .0)
+loop-holds c = stage-none (c .before .before .pre .0)
 
 element-copy-out-if1 : tie.Need-element-copy-out-if1 Inv-loop μ-loop
 element-copy-out-if1 c = search needs
@@ -45,17 +45,17 @@ loop-again c =
     let l = c .before .before .before in
     let h = c .before .before .loop-test .taken in
     ⊎-elim
-    (λ w. stage-more _ _ _ _ _ _ (l .loop .inv) _ h (ap length (w .6) ∙ w .3 .kept .1 .0)
-    (by-deleted _ _ _ _ _ _ _ _ (w .0 .taken) (w .6 ∙ w .3 .ensures)))
-    (λ w. stage-more _ _ _ _ _ _ (l .loop .inv) _ h (ap length (w .1)) (by-other _ _ _ _ _ _ _ _ (w .0 .left) (w .1)))
+    (λ w. stage-more (l .loop .inv) h (ap length (w .6) ∙ w .3 .kept .1 .0)
+    (by-deleted _ _ _ _ _ _ (w .0 .taken) (w .6 ∙ w .3 .ensures)))
+    (λ w. stage-more (l .loop .inv) h (ap length (w .1)) (by-other _ _ _ _ _ _ (w .0 .left) (w .1)))
     (c .if1 .came)
 
 same-length : tie.Need-same-length Inv-loop μ-loop
-same-length c = stage-length _ _ _ _ _ _ (c .before .loop .inv) (c .before .before .before .before .pre .0)
+same-length c = stage-length (c .before .loop .inv) (c .before .before .before .before .pre .0)
 
 returns : tie.Need-returns Inv-loop μ-loop
 unfolding cleared
-returns c = stage-done _ _ _ _ _ _ (c .before .loop .inv) (c .loop-test .left)
+returns c = stage-done (c .before .loop .inv) (c .loop-test .left)
 
 pub clear-spec : {M : Type 1} → statement M
 clear-spec =

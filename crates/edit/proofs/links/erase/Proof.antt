@@ -15,7 +15,7 @@ abbrev μ-loop : tie.MeasureT-loop
 μ-loop slots table₀ store size base r₀ table r = size - r
 
 loop-holds : tie.Need-loop-holds Inv-loop μ-loop
-loop-holds c = stage-none _ _ _ _ (c .before .before .pre .0)
+loop-holds c = stage-none (c .before .before .pre .0)
 
 add-word : tie.Need-add-word Inv-loop μ-loop
 add-word c = search needs
@@ -39,15 +39,15 @@ loop-again : tie.Need-loop-again Inv-loop μ-loop
 unfolding dartAt
 loop-again c =
     let w = c .before .before .before .before in
-    stage-more _ _ _ _ _ _ (w .before .before .loop .inv) _ (w .before .loop-test .taken) (c .before .before .blank .kept .1 .0)
+    stage-more (w .before .before .loop .inv) (w .before .loop-test .taken) (c .before .before .blank .kept .1 .0)
     (zeroed-at _ _ _ _ (c .before .before .blank .ensures) (w .word .ensures))
 
 same-length : tie.Need-same-length Inv-loop μ-loop
-same-length c = stage-length _ _ _ _ _ _ (c .before .loop .inv) (c .before .before .before .before .pre .0)
+same-length c = stage-length (c .before .loop .inv) (c .before .before .before .before .pre .0)
 
 returns : tie.Need-returns Inv-loop μ-loop
 unfolding erased
-returns c = stage-done _ _ _ _ _ _ (c .before .loop .inv) (c .loop-test .left)
+returns c = stage-done (c .before .loop .inv) (c .loop-test .left)
 
 pub erase-spec : {M : Type 1} → statement M
 erase-spec =

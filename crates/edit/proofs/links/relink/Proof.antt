@@ -17,7 +17,7 @@ abbrev μ-loop : tie.MeasureT-loop
 μ-loop slots table₀ store size codes c cols k₀ table k = 4 * c - k
 
 loop-holds : tie.Need-loop-holds Inv-loop μ-loop
-loop-holds c = stage-none _ _ _ _ (c .before .before .pre .0)
+loop-holds c = stage-none (c .before .before .pre .0)
 
 mul-loop : tie.Need-mul-loop Inv-loop μ-loop
 mul-loop c = search needs
@@ -55,15 +55,15 @@ loop-again : tie.Need-loop-again Inv-loop μ-loop
 loop-again c =
     let w = c .before .before .before in
     let t = w .before .before .before .before in
-    stage-more _ _ _ _ _ _ (t .before .loop .inv) _ (t .loop-test .taken) (c .before .before .follow .kept .1 .0)
+    stage-more (t .before .loop .inv) (t .loop-test .taken) (c .before .before .follow .kept .1 .0)
     (followed-at _ _ _ _ _ _ _ _ _ _ (c .before .before .follow .ensures) (w .wide .ensures))
 
 same-length : tie.Need-same-length Inv-loop μ-loop
-same-length c = stage-length _ _ _ _ _ _ (c .before .loop .inv) (c .before .before .before .before .pre .0)
+same-length c = stage-length (c .before .loop .inv) (c .before .before .before .before .pre .0)
 
 returns : tie.Need-returns Inv-loop μ-loop
 unfolding relinked
-returns c = stage-done _ _ _ _ _ _ (c .before .loop .inv) (c .loop-test .left)
+returns c = stage-done (c .before .loop .inv) (c .loop-test .left)
 
 pub relink-spec : {M : Type 1} → statement M
 relink-spec =

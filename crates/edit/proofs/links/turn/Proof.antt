@@ -19,7 +19,7 @@ abbrev μ-loop : tie.MeasureT-loop
 μ-loop slots table₀ store size c base p r₀ table r = size - r
 
 loop-holds : tie.Need-loop-holds Inv-loop μ-loop
-loop-holds c = stage-none _ _ _ _ (c .before .before .pre .0)
+loop-holds c = stage-none (c .before .before .pre .0)
 
 add-word : tie.Need-add-word Inv-loop μ-loop
 add-word c = search needs
@@ -76,16 +76,16 @@ loop-again c =
     let w = c .before .before .before .before .before .before in
     let l = w .before .before in
     let a = l .before .before .before .args in
-    stage-more _ _ _ _ _ _ (l .loop .inv) _ (w .before .loop-test .taken) (c .before .before .put .kept .1 .0)
+    stage-more (l .loop .inv) (w .before .loop-test .taken) (c .before .before .put .kept .1 .0)
     (put-at _ _ _ _ _ _ _ (c .before .before .put .ensures) (w .word .ensures)
     (turned-at (a .slots) (now (a .store)) (l .loop .r) (a .p) _ (c .before .before .before .before .before .word2 .ensures) (a .base)))
 
 same-length : tie.Need-same-length Inv-loop μ-loop
-same-length c = stage-length _ _ _ _ _ _ (c .before .loop .inv) (c .before .before .before .before .pre .0)
+same-length c = stage-length (c .before .loop .inv) (c .before .before .before .before .pre .0)
 
 returns : tie.Need-returns Inv-loop μ-loop
 unfolding column
-returns c = stage-done _ _ _ _ _ _ (c .before .loop .inv) (c .loop-test .left)
+returns c = stage-done (c .before .loop .inv) (c .loop-test .left)
 
 pub turn-spec : {M : Type 1} → statement M
 turn-spec =
