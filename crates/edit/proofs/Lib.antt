@@ -1,1 +1,3 @@
 pub mod StoreLaws
+mod TestLoops
+mod ColumnLaws

@@ -1,2 +1,3 @@
 // Applying a scheme at a dart.
+mod assign;
 mod store;
