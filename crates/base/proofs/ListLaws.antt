@@ -72,11 +72,10 @@ module _ {A : Type 0} where
       let same : i ≡ length l₀ = omega arith in
       sym (take-all i l (omega arith)) ∙ f ∙ ap (λ (n : ℕ). replicate n a) same
 
--- ---- inside a list
+-- ---- inside a list, no element is a default
 
 module _ {A : Type 0} where
-  -- what stands there does not depend on what stands for the rest
   pub getD-inside : (l : List A) (i : ℕ) (d e : A) → i < length l → getD l i d ≡ getD l i e
   getD-inside [] i d e h = absurd (not-suc-le-zero h)
-  getD-inside (x ∷ l) zero d e h = refl
-  getD-inside (x ∷ l) (suc i) d e h = getD-inside l i d e (le-of-suc-le-suc h)
+  getD-inside (a ∷ l) zero d e h = refl
+  getD-inside (a ∷ l) (suc i) d e h = getD-inside l i d e (le-of-suc-le-suc h)

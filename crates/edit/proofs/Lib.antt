@@ -1,3 +1,5 @@
 pub mod StoreLaws
 mod TestLoops
 mod ColumnLaws
+mod GrownLaws
+mod MatchedLaws

@@ -4,11 +4,11 @@ use crate::store::word;
 use table::words::link;
 ghost use mathlib.Core.Path.{_≡_};
 ghost use Prim.Native.Nat.{_+_, _*_, _<_, _≤_};
-ghost use lib.ListN.{getD};
+ghost use lib.ListN.{length, getD};
 ghost use Rattle.model.specs.Map.{view};
 ghost use Rattle.table.specs.Words.{Sized};
 ghost use Rattle.edit.specs.Store.{next, Taken};
-ghost use Rattle.edit.specs.Columns.{Linked, Testable, Turns, Columned, follows, explicitTest, arcTest, arcsTest, Firm};
+ghost use Rattle.edit.specs.Columns.{Begun, Posed, Linked, Testable, Turns, Columned, Rows, follows, explicitTest, arcTest, arcsTest, Firm, Answered};
 
 fn wide(x: u8) -> usize
     ensures { λ r. ⌜ r ≡ x ⌝ }
@@ -40,6 +40,37 @@ fn column(
         }
         push(slots, store, end + r, y);
         r += 1;
+    }
+    true
+}
+
+// The columns of all entries of the tree; false where two pairs fall on one dart.
+fn columns(
+    slots: usize,
+    table: &[u32],
+    store: &mut [u32],
+    size: usize,
+    nodes: &[u8; 16],
+    parents: &[u8; 16],
+    dims: &[u8; 16],
+    count: usize,
+    cols: &mut [usize; 16],
+) -> bool
+    requires { ⌜ length (now cols) ≡ 16 ⌝ }
+    requires { ⌜ Begun slots (now table) (now store) size (now nodes) (now parents) (now dims) count ⌝ }
+    ensures { λ r. ⌜ Rows slots (now (table .entry)) (now (nodes .entry)) (now (parents .entry)) (now (dims .entry)) (now (store .entry)) (now (store .exit)) (now (cols .exit)) size count r ⌝ }
+{
+    cols[0] = slots;
+    let mut end = size;
+    let mut k = 1;
+    while k < count {
+        let from = cols[wide(parents[k])];
+        if !column(slots, table, store, wide(dims[k]), from, end, size) {
+            return false;
+        }
+        cols[wide(nodes[k])] = slots + end;
+        end += size;
+        k += 1;
     }
     true
 }
@@ -189,4 +220,27 @@ fn arcs(
         k += 1;
     }
     true
+}
+
+// Whether the scheme of the tree and the codes matches at the orbit in the store; where it does, the columns of its left nodes.
+pub(crate) fn assign(
+    slots: usize,
+    table: &[u32],
+    store: &mut [u32],
+    size: usize,
+    nodes: &[u8; 16],
+    parents: &[u8; 16],
+    dims: &[u8; 16],
+    count: usize,
+    codes: &[u8; 64],
+    cols: &mut [usize; 16],
+) -> bool
+    requires { ⌜ (length (now codes) ≡ 64) × (length (now cols) ≡ 16) ⌝ }
+    requires { ⌜ Posed slots (now table) (now store) size (now nodes) (now parents) (now dims) count (now codes) ⌝ }
+    ensures { λ r. ⌜ Answered slots (now (table .entry)) (now (store .entry)) size (now (nodes .entry)) (now (parents .entry)) (now (dims .entry)) count (now (codes .entry)) (now (store .exit)) (now (cols .exit)) r ⌝ }
+{
+    if !columns(slots, table, store, size, nodes, parents, dims, count, cols) {
+        return false;
+    }
+    arcs(slots, table, store, size, nodes, dims, count, codes, cols)
 }
