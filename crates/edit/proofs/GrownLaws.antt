@@ -8,11 +8,10 @@ use mathlib.Core.List.{List}
 use native.Mathlib.Nat.{not-suc-le-zero}
 use native.Mathlib.Decide.{ℕ-discrete, decLt}
 use native.Mathlib.Omega.{arith}
-use lib.ListN.{length, getD, set}
+use lib.ListN.{length, getD, set, length-set}
 use lib.Seq.{getD-set-same, getD-set-other}
 use borrow.Author.Tests.{eqb-true}
 use Rattle.base.proofs.TestLaws.{true-or-false}
-use Rattle.base.proofs.BelowLaws.{below-suc}
 use Rattle.base.proofs.RowLaws.{row-end, row-cell, row-of}
 use Rattle.model.specs.Map.{Map, view}
 use Rattle.model.specs.Scheme.{left, orbitDim, has}
@@ -21,22 +20,24 @@ use Rattle.model.specs.Orbit.{orbit}
 use Rattle.model.specs.Match.{image, arcHolds, matches, Assignment}
 use Rattle.model.specs.declared.Scheme.{Scheme}
 use Rattle.model.proofs.AcceptedLaws.{small}
-use Rattle.model.proofs.ArcLaws.{explicit-end}
 use Rattle.model.proofs.MatchLaws.{GoodOrbit, match-assigns, arc-of}
 use Rattle.model.proofs.MatchIff.{good-orbit}
 use Rattle.table.specs.Words.{Sized}
-use Rattle.edit.specs.Store.{mark, place, next, dartAt, Taken}
-use Rattle.edit.specs.Columns.{Ready, Begun, matchesAt, Longer, Linked, Column, Columned, Grown, Rows}
+use Rattle.edit.specs.Store.{mark, place, dartAt, Taken}
+use Rattle.edit.specs.Columns.{Ready, matchesAt, Linked, Column, Columned, Grown, Rows}
 use Rattle.edit.proofs.StoreLaws.{among-at, among-of}
-use Rattle.edit.proofs.ColumnLaws.{dart-place, longer-dart, longer-less, longer-trans}
+use Rattle.edit.proofs.PlacedLaws.{dart-place, longer-dart, longer-less, longer-trans}
 
-module _ (S : Scheme) (d N : ℕ) (t s : List ℕ) (size : ℕ) (nodes parents dims : List ℕ) (count : ℕ)
-    (R : Ready S d N t s size nodes parents dims count) where
+module _ (N : ℕ) (t s : List ℕ) (size : ℕ) (nodes parents dims : List ℕ) (count : ℕ)
+    (R : Ready N t s size nodes parents dims count) where
+  abbrev S : Scheme
+  S = R .scheme
+
   abbrev m : Map
   m = view N t
 
   abbrev O : ℕ → Bool
-  O = orbit m (S .places) (orbitDim S) d
+  O = orbit m (S .places) (orbitDim S) (R .dart)
 
   abbrev node : ℕ → ℕ
   node k = getD nodes k 0
@@ -50,7 +51,7 @@ module _ (S : Scheme) (d N : ℕ) (t s : List ℕ) (size : ℕ) (nodes parents d
   -- ---- the orbit by its places
 
   pub good : GoodOrbit m S O
-  good = good-orbit m S d (R .accepted) (R .formed) (R .below) (R .alive)
+  good = good-orbit m S (R .dart) (R .accepted) (R .formed) (R .below) (R .alive)
 
   pub orbit-at : (r : ℕ) → r < size → O (place N s r) ≡ true
   orbit-at r h =
@@ -76,6 +77,7 @@ module _ (S : Scheme) (d N : ℕ) (t s : List ℕ) (size : ℕ) (nodes parents d
   grown-one cols long =
       let same : 1 * size ≡ size = omega arith in
       record {
+        wide = simp length-set long;
         taken = rw same (R .taken);
         longer = record { places = λ e h. refl; rest = λ i h. refl };
         alive = λ e h. good .alive (place N s e) (orbit-at e (omega arith));
@@ -118,12 +120,12 @@ module _ (S : Scheme) (d N : ℕ) (t s : List ℕ) (size : ℕ) (nodes parents d
       pub linked : Linked m (dim k) s′ (getD cols (parent k) 0) size
       linked = record { slot = λ r b. let e = source-slot r b in R .formed .below _ (e .0) (e .1) (dim k) (R .rooted .arc k l h .0) }
 
-      module _ (s″ : List ℕ) (long : length cols ≡ 16) (C : Column m (dim k) (getD cols (parent k) 0) s′ s″ (k * size) size) where
+      module _ (s″ : List ℕ) (C : Column m (dim k) (getD cols (parent k) 0) s′ s″ (k * size) size) where
         abbrev cols′ : List ℕ
         cols′ = set cols (node k) (N + k * size)
 
         col-new : getD cols′ (node k) 0 ≡ N + k * size
-        col-new = getD-set-same cols (node k) (N + k * size) 0 (omega (arith, node-below k h))
+        col-new = getD-set-same cols (node k) (N + k * size) 0 (omega (arith, node-below k h, G .wide))
 
         col-old : (j : ℕ) → j < k → getD cols′ (node j) 0 ≡ getD cols (node j) 0
         col-old j b = getD-set-other cols (node k) (node j) (N + k * size) 0 (λ e. let q = R .rooted .once j k (omega arith) h e in absurd (omega arith))
@@ -143,6 +145,7 @@ module _ (S : Scheme) (d N : ℕ) (t s : List ℕ) (size : ℕ) (nodes parents d
             let same : (k + 1) * size ≡ k * size + size = omega arith in
             let first : size ≤ k * size = omega (arith, row-end size 0 k (omega arith)) in
             record {
+              wide = simp length-set (G .wide);
               taken = rw same (C .taken);
               longer = longer-trans N s s′ size (G .longer) s″ (longer-less N s′ s″ (k * size) (C .longer) size first);
               alive = λ e b. by-cases (decLt e (k * size))
@@ -262,52 +265,49 @@ rows-done N t nodes parents dims s s′ cols size count k h l G = record {
 }
 
 -- the nodes of an entry are within the arrays
-module _ (N : ℕ) (t s : List ℕ) (size : ℕ) (nodes parents dims : List ℕ) (count : ℕ) (B : Begun N t s size nodes parents dims count) (k x : ℕ) (h : k < count) where
+module _ (N : ℕ) (t s : List ℕ) (size : ℕ) (nodes parents dims : List ℕ) (count : ℕ) (R : Ready N t s size nodes parents dims count) (k x : ℕ) (h : k < count) where
   pub node-fits : x ≡ getD nodes k 0 → x < 16
-  node-fits a = rw a (node-below (B .scheme) (B .dart) N t s size nodes parents dims count (B .ready) k h)
+  node-fits a = rw a (node-below N t s size nodes parents dims count R k h)
 
   pub parent-fits : 1 ≤ k → x ≡ getD parents k 0 → x < 16
   parent-fits l a =
-      let p = B .ready .rooted .earlier k l h in
-      rw (a, ← p .2) (node-below (B .scheme) (B .dart) N t s size nodes parents dims count (B .ready) (p .0) (omega (arith, p .1)))
+      let p = R .rooted .earlier k l h in
+      rw (a, ← p .2) (node-below N t s size nodes parents dims count R (p .0) (omega (arith, p .1)))
 
 -- from, i and end are what the loop hands to the column of entry k
 module _ (N : ℕ) (t s : List ℕ) (size : ℕ) (nodes parents dims : List ℕ) (count : ℕ) (s′ cols : List ℕ) (k : ℕ)
     (G : Grown (view N t) nodes parents dims s s′ cols size k) (l : 1 ≤ k) (h : k < count) (x i end : ℕ)
     (a : x ≡ getD parents k 0) (b : i ≡ getD dims k 0) (e : end ≡ k * size) where
-  module _ (B : Begun N t s size nodes parents dims count) where
-    R : Ready (B .scheme) (B .dart) N t s size nodes parents dims count
-    R = B .ready
-
+  module _ (R : Ready N t s size nodes parents dims count) where
     pub column-asks : Sized N t × (Taken N s′ end × (((i ≤ 3) × (size ≤ N) × (N ≤ getD cols x 0) × (getD cols x 0 + size ≤ N + end))
         × Linked (view N t) i s′ (getD cols x 0) size))
     column-asks =
-        let from = source (B .scheme) (B .dart) N t s size nodes parents dims count R s′ cols k G l h in
+        let from = source N t s size nodes parents dims count R s′ cols k G l h in
         let few = R .walked .fits in (
           R .sized,
           (
             rw e (G .taken),
             (
-              (rw b (dim-below (B .scheme) (B .dart) N t s size nodes parents dims count R k l h), few, rw a (from .0), rw (a, e) (from .1)),
-              rw (a, b) (linked (B .scheme) (B .dart) N t s size nodes parents dims count R s′ cols k G l h),
+              (rw b (dim-below N t s size nodes parents dims count R k l h), few, rw a (from .0), rw (a, e) (from .1)),
+              rw (a, b) (linked N t s size nodes parents dims count R s′ cols k G l h),
             ),
           ),
         )
 
-    pub rows-more : (s″ : List ℕ) (y : ℕ) → y ≡ getD nodes k 0 → length cols ≡ 16 → (w : Bool) → Columned (view N t) i (getD cols x 0) s′ s″ end size w → w ≡ true
+    pub rows-more : (s″ : List ℕ) (y : ℕ) → y ≡ getD nodes k 0 → (w : Bool) → Columned (view N t) i (getD cols x 0) s′ s″ end size w → w ≡ true
         → Grown (view N t) nodes parents dims s s″ (set cols y (N + end)) size (k + 1)
-    rows-more s″ y c long w C z =
+    rows-more s″ y c w C z =
         let D : Column (view N t) (getD dims k 0) (getD cols (getD parents k 0) 0) s′ s″ (k * size) size = rw (a, b, e) at (C .done z) in
-        rw (c, e) (grown-more (B .scheme) (B .dart) N t s size nodes parents dims count R s′ cols k G l h s″ long D)
+        rw (c, e) (grown-more N t s size nodes parents dims count R s′ cols k G l h s″ D)
 
   pub rows-clash : (s″ : List ℕ) (w : Bool) → Columned (view N t) i (getD cols x 0) s′ s″ end size w → w ≡ false → Rows N t nodes parents dims s s″ cols size count false
   rows-clash s″ w C z = record {
     done = λ f. absurd (true≢false (sym f));
-    none = λ f S d R. ⊎-elim
+    none = λ f R. ⊎-elim
         (λ q.
         let y : (r : ℕ) × (r < size) × Column (view N t) (getD dims k 0) (getD cols (getD parents k 0) 0) s′ s″ (k * size) r
         × (1 ≤ mark s″ (view N t .link (getD dims k 0) (dartAt s′ (getD cols (getD parents k 0) 0) r))) = rw (a, b, e) at (C .clash z) in
-        absurd (taken-twice S d N t s size nodes parents dims count R q s′ cols k (omega arith) G l h s″ (y .0) (y .1) (y .2) (y .3)))
+        absurd (taken-twice N t s size nodes parents dims count R q s′ cols k (omega arith) G l h s″ (y .0) (y .1) (y .2) (y .3)))
         (λ q. q)
-        (true-or-false (matchesAt (view N t) S d));
+        (true-or-false (matchesAt (view N t) (R .scheme) (R .dart)));
   }

@@ -1,5 +1,5 @@
 pub mod StoreLaws
 mod TestLoops
-mod ColumnLaws
+mod PlacedLaws
 mod GrownLaws
 mod MatchedLaws

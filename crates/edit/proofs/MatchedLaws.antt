@@ -3,33 +3,32 @@
 use Prim.Native.Nat.{ℕ, _+_, _*_, _-_, _/_, _%_, _≤_, _<_}
 use mathlib.Core.Path.{_≡_, refl, sym, ap, ap₂, _∙_, subst}
 use mathlib.Core.Logic.{_⊎_, inl, inr, ⊎-elim, by-cases}
-use mathlib.Core.Bool.{Bool, true, false, not, true≢false}
+use mathlib.Core.Bool.{Bool, true, false, true≢false}
 use mathlib.Core.List.{List}
 use native.Mathlib.Nat.{mul-le-mul-right}
 use native.Mathlib.Decide.{ℕ-discrete, decLt}
 use native.Mathlib.Omega.{arith}
 use lib.ListN.{length, getD}
-use lib.Dec.{eqb, ltb}
 use borrow.Author.Tests.{eqb-true, eqb-false, eq-eqb, ne-eqb, ltb-true, lt-ltb, le-ltb, not-true}
-use Rattle.base.specs.Test.{_and_, _or_}
+use Rattle.base.specs.Test.{_or_}
 use Rattle.base.proofs.TestLaws.{and-left, and-right, or-cases, or-right, same-test}
 use Rattle.base.proofs.BelowLaws.{all-at, all-of}
 use Rattle.base.proofs.DigitLaws.{digits}
 use Rattle.base.proofs.RowLaws.{row-end, row-cell}
 use Rattle.model.specs.Map.{Map, view}
-use Rattle.model.specs.Scheme.{left, orbitDim, word, arcs, arcPart, has}
+use Rattle.model.specs.Scheme.{left, orbitDim, word, arcPart, has}
 use Rattle.model.specs.Conditions.{Arc, absent, explicit, implicit, arcAt}
 use Rattle.model.specs.Orbit.{orbit}
-use Rattle.model.specs.Match.{image, arcHolds, matches, Assignment}
+use Rattle.model.specs.Match.{image, matches, Assignment}
 use Rattle.model.specs.Accepted.{SingleSide}
 use Rattle.model.specs.declared.Scheme.{Scheme}
 use Rattle.model.proofs.AcceptedLaws.{small}
 use Rattle.model.proofs.ArcLaws.{explicit-at, explicit-end, implicit-at, implicit-from, far-from, far-to, touches-from, touches-to}
-use Rattle.model.proofs.MatchLaws.{arc-of, assigned, assigns-match}
-use Rattle.edit.specs.Store.{mark, place, next, dartAt, Kept}
+use Rattle.model.proofs.MatchLaws.{assigns-match}
+use Rattle.edit.specs.Store.{mark, place, next, dartAt}
 use Rattle.edit.specs.Phases.{arcCode, Coded, Assigned}
-use Rattle.edit.specs.Columns.{Ready, matchesAt, Longer, Slots, Turns, Grown, follows, explicitTest, implicitTest, codeTest, arcTest, arcsTest, Firm, Matched}
-use Rattle.edit.proofs.ColumnLaws.{dart-place, longer-mark, longer-kept}
+use Rattle.edit.specs.Columns.{Ready, matchesAt, Turns, Grown, follows, explicitTest, implicitTest, codeTest, arcTest, arcsTest, Firm, Matched}
+use Rattle.edit.proofs.PlacedLaws.{longer-mark, longer-kept}
 use Rattle.edit.proofs.GrownLaws.{good, orbit-at, orbit-rank, node-below, dart-at, dart-slot, column-inside, images, arc-image, turn-image}
 
 -- ---- the tests
@@ -81,14 +80,17 @@ module _ (m : Map) (s : List ℕ) (size : ℕ) (dims cols : List ℕ) (j i from 
       let same : 16 + p - 16 ≡ p = omega arith in
       rw (ne-eqb (16 + p) 255 (λ q. absurd (omega arith)), le-ltb (16 + p) 16 (omega arith), same) (or-right _ f)
 
-module _ (S : Scheme) (d N : ℕ) (t s : List ℕ) (size : ℕ) (nodes parents dims : List ℕ) (count : ℕ)
-    (R : Ready S d N t s size nodes parents dims count) (s′ cols : List ℕ) (G : Grown (view N t) nodes parents dims s s′ cols size count)
-    (codes : List ℕ) (C : Coded S left codes) where
+module _ (N : ℕ) (t s : List ℕ) (size : ℕ) (nodes parents dims : List ℕ) (count : ℕ)
+    (R : Ready N t s size nodes parents dims count) (s′ cols : List ℕ) (G : Grown (view N t) nodes parents dims s s′ cols size count)
+    (codes : List ℕ) (C : Coded (R .scheme) left codes) where
+  abbrev S : Scheme
+  S = R .scheme
+
   abbrev m : Map
   m = view N t
 
   abbrev O : ℕ → Bool
-  O = orbit m (S .places) (orbitDim S) d
+  O = orbit m (S .places) (orbitDim S) (R .dart)
 
   abbrev node : ℕ → ℕ
   node k = getD nodes k 0
@@ -126,16 +128,16 @@ module _ (S : Scheme) (d N : ℕ) (t s : List ℕ) (size : ℕ) (nodes parents d
     few = R .walked .fits;
     entries = R .rooted .few;
     codesLong = long;
-    node = λ j h. node-below S d N t s size nodes parents dims count R j h;
+    node = λ j h. node-below N t s size nodes parents dims count R j h;
     column = inside;
-    slots = λ j h. record { slot = λ r k. dart-slot S d N t s size nodes parents dims count R s′ cols count G j r h k .0 };
+    slots = λ j h. record { slot = λ r k. dart-slot N t s size nodes parents dims count R s′ cols count G j r h k .0 };
     target = λ j i h k c. to j i h k (arcAt S left (node j) i) refl c;
     turn = λ j i h k c ne. turns j i h k (arcAt S left (node j) i) refl c ne;
   }
     where
       inside : (j : ℕ) → j < count → getD cols (node j) 0 + size ≤ 2 * N
       inside j h =
-          let b = column-inside S d N t s size nodes parents dims count R s′ cols count G j h in
+          let b = column-inside N t s size nodes parents dims count R s′ cols count G j h in
           omega (arith, b .1, G .taken .fits)
 
       to : (j i : ℕ) → j < count → i < 4 → (a : Arc) → arcAt S left (node j) i ≡ a → getD codes (4 * node j + i) 255 < 16
@@ -167,7 +169,7 @@ module _ (S : Scheme) (d N : ℕ) (t s : List ℕ) (size : ℕ) (nodes parents d
     image-at : (v r : ℕ) → v < S .nodes → has S left v ≡ true → r < size → at v r ≡ image m S (place N s r) v
     image-at v r h l b =
         let z = R .rooted .every v h l in
-        subst (λ (w : ℕ). at w r ≡ image m S (place N s r) w) (z .2) (images S d N t s size nodes parents dims count R q s′ cols count (omega arith) G (z .0) r (z .1) b)
+        subst (λ (w : ℕ). at w r ≡ image m S (place N s r) w) (z .2) (images N t s size nodes parents dims count R q s′ cols count (omega arith) G (z .0) r (z .1) b)
 
     arc-holds : (j i : ℕ) → j < count → i < 4 → (a : Arc) → arcAt S left (node j) i ≡ a → codeTest m s′ size dims cols j i (getD cols (node j) 0) (arcCode a) ≡ true
     arc-holds j i h k absent e = absent-holds m s′ size dims cols j i (getD cols (node j) 0)
@@ -177,7 +179,7 @@ module _ (S : Scheme) (d N : ℕ) (t s : List ℕ) (size : ℕ) (nodes parents d
         explicit-holds m s′ size dims cols j i (getD cols (node j) 0) w (omega (arith, end .0, R .accepted .formed .nodesFew))
         (follows-of m s′ size i (getD cols (node j) 0) (getD cols w 0) (λ r. r) (λ r b.
         ap (m .link i) (image-at (node j) r (on .0) (on .1) b)
-        ∙ arc-image S d N t s size nodes parents dims count R q (place N s r) (node j) i w (orbit-at S d N t s size nodes parents dims count R r b) (on .0) (on .1) (end .2) e
+        ∙ arc-image N t s size nodes parents dims count R q (place N s r) (node j) i w (orbit-at N t s size nodes parents dims count R r b) (on .0) (on .1) (end .2) e
         ∙ sym (image-at w r (end .0) (end .1) b)))
     arc-holds j i h k (implicit p) e =
         let on = R .rooted .onLeft j h in
@@ -186,7 +188,7 @@ module _ (S : Scheme) (d N : ℕ) (t s : List ℕ) (size : ℕ) (nodes parents d
         (follows-of m s′ size i (getD cols (node j) 0) (getD cols (node j) 0) (λ r. next N s′ r p) (λ r b.
         let g = turn r p b (f .0) in
         ap (m .link i) (image-at (node j) r (on .0) (on .1) b)
-        ∙ turn-image S d N t s size nodes parents dims count R q (place N s r) (node j) i p (orbit-at S d N t s size nodes parents dims count R r b) (on .0) (on .1) (f .2) e
+        ∙ turn-image N t s size nodes parents dims count R q (place N s r) (node j) i p (orbit-at N t s size nodes parents dims count R r b) (on .0) (on .1) (f .2) e
         ∙ ap (λ (u : ℕ). image m S u (node j)) (sym (g .1))
         ∙ sym (image-at (node j) (next N s′ r p) (on .0) (on .1) (g .0))))
 
@@ -203,15 +205,15 @@ module _ (S : Scheme) (d N : ℕ) (t s : List ℕ) (size : ℕ) (nodes parents d
   more = let e = row-end size 0 count (R .rooted .some) in omega arith
 
   rank : (u : ℕ) → O u ≡ true → ℕ
-  rank u e = orbit-rank S d N t s size nodes parents dims count R u e .0
+  rank u e = orbit-rank N t s size nodes parents dims count R u e .0
 
   rank-below : (u : ℕ) (e : O u ≡ true) → rank u e < size
   unfolding rank
-  rank-below u e = orbit-rank S d N t s size nodes parents dims count R u e .1
+  rank-below u e = orbit-rank N t s size nodes parents dims count R u e .1
 
   rank-place : (u : ℕ) (e : O u ≡ true) → place N s (rank u e) ≡ u
   unfolding rank
-  rank-place u e = orbit-rank S d N t s size nodes parents dims count R u e .2
+  rank-place u e = orbit-rank N t s size nodes parents dims count R u e .2
 
   mark-at : (r : ℕ) → r < size → mark s′ (place N s r) ≡ r + 1
   mark-at r h =
@@ -232,13 +234,13 @@ module _ (S : Scheme) (d N : ℕ) (t s : List ℕ) (size : ℕ) (nodes parents d
   slot-at : (v r : ℕ) → v < S .nodes → has S left v ≡ true → r < size → (at v r < N) × (m .state (at v r) ≡ 1)
   slot-at v r h l b =
       let z = R .rooted .every v h l in
-      subst (λ (w : ℕ). (at w r < N) × (m .state (at w r) ≡ 1)) (z .2) (dart-slot S d N t s size nodes parents dims count R s′ cols count G (z .0) r (z .1) b)
+      subst (λ (w : ℕ). (at w r < N) × (m .state (at w r) ≡ 1)) (z .2) (dart-slot N t s size nodes parents dims count R s′ cols count G (z .0) r (z .1) b)
 
   -- node 0 stands for the orbit dart itself
   hook-at : (r : ℕ) → r < size → at 0 r ≡ place N s r
   hook-at r h =
       let z : 0 * size + r ≡ r = omega arith in
-      ap (λ (v : ℕ). at v r) (sym (R .rooted .root)) ∙ dart-at S d N t s size nodes parents dims count R s′ cols count G 0 r (R .rooted .some) ∙ ap (place N s′) z ∙ G .longer .places r h
+      ap (λ (v : ℕ). at v r) (sym (R .rooted .root)) ∙ dart-at N t s size nodes parents dims count R s′ cols count G 0 r (R .rooted .some) ∙ ap (place N s′) z ∙ G .longer .places r h
 
   module _ (T : arcsTest m s′ size nodes dims codes cols (4 * count) ≡ true) where
     test-at : (j i : ℕ) → j < count → i < 4 → (a : Arc) → arcAt S left (node j) i ≡ a → codeTest m s′ size dims cols j i (getD cols (node j) 0) (arcCode a) ≡ true
@@ -252,7 +254,7 @@ module _ (S : Scheme) (d N : ℕ) (t s : List ℕ) (size : ℕ) (nodes parents d
     -- an explicit arc from a column to one that is not later
     arc-back : (j k i r : ℕ) → j < count → k < count → k ≤ j → i < 4 → r < size → arcAt S left (node j) i ≡ explicit (node k) → m .link i (at (node j) r) ≡ at (node k) r
     arc-back j k i r h l o b c e =
-        let below = node-below S d N t s size nodes parents dims count R k l in
+        let below = node-below N t s size nodes parents dims count R k l in
         ⊎-elim
         (λ late. absurd (omega (arith, late, G .begins j h, G .begins k l, mul-le-mul-right size o)))
         (λ w. ⊎-elim
@@ -264,7 +266,7 @@ module _ (S : Scheme) (d N : ℕ) (t s : List ℕ) (size : ℕ) (nodes parents d
         let same : getD parents j 0 ≡ node k = cc in
         let step : at (node j) r ≡ m .link i (at (node k) r) = G .steps j r some h c ∙ ap₂ (λ (x v : ℕ). m .link x (at v r)) (tree .1) same in
         let low : i ≤ S .n = subst (λ (x : ℕ). x ≤ S .n) (tree .1) (arc .0) in
-        let on = dart-slot S d N t s size nodes parents dims count R s′ cols count G k r l c in
+        let on = dart-slot N t s size nodes parents dims count R s′ cols count G k r l c in
         ap (m .link i) step ∙ R .formed .back (at (node k) r) (on .0) (on .1) i low)
         (λ f. follows-at m s′ size i (getD cols (node j) 0) (getD cols (node k) 0) (λ q. q) f r c)
         w)
@@ -283,7 +285,7 @@ module _ (S : Scheme) (d N : ℕ) (t s : List ℕ) (size : ℕ) (nodes parents d
         let way : m .link i (at (node (y .0)) r) ≡ at (node (z .0)) r = by-cases (decLt (y .0) (z .0))
         (λ o.
         let k = arc-back (z .0) (y .0) i r (z .1) (y .1) (omega arith) low c fro in
-        let d = dart-slot S d N t s size nodes parents dims count R s′ cols count G (z .0) r (z .1) c in
+        let d = dart-slot N t s size nodes parents dims count R s′ cols count G (z .0) r (z .1) c in
         ap (m .link i) (sym k) ∙ R .formed .back (at (node (z .0)) r) (d .0) (d .1) i (end .2))
         (λ o. arc-back (y .0) (z .0) i r (y .1) (z .1) (omega arith) low c to) in
         ap (λ (x : ℕ). m .link i (at x r)) (sym (y .2)) ∙ way ∙ ap (λ (x : ℕ). at x r) (z .2)
@@ -304,8 +306,8 @@ module _ (S : Scheme) (d N : ℕ) (t s : List ℕ) (size : ℕ) (nodes parents d
         let y = R .rooted .every v h l in
         let z = R .rooted .every w k o in
         let rows : place N s′ (y .0 * size + r) ≡ place N s′ (z .0 * size + q) =
-        sym (dart-at S d N t s size nodes parents dims count R s′ cols count G (y .0) r (y .1)) ∙ ap (λ (x : ℕ). at x r) (y .2) ∙ e
-        ∙ ap (λ (x : ℕ). at x q) (sym (z .2)) ∙ dart-at S d N t s size nodes parents dims count R s′ cols count G (z .0) q (z .1) in
+        sym (dart-at N t s size nodes parents dims count R s′ cols count G (y .0) r (y .1)) ∙ ap (λ (x : ℕ). at x r) (y .2) ∙ e
+        ∙ ap (λ (x : ℕ). at x q) (sym (z .2)) ∙ dart-at N t s size nodes parents dims count R s′ cols count G (z .0) q (z .1) in
         let first = G .taken .back (y .0 * size + r) (row-cell size (y .0) count r (y .1) b) in
         let other = G .taken .back (z .0 * size + q) (row-cell size (z .0) count q (z .1) c) in
         let marks : mark s′ (place N s′ (y .0 * size + r)) ≡ mark s′ (place N s′ (z .0 * size + q)) = ap (mark s′) rows in
@@ -347,7 +349,7 @@ module _ (S : Scheme) (d N : ℕ) (t s : List ℕ) (size : ℕ) (nodes parents d
     }
 
     tests-match : matches m S O ≡ true
-    tests-match = assigns-match m S (R .accepted) O (good S d N t s size nodes parents dims count R) found found-assigns
+    tests-match = assigns-match m S (R .accepted) O (good N t s size nodes parents dims count R) found found-assigns
 
   -- ---- the answer
 
@@ -355,18 +357,19 @@ module _ (S : Scheme) (d N : ℕ) (t s : List ℕ) (size : ℕ) (nodes parents d
   assigned-columns q = record {
     inside = λ v h l.
         let z = R .rooted .every v h l in
-        let b = column-inside S d N t s size nodes parents dims count R s′ cols count G (z .0) (z .1) in
+        let b = column-inside N t s size nodes parents dims count R s′ cols count G (z .0) (z .1) in
         let full = G .taken .fits in
         subst (λ (w : ℕ). (N ≤ getD cols w 0) × (getD cols w 0 + size ≤ 2 * N)) (z .2) (b .0, omega (arith, b .1));
     dart = λ v r h l b. image-at q v r h l b ∙ ap (λ (u : ℕ). image m S u v) (sym (G .longer .places r b));
   }
 
-  pub matched : (b : Bool) → b ≡ arcsTest m s′ size nodes dims codes cols (4 * count) → Matched S d N t s s′ cols size b
+  pub matched : (b : Bool) → b ≡ arcsTest m s′ size nodes dims codes cols (4 * count) → Matched S (R .dart) N t s s′ cols size b
   matched b e = record {
     is = e ∙ same-test _ _ tests-match match-tests;
     long = G .taken .long ∙ sym (R .taken .long);
     assigned = λ f. assigned-columns (tests-match (sym e ∙ f));
     kept = λ f. longer-kept N s s′ size (G .longer) (count * size) (R .taken) (G .taken) more;
+    wide = λ f. G .wide;
   }
 
 -- where two pairs fall on one dart
@@ -376,4 +379,5 @@ unmatched S d N t s s′ cols size e long = record {
   long = long;
   assigned = λ f. absurd (true≢false (sym f));
   kept = λ f. absurd (true≢false (sym f));
+  wide = λ f. absurd (true≢false (sym f));
 }

@@ -19,27 +19,25 @@ use Rattle.table.specs.Words.{Sized}
 use Rattle.edit.specs.Store.{mark, place, next, dartAt, Taken, Walked, Kept}
 use Rattle.edit.specs.Phases.{Coded, Rooted, Assigned}
 
--- S is an accepted scheme with its tree, the table is well-formed for it, and the store has the orbit of the live dart d
-pub record Ready (S : Scheme) (d N : ℕ) (t s : List ℕ) (size : ℕ) (nodes parents dims : List ℕ) (count : ℕ) : Type 0 where
-  pub accepted : Accepted S
-  pub sized : Sized N t
-  pub formed : WellFormed (S .n) (view N t)
-  pub below : d < N
-  pub alive : view N t .state d ≡ 1
-  pub walked : Walked (view N t) (S .places) (orbitDim S) d s size
-  pub taken : Taken N s size
-  pub rooted : Rooted S count nodes parents dims
-
--- there are such a scheme and dart
-pub record Begun (N : ℕ) (t s : List ℕ) (size : ℕ) (nodes parents dims : List ℕ) (count : ℕ) : Type 0 where
+-- an accepted scheme with its tree, a table that is well-formed for it, and in the store the orbit of a live dart
+pub record Ready (N : ℕ) (t s : List ℕ) (size : ℕ) (nodes parents dims : List ℕ) (count : ℕ) : Type 0 where
   pub scheme : Scheme
   pub dart : ℕ
-  pub ready : Ready scheme dart N t s size nodes parents dims count
+  pub accepted : Accepted scheme
+  pub sized : Sized N t
+  pub formed : WellFormed (scheme .n) (view N t)
+  pub below : dart < N
+  pub alive : view N t .state dart ≡ 1
+  pub walked : Walked (view N t) (scheme .places) (orbitDim scheme) dart s size
+  pub taken : Taken N s size
+  pub rooted : Rooted scheme count nodes parents dims
 
--- and the codes are those of the scheme's left arcs
-pub record Posed (N : ℕ) (t s : List ℕ) (size : ℕ) (nodes parents dims : List ℕ) (count : ℕ) (codes : List ℕ) : Type 0 where
-  pub begun : Begun N t s size nodes parents dims count
-  pub coded : Coded (begun .scheme) left codes
+-- the same with the codes of the scheme's left arcs, and room for the columns of all nodes
+pub record Posed (N : ℕ) (t s : List ℕ) (size : ℕ) (nodes parents dims : List ℕ) (count : ℕ) (codes cols : List ℕ) : Type 0 where
+  pub ready : Ready N t s size nodes parents dims count
+  pub coded : Coded (ready .scheme) left codes
+  pub codesLong : length codes ≡ 64
+  pub colsLong : length cols ≡ 16
 
 -- whether there is a match at the orbit of d
 abbrev pub matchesAt : Map → Scheme → ℕ → Bool
@@ -85,6 +83,7 @@ pub record Columned (m : Map) (i from : ℕ) (s s′ : List ℕ) (end size : ℕ
 
 -- the first k entries of the tree have their columns, and each but the first was made from its parent's
 pub record Grown (m : Map) (nodes parents dims : List ℕ) (s s′ cols : List ℕ) (size k : ℕ) : Type 0 where
+  pub wide : length cols ≡ 16
   pub taken : Taken (m .slots) s′ (k * size)
   pub longer : Longer (m .slots) s s′ size
   pub alive : (e : ℕ) → e < k * size → m .state (place (m .slots) s′ e) ≡ 1
@@ -95,7 +94,7 @@ pub record Grown (m : Map) (nodes parents dims : List ℕ) (s s′ cols : List �
 -- all entries have their columns, or else there is no match
 pub record Rows (N : ℕ) (t : List ℕ) (nodes parents dims : List ℕ) (s s′ cols : List ℕ) (size count : ℕ) (whole : Bool) : Type 0 where
   pub done : whole ≡ true → Grown (view N t) nodes parents dims s s′ cols size count
-  pub none : whole ≡ false → (S : Scheme) (d : ℕ) → Ready S d N t s size nodes parents dims count → matchesAt (view N t) S d ≡ false
+  pub none : whole ≡ false → (R : Ready N t s size nodes parents dims count) → matchesAt (view N t) (R .scheme) (R .dart) ≡ false
 
 -- for each place r of the orbit, the i-link leads from the dart in the column at `from` to the one at place `to r` of the column at `base`
 unfoldable pub follows : Map → List ℕ → ℕ → ℕ → ℕ → ℕ → (ℕ → ℕ) → Bool
@@ -145,7 +144,8 @@ pub record Matched (S : Scheme) (d N : ℕ) (t s s′ cols : List ℕ) (size : �
   pub long : length s′ ≡ length s
   pub assigned : answer ≡ true → Assigned (view N t) S s′ cols size
   pub kept : answer ≡ true → Kept N s s′ size
+  pub wide : answer ≡ true → length cols ≡ 16
 
--- so for each scheme and dart that it may have been asked for
-pub record Answered (N : ℕ) (t s : List ℕ) (size : ℕ) (nodes parents dims : List ℕ) (count : ℕ) (codes s′ cols : List ℕ) (answer : Bool) : Type 0 where
-  pub at : (S : Scheme) (d : ℕ) → Ready S d N t s size nodes parents dims count → Coded S left codes → Matched S d N t s s′ cols size answer
+-- it is the answer for the scheme and the dart that it was asked for
+pub record Answered (N : ℕ) (t s : List ℕ) (size : ℕ) (nodes parents dims : List ℕ) (count : ℕ) (codes cols s′ cols′ : List ℕ) (answer : Bool) : Type 0 where
+  pub at : (P : Posed N t s size nodes parents dims count codes cols) → Matched (P .ready .scheme) (P .ready .dart) N t s s′ cols′ size answer

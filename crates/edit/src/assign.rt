@@ -8,7 +8,7 @@ ghost use lib.ListN.{length, getD};
 ghost use Rattle.model.specs.Map.{view};
 ghost use Rattle.table.specs.Words.{Sized};
 ghost use Rattle.edit.specs.Store.{next, Taken};
-ghost use Rattle.edit.specs.Columns.{Begun, Posed, Linked, Testable, Turns, Columned, Rows, follows, explicitTest, arcTest, arcsTest, Firm, Answered};
+ghost use Rattle.edit.specs.Columns.{Ready, Posed, Linked, Testable, Turns, Columned, Rows, follows, explicitTest, arcTest, arcsTest, Firm, Answered};
 
 fn wide(x: u8) -> usize
     ensures { λ r. ⌜ r ≡ x ⌝ }
@@ -57,7 +57,7 @@ fn columns(
     cols: &mut [usize; 16],
 ) -> bool
     requires { ⌜ length (now cols) ≡ 16 ⌝ }
-    requires { ⌜ Begun slots (now table) (now store) size (now nodes) (now parents) (now dims) count ⌝ }
+    requires { ⌜ Ready slots (now table) (now store) size (now nodes) (now parents) (now dims) count ⌝ }
     ensures { λ r. ⌜ Rows slots (now (table .entry)) (now (nodes .entry)) (now (parents .entry)) (now (dims .entry)) (now (store .entry)) (now (store .exit)) (now (cols .exit)) size count r ⌝ }
 {
     cols[0] = slots;
@@ -235,9 +235,8 @@ pub(crate) fn assign(
     codes: &[u8; 64],
     cols: &mut [usize; 16],
 ) -> bool
-    requires { ⌜ (length (now codes) ≡ 64) × (length (now cols) ≡ 16) ⌝ }
-    requires { ⌜ Posed slots (now table) (now store) size (now nodes) (now parents) (now dims) count (now codes) ⌝ }
-    ensures { λ r. ⌜ Answered slots (now (table .entry)) (now (store .entry)) size (now (nodes .entry)) (now (parents .entry)) (now (dims .entry)) count (now (codes .entry)) (now (store .exit)) (now (cols .exit)) r ⌝ }
+    requires { ⌜ Posed slots (now table) (now store) size (now nodes) (now parents) (now dims) count (now codes) (now cols) ⌝ }
+    ensures { λ r. ⌜ Answered slots (now (table .entry)) (now (store .entry)) size (now (nodes .entry)) (now (parents .entry)) (now (dims .entry)) count (now (codes .entry)) (now (cols .entry)) (now (store .exit)) (now (cols .exit)) r ⌝ }
 {
     if !columns(slots, table, store, size, nodes, parents, dims, count, cols) {
         return false;

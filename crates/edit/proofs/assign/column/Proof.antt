@@ -5,7 +5,7 @@ use native.Mathlib.Omega.{arith}
 use borrow.Author.Needs.{needs}
 use Rattle.model.specs.Map.{view}
 use Rattle.edit.specs.Columns.{Column}
-use Rattle.edit.proofs.ColumnLaws.{mark-read, column-none, column-slot, column-below, column-clash, column-more, column-done}
+use Rattle.edit.proofs.PlacedLaws.{mark-read, column-none, column-slot, column-below, column-clash, column-more, column-done}
 use Rattle.edit.proofs.assign.column.Statement.{statement}
 use Rattle.edit.proofs.assign.column.Tie as tie
 

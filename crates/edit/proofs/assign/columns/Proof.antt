@@ -3,7 +3,6 @@
 use Prim.Native.Nat.{_*_, _-_, _≤_, _<_}
 use mathlib.Core.Path.{_≡_}
 use native.Mathlib.Omega.{arith}
-use lib.ListN.{length, length-set}
 use denote.Ref.{now}
 use borrow.Author.Needs.{needs}
 use borrow.Author.Tests.{not-true, not-false}
@@ -15,7 +14,7 @@ use Rattle.edit.proofs.assign.columns.Tie as tie
 
 abbrev Inv-loop : tie.InvT-loop
 Inv-loop slots table store₀ size nodes parents dims count cols₀ end₀ k₀ store cols end k =
-    (1 ≤ k) × (k ≤ count) × (end ≡ k * size) × (length cols ≡ 16) × Grown (view slots table) nodes parents dims store₀ store cols size k
+    (1 ≤ k) × (k ≤ count) × (end ≡ k * size) × Grown (view slots table) nodes parents dims store₀ store cols size k
 
 abbrev μ-loop : tie.MeasureT-loop
 μ-loop slots table store₀ size nodes parents dims count cols₀ end₀ k₀ store cols end k = count - k
@@ -38,8 +37,7 @@ element-write-cols c = search needs
 loop-holds : tie.Need-loop-holds Inv-loop μ-loop
 loop-holds c =
     let p = c .before .before .pre in
-    let r = p .1 .ready in
-    (omega arith, r .rooted .some, omega arith, simp length-set (p .0), grown-one _ _ _ _ _ _ _ _ _ _ r (now (c .before .before .args .cols)) (p .0))
+    (omega arith, p .1 .rooted .some, omega arith, grown-one _ _ _ _ _ _ _ _ (p .1) (now (c .before .before .args .cols)) (p .0))
 
 element-copy-out-wide : tie.Need-element-copy-out-wide Inv-loop μ-loop
 element-copy-out-wide c = search needs
@@ -65,7 +63,7 @@ column-requires c κs =
     let l = w .before .before in
     let inv = l .before .loop .inv in
     let a = l .before .before .before .before in
-    column-asks _ _ _ _ _ _ _ _ _ _ _ (inv .4) (inv .0) (l .loop-test .taken) _ _ _ (w .wide .ensures) (c .wide2 .ensures) (inv .2) (a .pre .1)
+    column-asks _ _ _ _ _ _ _ _ _ _ _ (inv .3) (inv .0) (l .loop-test .taken) _ _ _ (w .wide .ensures) (c .wide2 .ensures) (inv .2) (a .pre .1)
 
 same-length : tie.Need-same-length Inv-loop μ-loop
 same-length c = search needs
@@ -77,7 +75,7 @@ returns c =
     let w = d .before .before .before .before in
     let l = w .before .before in
     let inv = l .before .loop .inv in
-    rows-clash _ _ _ _ _ _ _ _ _ _ _ (inv .4) (inv .0) (l .loop-test .taken) _ _ _ (w .wide .ensures) (d .wide2 .ensures) (inv .2) _ _ (k .column .ensures) (not-true _ (c .if1 .taken))
+    rows-clash _ _ _ _ _ _ _ _ _ _ _ (inv .3) (inv .0) (l .loop-test .taken) _ _ _ (w .wide .ensures) (d .wide2 .ensures) (inv .2) _ _ (k .column .ensures) (not-true _ (c .if1 .taken))
 
 add-cols : tie.Need-add-cols Inv-loop μ-loop
 add-cols c = search needs
@@ -115,9 +113,8 @@ loop-again c =
       omega arith,
       omega arith,
       omega arith,
-      simp length-set (inv .3),
-      rows-more _ _ _ _ _ _ _ _ _ _ _ (inv .4) (inv .0) (l .loop-test .taken) _ _ _ (w .wide .ensures) (d .wide2 .ensures) (inv .2) (a .pre .1)
-          _ _ (c .wide3 .ensures) (inv .3) _ (k .column .ensures) (not-false _ (e .if1 .left)),
+      rows-more _ _ _ _ _ _ _ _ _ _ _ (inv .3) (inv .0) (l .loop-test .taken) _ _ _ (w .wide .ensures) (d .wide2 .ensures) (inv .2) (a .pre .1)
+          _ _ (c .wide3 .ensures) _ (k .column .ensures) (not-false _ (e .if1 .left)),
     )
 
 same-length-2 : tie.Need-same-length-2 Inv-loop μ-loop
@@ -126,7 +123,7 @@ same-length-2 c = search needs
 returns-2 : tie.Need-returns-2 Inv-loop μ-loop
 returns-2 c =
     let inv = c .before .loop .inv in
-    rows-done _ _ _ _ _ _ _ _ _ _ _ (inv .1) (c .loop-test .left) (inv .4)
+    rows-done _ _ _ _ _ _ _ _ _ _ _ (inv .1) (c .loop-test .left) (inv .3)
 
 pub columns-spec : {M : Type 1} → statement M
 columns-spec =

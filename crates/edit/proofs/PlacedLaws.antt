@@ -3,14 +3,14 @@
 use Prim.Native.Nat.{ℕ, _+_, _*_, _-_, _≤_, _<_}
 use mathlib.Core.Path.{_≡_, refl, sym, ap, _∙_, subst}
 use mathlib.Core.Logic.{_≢_, by-cases}
-use mathlib.Core.Bool.{Bool, true, false, true≢false}
+use mathlib.Core.Bool.{true, false, true≢false}
 use mathlib.Core.List.{List}
 use native.Mathlib.Decide.{ℕ-discrete}
 use native.Mathlib.Omega.{arith}
-use lib.ListN.{length, getD}
+use lib.ListN.{getD}
 use Rattle.base.proofs.TestLaws.{same-test}
 use Rattle.model.specs.Map.{Map}
-use Rattle.edit.specs.Store.{mark, place, next, dartAt, among, Taken, Kept}
+use Rattle.edit.specs.Store.{mark, place, next, dartAt, Taken, Kept}
 use Rattle.edit.specs.Places.{pushed, Pushed}
 use Rattle.edit.specs.Columns.{Longer, Linked, Column, Columned}
 use Rattle.edit.proofs.StoreLaws.{pushed-other, pushed-place-other, pushed-place, among-at, among-of}
