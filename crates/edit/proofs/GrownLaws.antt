@@ -24,7 +24,7 @@ use Rattle.model.proofs.MatchLaws.{GoodOrbit, match-assigns, arc-of}
 use Rattle.model.proofs.MatchIff.{good-orbit}
 use Rattle.table.specs.Words.{Sized}
 use Rattle.edit.specs.Store.{mark, place, dartAt, Taken}
-use Rattle.edit.specs.Columns.{Ready, matchesAt, Linked, Column, Columned, Grown, Rows}
+use Rattle.edit.specs.Columns.{Ready, matchesAt, Linked, Column, Columned, Grown, ColumnedAll}
 use Rattle.edit.proofs.StoreLaws.{among-at, among-of}
 use Rattle.edit.proofs.PlacedLaws.{dart-place, longer-dart, longer-less, longer-trans}
 
@@ -257,9 +257,9 @@ module _ (N : ℕ) (t s : List ℕ) (size : ℕ) (nodes parents dims : List ℕ)
 
 -- ---- the loop over the entries
 
-pub rows-done : (N : ℕ) (t nodes parents dims s s′ cols : List ℕ) (size count k : ℕ) → k ≤ count → count ≤ k
-    → Grown (view N t) nodes parents dims s s′ cols size k → Rows N t nodes parents dims s s′ cols size count true
-rows-done N t nodes parents dims s s′ cols size count k h l G = record {
+pub columns-done : (N : ℕ) (t nodes parents dims s s′ cols : List ℕ) (size count k : ℕ) → k ≤ count → count ≤ k
+    → Grown (view N t) nodes parents dims s s′ cols size k → ColumnedAll N t nodes parents dims s s′ cols size count true
+columns-done N t nodes parents dims s s′ cols size count k h l G = record {
   done = λ e. let same : k ≡ count = omega arith in rw (← same) G;
   none = λ e. absurd (true≢false e);
 }
@@ -294,14 +294,14 @@ module _ (N : ℕ) (t s : List ℕ) (size : ℕ) (nodes parents dims : List ℕ)
           ),
         )
 
-    pub rows-more : (s″ : List ℕ) (y : ℕ) → y ≡ getD nodes k 0 → (w : Bool) → Columned (view N t) i (getD cols x 0) s′ s″ end size w → w ≡ true
+    pub columns-more : (s″ : List ℕ) (y : ℕ) → y ≡ getD nodes k 0 → (w : Bool) → Columned (view N t) i (getD cols x 0) s′ s″ end size w → w ≡ true
         → Grown (view N t) nodes parents dims s s″ (set cols y (N + end)) size (k + 1)
-    rows-more s″ y c w C z =
+    columns-more s″ y c w C z =
         let D : Column (view N t) (getD dims k 0) (getD cols (getD parents k 0) 0) s′ s″ (k * size) size = rw (a, b, e) at (C .done z) in
         rw (c, e) (grown-more N t s size nodes parents dims count R s′ cols k G l h s″ D)
 
-  pub rows-clash : (s″ : List ℕ) (w : Bool) → Columned (view N t) i (getD cols x 0) s′ s″ end size w → w ≡ false → Rows N t nodes parents dims s s″ cols size count false
-  rows-clash s″ w C z = record {
+  pub columns-clash : (s″ : List ℕ) (w : Bool) → Columned (view N t) i (getD cols x 0) s′ s″ end size w → w ≡ false → ColumnedAll N t nodes parents dims s s″ cols size count false
+  columns-clash s″ w C z = record {
     done = λ f. absurd (true≢false (sym f));
     none = λ f R. ⊎-elim
         (λ q.

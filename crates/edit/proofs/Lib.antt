@@ -1,5 +1,6 @@
 pub mod StoreLaws
-mod TestLoops
-mod PlacedLaws
-mod GrownLaws
-mod MatchedLaws
+pub mod WalkLaws
+pub mod TestLoops
+pub mod PlacedLaws
+pub mod GrownLaws
+pub mod MatchedLaws

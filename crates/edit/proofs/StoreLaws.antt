@@ -1,22 +1,21 @@
 -- What stands in the store after one word of it was set, after a slot took a place, and after all marks were cleared.
 -- Assumes nothing.
 use Prim.Native.Nat.{ℕ, _+_, _*_, _-_, _≤_, _<_}
-use mathlib.Core.Path.{_≡_, refl, sym, ap, _∙_}
+use mathlib.Core.Path.{_≡_, sym, ap, _∙_}
 use mathlib.Core.Logic.{_≢_, by-cases}
-use mathlib.Core.Bool.{Bool, true, false, true≢false}
+use mathlib.Core.Bool.{true, false}
 use mathlib.Core.List.{List}
-use native.Mathlib.Decide.{ℕ-discrete}
+use native.Mathlib.Decide.{ℕ-discrete, decLt}
 use native.Mathlib.Omega.{arith}
-use lib.Dec.{ltb, leb}
+use lib.Dec.{ltb}
 use lib.ListN.{length, getD, set, drop, replicate, length-set, length-append, length-replicate, length-drop, getD-replicate, List·getD-append}
 use lib.Seq.{getD-set-same, getD-set-other}
 use borrow.Author.Tests.{lt-ltb, le-ltb, le-leb, ltb-true, leb-true}
 use Rattle.base.specs.Below.{count}
-use Rattle.base.specs.Test.{_and_}
 use Rattle.base.proofs.TestLaws.{and-left, and-right, and-of, same-test}
-use Rattle.base.proofs.BelowLaws.{count-one-more, count-room, count-zero}
-use Rattle.edit.specs.Store.{mark, place, next, dartAt, marked, among, Taken, Kept}
-use Rattle.edit.specs.Places.{pushed, Pushed, unmarked}
+use Rattle.base.proofs.BelowLaws.{count-same, count-one-more, count-room, count-zero}
+use Rattle.edit.specs.Store.{mark, place, marked, among, Taken}
+use Rattle.edit.specs.Places.{pushed, Pushed, unmarked, Blank}
 
 -- ---- one word
 
@@ -33,25 +32,9 @@ module _ (s : List ℕ) (i v : ℕ) where
   unfolding place
   place-set-other N e ne = getD-set-other s i (N + e) v 0 ne
 
-  pub next-set-other : (N r p : ℕ) → 4 * N + 4 * r + p ≢ i → next N (set s i v) r p ≡ next N s r p
-  unfolding next
-  next-set-other N r p ne = getD-set-other s i (4 * N + 4 * r + p) v 0 ne
-
-  pub dartAt-set-other : (base r : ℕ) → base + r ≢ i → dartAt (set s i v) base r ≡ dartAt s base r
-  unfolding dartAt
-  dartAt-set-other base r ne = getD-set-other s i (base + r) v 0 ne
-
 pub place-set-same : (N : ℕ) (s : List ℕ) (e v : ℕ) → N + e < length s → place N (set s (N + e) v) e ≡ v
 unfolding place
 place-set-same N s e v h = getD-set-same s (N + e) v 0 h
-
-pub next-set-same : (N : ℕ) (s : List ℕ) (r p v : ℕ) → 4 * N + 4 * r + p < length s → next N (set s (4 * N + 4 * r + p) v) r p ≡ v
-unfolding next
-next-set-same N s r p v h = getD-set-same s (4 * N + 4 * r + p) v 0 h
-
-pub dartAt-set-same : (s : List ℕ) (base r v : ℕ) → base + r < length s → dartAt (set s (base + r) v) base r ≡ v
-unfolding dartAt
-dartAt-set-same s base r v h = getD-set-same s (base + r) v 0 h
 
 -- ---- marks
 
@@ -63,6 +46,41 @@ module _ (s : List ℕ) (size x : ℕ) where
   pub among-of : 1 ≤ mark s x → mark s x ≤ size → among s size x ≡ true
   unfolding among
   among-of h k = and-of (lt-ltb 0 (mark s x) h) (le-leb (mark s x) size k)
+
+pub mark-le : (N : ℕ) (s : List ℕ) (end : ℕ) → Taken N s end → (x : ℕ) → x < N → mark s x ≤ end
+mark-le N s end t x l = by-cases (decLt 0 (mark s x)) (λ h. t .found x l h .0) (λ h. omega arith)
+
+-- what is marked stands among the places that are taken
+pub among-all : (N : ℕ) (s : List ℕ) (end : ℕ) → Taken N s end → (x : ℕ) → x < N → among s end x ≡ marked s x
+unfolding marked
+among-all N s end t x l = same-test _ _
+    (λ a. lt-ltb 0 (mark s x) (among-at s end x a .0))
+    (λ a. let h = ltb-true 0 (mark s x) a in among-of s end x h (t .found x l h .0))
+
+-- ---- a word behind the places
+
+module _ (N : ℕ) (s : List ℕ) (i v : ℕ) (behind : 2 * N ≤ i) where
+  pub mark-set-behind : (x : ℕ) → x < N → mark (set s i v) x ≡ mark s x
+  mark-set-behind x h = mark-set-other s i v x (λ q. absurd (omega arith))
+
+  pub place-set-behind : (e : ℕ) → e < N → place N (set s i v) e ≡ place N s e
+  place-set-behind e h = place-set-other s i v N e (λ q. absurd (omega arith))
+
+  pub taken-set-behind : (end : ℕ) → Taken N s end → Taken N (set s i v) end
+  unfolding marked
+  taken-set-behind end t =
+      let at : (e : ℕ) → e < end → place N (set s i v) e ≡ place N s e = λ e h. place-set-behind e (omega (arith, t .fits)) in
+      record {
+        long = simp length-set (t .long);
+        fits = t .fits;
+        slot = λ e h. rw (at e h) (t .slot e h);
+        back = λ e h. ap (mark (set s i v)) (at e h) ∙ mark-set-behind (place N s e) (t .slot e h) ∙ t .back e h;
+        found = λ x h m.
+            let mx : mark (set s i v) x ≡ mark s x = mark-set-behind x h in
+            let f = t .found x h (omega arith) in
+            (omega (arith, f .0), ap (λ (z : ℕ). place N (set s i v) (z - 1)) mx ∙ at (mark s x - 1) (omega (arith, f .0)) ∙ f .1);
+        total = count-same N (marked s) (marked (set s i v)) (λ x h. ap (ltb 0) (mark-set-behind x h)) ∙ t .total;
+      }
 
 -- ---- a place more
 
@@ -132,21 +150,6 @@ module _ (N : ℕ) (s : List ℕ) (end y : ℕ) where
         total = omega (arith, more, t .total);
       }
 
-      -- what stood at the first places stands there
-      pub pushed-kept : (size : ℕ) → size ≤ end → Kept N s (pushed N s end y) size
-      unfolding among next
-      pushed-kept size few = record {
-        long = length-pushed;
-        places = λ r h. pushed-place-other r l (λ q. absurd (omega arith));
-        marks = λ x h. by-cases (ℕ-discrete x y)
-            (λ q. same-test _ _
-            (λ a. let mx : mark (pushed N s end y) x ≡ end + 1 = rw q pushed-mark in absurd (omega (arith, among-at _ _ _ a)))
-            (λ a. let mx : mark s x ≡ 0 = rw q fresh in absurd (omega (arith, among-at _ _ _ a))))
-            (λ ne. ap (λ (z : ℕ). ltb 0 z and leb z size) (pushed-mark-other x h ne));
-        ranks = λ x h a. pushed-mark-other x h (λ q. let z : mark s x ≡ 0 = rw q fresh in absurd (omega (arith, among-at _ _ _ a)));
-        nexts = λ r p h k. pushed-other (4 * N + 4 * r + p) (λ q. absurd (omega arith)) (λ q. absurd (omega (arith, room)));
-      }
-
       -- the two stores of a push
       pub push-done : {a b : List ℕ} → a ≡ set s y (end + 1) → b ≡ set a (N + end) y → Pushed N s end y b
       unfolding pushed
@@ -154,23 +157,21 @@ module _ (N : ℕ) (s : List ℕ) (end y : ℕ) where
 
 -- ---- no marks
 
-pub length-unmarked : (N : ℕ) (s : List ℕ) → N ≤ length s → length (unmarked N s) ≡ length s
-unfolding unmarked
-length-unmarked N s h = simp (length-append, length-replicate, length-drop) (omega arith)
-
-pub unmarked-mark : (N : ℕ) (s : List ℕ) (x : ℕ) → x < N → mark (unmarked N s) x ≡ 0
+pub unmarked-blank : (N : ℕ) (s : List ℕ) → length s ≡ 16 * N → Blank N (unmarked N s)
 unfolding unmarked mark
-unmarked-mark N s x h =
-    List·getD-append (replicate N 0) (drop N s) 0 x (simp length-replicate h) ∙ getD-replicate N x 0 0 h
+unmarked-blank N s e = record {
+  long = simp (length-append, length-replicate, length-drop) (omega arith);
+  none = λ x h. List·getD-append (replicate N 0) (drop N s) 0 x (simp length-replicate h) ∙ getD-replicate N x 0 0 h;
+}
 
--- a store without marks has no place taken
-pub taken-none : (N : ℕ) (s : List ℕ) → length s ≡ 16 * N → ((x : ℕ) → x < N → mark s x ≡ 0) → Taken N s 0
+-- in a store without marks no place is taken
+pub blank-taken : (N : ℕ) (s : List ℕ) → Blank N s → Taken N s 0
 unfolding marked
-taken-none N s e none = record {
-  long = e;
+blank-taken N s b = record {
+  long = b .long;
   fits = omega arith;
   slot = λ i h. absurd (omega arith);
   back = λ i h. absurd (omega arith);
-  found = λ x h m. absurd (omega (arith, none x h));
-  total = count-zero N (marked s) (λ x h. le-ltb 0 (mark s x) (omega (arith, none x h)));
+  found = λ x h m. absurd (omega (arith, b .none x h));
+  total = count-zero N (marked s) (λ x h. le-ltb 0 (mark s x) (omega (arith, b .none x h)));
 }

@@ -92,7 +92,7 @@ pub record Grown (m : Map) (nodes parents dims : List ℕ) (s s′ cols : List �
       → dartAt s′ (getD cols (getD nodes j 0) 0) r ≡ m .link (getD dims j 0) (dartAt s′ (getD cols (getD parents j 0) 0) r)
 
 -- all entries have their columns, or else there is no match
-pub record Rows (N : ℕ) (t : List ℕ) (nodes parents dims : List ℕ) (s s′ cols : List ℕ) (size count : ℕ) (whole : Bool) : Type 0 where
+pub record ColumnedAll (N : ℕ) (t : List ℕ) (nodes parents dims : List ℕ) (s s′ cols : List ℕ) (size count : ℕ) (whole : Bool) : Type 0 where
   pub done : whole ≡ true → Grown (view N t) nodes parents dims s s′ cols size count
   pub none : whole ≡ false → (R : Ready N t s size nodes parents dims count) → matchesAt (view N t) (R .scheme) (R .dart) ≡ false
 

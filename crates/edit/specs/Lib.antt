@@ -1,4 +1,5 @@
 pub mod Store
 pub mod Places
+pub mod Walk
 pub mod Phases
 pub mod Columns

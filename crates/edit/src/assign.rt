@@ -8,7 +8,7 @@ ghost use lib.ListN.{length, getD};
 ghost use Rattle.model.specs.Map.{view};
 ghost use Rattle.table.specs.Words.{Sized};
 ghost use Rattle.edit.specs.Store.{next, Taken};
-ghost use Rattle.edit.specs.Columns.{Ready, Posed, Linked, Testable, Turns, Columned, Rows, follows, explicitTest, arcTest, arcsTest, Firm, Answered};
+ghost use Rattle.edit.specs.Columns.{Ready, Posed, Linked, Testable, Turns, Columned, ColumnedAll, follows, explicitTest, arcTest, arcsTest, Firm, Answered};
 
 fn wide(x: u8) -> usize
     ensures { λ r. ⌜ r ≡ x ⌝ }
@@ -58,7 +58,7 @@ fn columns(
 ) -> bool
     requires { ⌜ length (now cols) ≡ 16 ⌝ }
     requires { ⌜ Ready slots (now table) (now store) size (now nodes) (now parents) (now dims) count ⌝ }
-    ensures { λ r. ⌜ Rows slots (now (table .entry)) (now (nodes .entry)) (now (parents .entry)) (now (dims .entry)) (now (store .entry)) (now (store .exit)) (now (cols .exit)) size count r ⌝ }
+    ensures { λ r. ⌜ ColumnedAll slots (now (table .entry)) (now (nodes .entry)) (now (parents .entry)) (now (dims .entry)) (now (store .entry)) (now (store .exit)) (now (cols .exit)) size count r ⌝ }
 {
     cols[0] = slots;
     let mut end = size;

@@ -1,3 +1,4 @@
 // Applying a scheme at a dart.
 mod assign;
+mod orbit;
 mod store;

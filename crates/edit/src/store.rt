@@ -1,6 +1,6 @@
 // The words of the working store, and the places that slots take in it (specs/Store.antt has the layout).
 ghost use mathlib.Core.Path.{_≡_};
-ghost use Prim.Native.Nat.{_+_, _*_, _^_, _<_, _≤_};
+ghost use Prim.Native.Nat.{_+_, _^_, _<_, _≤_};
 ghost use lib.ListN.{length, getD, set};
 ghost use Rattle.edit.specs.Store.{Taken, mark};
 ghost use Rattle.edit.specs.Places.{Pushed, unmarked};

@@ -8,7 +8,7 @@ use borrow.Author.Needs.{needs}
 use borrow.Author.Tests.{not-true, not-false}
 use Rattle.model.specs.Map.{view}
 use Rattle.edit.specs.Columns.{Grown}
-use Rattle.edit.proofs.GrownLaws.{grown-one, node-fits, parent-fits, column-asks, rows-more, rows-clash, rows-done}
+use Rattle.edit.proofs.GrownLaws.{grown-one, node-fits, parent-fits, column-asks, columns-more, columns-clash, columns-done}
 use Rattle.edit.proofs.assign.columns.Statement.{statement}
 use Rattle.edit.proofs.assign.columns.Tie as tie
 
@@ -75,7 +75,7 @@ returns c =
     let w = d .before .before .before .before in
     let l = w .before .before in
     let inv = l .before .loop .inv in
-    rows-clash _ _ _ _ _ _ _ _ _ _ _ (inv .3) (inv .0) (l .loop-test .taken) _ _ _ (w .wide .ensures) (d .wide2 .ensures) (inv .2) _ _ (k .column .ensures) (not-true _ (c .if1 .taken))
+    columns-clash _ _ _ _ _ _ _ _ _ _ _ (inv .3) (inv .0) (l .loop-test .taken) _ _ _ (w .wide .ensures) (d .wide2 .ensures) (inv .2) _ _ (k .column .ensures) (not-true _ (c .if1 .taken))
 
 add-cols : tie.Need-add-cols Inv-loop μ-loop
 add-cols c = search needs
@@ -113,7 +113,7 @@ loop-again c =
       omega arith,
       omega arith,
       omega arith,
-      rows-more _ _ _ _ _ _ _ _ _ _ _ (inv .3) (inv .0) (l .loop-test .taken) _ _ _ (w .wide .ensures) (d .wide2 .ensures) (inv .2) (a .pre .1)
+      columns-more _ _ _ _ _ _ _ _ _ _ _ (inv .3) (inv .0) (l .loop-test .taken) _ _ _ (w .wide .ensures) (d .wide2 .ensures) (inv .2) (a .pre .1)
           _ _ (c .wide3 .ensures) _ (k .column .ensures) (not-false _ (e .if1 .left)),
     )
 
@@ -123,7 +123,7 @@ same-length-2 c = search needs
 returns-2 : tie.Need-returns-2 Inv-loop μ-loop
 returns-2 c =
     let inv = c .before .loop .inv in
-    rows-done _ _ _ _ _ _ _ _ _ _ _ (inv .1) (c .loop-test .left) (inv .3)
+    columns-done _ _ _ _ _ _ _ _ _ _ _ (inv .1) (c .loop-test .left) (inv .3)
 
 pub columns-spec : {M : Type 1} → statement M
 columns-spec =
