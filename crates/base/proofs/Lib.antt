@@ -4,3 +4,4 @@ pub mod BelowLaws
 pub mod FirstLaws
 pub mod ListLaws
 pub mod StepLaws
+pub mod RowLaws

@@ -4,3 +4,4 @@ pub mod Walk
 pub mod Phases
 pub mod Links
 pub mod Grant
+pub mod Columns

@@ -1,5 +1,6 @@
 // Applying a scheme at a dart.
-mod orbit;
+mod assign;
 mod links;
+mod orbit;
 mod slots;
 mod store;
