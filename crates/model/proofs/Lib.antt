@@ -24,3 +24,4 @@ pub mod HoldsLaws
 pub mod UnusedLaws
 pub mod AlikeCalls
 pub mod SequenceLaws
+pub mod RewritingLaws
