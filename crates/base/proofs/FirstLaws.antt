@@ -121,6 +121,10 @@ unfolding least when
 least-only n p k h e only =
     first-only n (λ x. when (p x) x) k k h (rw e refl) (λ j b l q. let w = when-at (p j) q in sym (w .1) ∙ only j l (w .0))
 
+pub least-same : (n : ℕ) (p q : ℕ → Bool) → ((k : ℕ) → k < n → p k ≡ q k) → least n p ≡ least n q
+unfolding least
+least-same n p q f = first-same n (λ x. when (p x) x) (λ x. when (q x) x) (λ k h. ap (λ (b : Bool). when b k) (f k h))
+
 module _ {A : Type 0} where
   pub first-step : (i : ℕ) (f : ℕ → Option A) → first (i + 1) f ≡ first i f orElse f i
   unfolding first

@@ -71,3 +71,11 @@ module _ {A : Type 0} where
   fill-done l l₀ i a e h k f =
       let same : i ≡ length l₀ = omega arith in
       sym (take-all i l (omega arith)) ∙ f ∙ ap (λ (n : ℕ). replicate n a) same
+
+-- ---- within a list the default does not matter
+
+module _ {A : Type 0} where
+  pub getD-default : (l : List A) (i : ℕ) (d e : A) → i < length l → getD l i d ≡ getD l i e
+  getD-default [] i d e h = absurd (not-suc-le-zero h)
+  getD-default (a ∷ l) zero d e h = refl
+  getD-default (a ∷ l) (suc i) d e h = getD-default l i d e (le-of-suc-le-suc h)

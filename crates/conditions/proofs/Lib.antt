@@ -1,0 +1,2 @@
+pub mod ArcTableLaws
+pub mod CodeLaws

@@ -1,0 +1,2 @@
+// The tests of a scheme that has been read: hook, incidence, cycles, in this order.
+pub mod arcs;
