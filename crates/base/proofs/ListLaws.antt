@@ -79,3 +79,8 @@ module _ {A : Type 0} where
   getD-default [] i d e h = absurd (not-suc-le-zero h)
   getD-default (a ∷ l) zero d e h = refl
   getD-default (a ∷ l) (suc i) d e h = getD-default l i d e (le-of-suc-le-suc h)
+
+  pub getD-replicate-all : (n i : ℕ) (a : A) → getD (replicate n a) i a ≡ a
+  getD-replicate-all zero i a = refl
+  getD-replicate-all (suc n) zero a = refl
+  getD-replicate-all (suc n) (suc i) a = getD-replicate-all n i a

@@ -6,7 +6,7 @@ use mathlib.Core.Logic.{_⊎_, inl, inr, ⊎-elim}
 use mathlib.Core.Bool.{Bool, true, false, cond, true≢false}
 use mathlib.Core.Option.{Option, none, some}
 use mathlib.Core.List.{List}
-use native.Mathlib.Nat.{add-zero, add-assoc, eq-or-lt-of-le}
+use native.Mathlib.Nat.{add-zero, add-assoc}
 use native.Mathlib.Omega.{arith}
 use lib.ListN.{length, getD, set, replicate, length-set, getD-replicate}
 use lib.Seq.{getD-set-same, getD-set-other}
@@ -16,7 +16,7 @@ use Rattle.base.specs.Test.{_and_, _or_, bit}
 use Rattle.base.specs.Below.{count}
 use Rattle.base.specs.First.{first, least, when, _orElse_}
 use Rattle.base.proofs.TestLaws.{true-or-false}
-use Rattle.base.proofs.BelowLaws.{count-step, count-le}
+use Rattle.base.proofs.BelowLaws.{below-step, count-step, count-le}
 use Rattle.base.proofs.FirstLaws.{first-step, least-at}
 use Rattle.model.specs.Scheme.{touching}
 use Rattle.conditions.specs.Arcs.{entry, partOf, readsOf, oneMore, covered, over, Explicit, Implicit, Filled}
@@ -156,9 +156,9 @@ unfolding _orElse_ when
 over-same c p none = refl
 over-same c p (some q) = refl
 
-least-more : (p : ℕ) (f : ℕ → Bool) → least (p + 1) f ≡ least p f orElse when (f p) p
+least-step : (p : ℕ) (f : ℕ → Bool) → least (p + 1) f ≡ least p f orElse when (f p) p
 unfolding least
-least-more p f = first-step p (λ x. when (f x) x)
+least-step p f = first-step p (λ x. when (f x) x)
 
 -- ---- the implicit arcs of a node
 
@@ -183,7 +183,7 @@ module _ (words : List ℕ) (p s : ℕ) (codes₀ counts₀ codes counts : List 
     reads-p j = ap (λ (z : ℕ). eqb z j) (sym e)
 
     least-p : (j : ℕ) → least (p + 1) (readsOf words s j) ≡ least p (readsOf words s j) orElse when (eqb i j) p
-    least-p j = least-more p (readsOf words s j) ∙ ap (λ (b : Bool). least p (readsOf words s j) orElse when b p) (reads-p j)
+    least-p j = least-step p (readsOf words s j) ∙ ap (λ (b : Bool). least p (readsOf words s j) orElse when b p) (reads-p j)
 
     count-p : (j : ℕ) → count (p + 1) (readsOf words s j) ≡ count p (readsOf words s j) + bit (eqb i j)
     count-p j = count-step p (readsOf words s j) ∙ ap (λ (b : Bool). count p (readsOf words s j) + bit b) (reads-p j)
@@ -263,7 +263,4 @@ module _ (places : ℕ) (targets words : List ℕ) (c : ℕ) (arcs : List ℕ) w
     }
       where
         before-or-at : {P : Type 0} (t : ℕ) → t < s + 1 → (t ≡ s → P) → (t < s → P) → P
-        before-or-at t l u v = ⊎-elim u v (eq-or-lt-of-le (lt-add-one-iff t s l))
-          where
-            lt-add-one-iff : (a b : ℕ) → a < b + 1 → a ≤ b
-            lt-add-one-iff a b q = omega arith
+        before-or-at t l u v = ⊎-elim u v (below-step l)

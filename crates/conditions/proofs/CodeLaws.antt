@@ -64,14 +64,13 @@ module _ (S : Scheme) (f : Formed S) (side : Side) where
   places-few : S .places ≤ 4
   places-few = let a = f .placesFew in let b = small S f in omega arith
 
-  -- the arcs of a side join nodes of the scheme
-  pub joins : Joins (S .nodes) (arcsOf S side) (arcs S side)
+  -- the arcs of a side are in order
+  pub joins : Joins (arcsOf S side) (arcs S side)
   joins = record {
     few = f .sides side .few;
-    nodesFew = f .nodesFew;
     dims = λ a h. let b = small S f in let d = f .sides side .dims a h in subst (λ (part : ℕ → ℕ → ℕ). part a 0 ≤ 3) (part-is S side) (omega arith);
-    from = λ a h. subst (λ (part : ℕ → ℕ → ℕ). part a 1 < S .nodes) (part-is S side) (f .sides side .from a h .0);
-    to = λ a h. subst (λ (part : ℕ → ℕ → ℕ). part a 2 < S .nodes) (part-is S side) (f .sides side .to a h .0);
+    from = λ a h. let n = f .nodesFew in let d = f .sides side .from a h .0 in subst (λ (part : ℕ → ℕ → ℕ). part a 1 < 16) (part-is S side) (omega arith);
+    to = λ a h. let n = f .nodesFew in let d = f .sides side .to a h .0 in subst (λ (part : ℕ → ℕ → ℕ). part a 2 < 16) (part-is S side) (omega arith);
   }
 
   end-below : (s i t : ℕ) → farEnd (arcPart S side) (arcs S side) s i ≡ some t → t < S .nodes

@@ -1,2 +1,5 @@
 pub mod ArcTableLaws
 pub mod CodeLaws
+pub mod TreeLaws
+pub mod HookLaws
+pub mod SpanLaws

@@ -32,13 +32,12 @@ partOf l a f = getD l (3 * a + f) 0
 abbrev pub readsOf : List ℕ → ℕ → ℕ → ℕ → Bool
 readsOf w s i p = eqb (entry w s p) i
 
--- the first c arcs have dimensions up to 3 and join nodes of a scheme
-pub record Joins (nodes : ℕ) (arcs : List ℕ) (c : ℕ) : Type 0 where
+-- the first c arcs have dimensions up to 3 and join nodes below 16
+pub record Joins (arcs : List ℕ) (c : ℕ) : Type 0 where
   pub few : c ≤ 64
-  pub nodesFew : nodes ≤ 16
   pub dims : (a : ℕ) → a < c → partOf arcs a 0 ≤ 3
-  pub from : (a : ℕ) → a < c → partOf arcs a 1 < nodes
-  pub to : (a : ℕ) → a < c → partOf arcs a 2 < nodes
+  pub from : (a : ℕ) → a < c → partOf arcs a 1 < 16
+  pub to : (a : ℕ) → a < c → partOf arcs a 2 < 16
 
 -- one more is counted at node s and dimension i
 unfoldable pub oneMore : List ℕ → ℕ → ℕ → List ℕ

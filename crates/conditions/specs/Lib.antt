@@ -1,1 +1,3 @@
 pub mod Arcs
+pub mod Tree
+pub mod Hook

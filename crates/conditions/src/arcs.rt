@@ -46,8 +46,8 @@ fn cover(codes: &mut [u8; 64], s: usize, i: usize, p: usize)
 }
 
 // How many of the first `count` arcs there are at each node and dimension.
-fn explicit(nodes: usize, count: usize, arcs: &[u8; 192]) -> [u8; 64]
-    requires { ⌜ Joins nodes (now arcs) count ⌝ }
+fn explicit(count: usize, arcs: &[u8; 192]) -> [u8; 64]
+    requires { ⌜ Joins (now arcs) count ⌝ }
     ensures { λ r. ⌜ Explicit (now (arcs .entry)) count r ⌝ }
 {
     let mut counts = [0u8; 64];
@@ -92,12 +92,12 @@ pub fn arcs_of<'a>(
     count: usize,
     arcs: &'a [u8; 192],
 ) -> Arcs
-    requires { ⌜ (places ≤ 4) × (length (now targets) ≡ 64) ⌝ }
-    requires { ⌜ Joins nodes (now arcs) count ⌝ }
+    requires { ⌜ (places ≤ 4) × (nodes ≤ 16) × (length (now targets) ≡ 64) ⌝ }
+    requires { ⌜ Joins (now arcs) count ⌝ }
     ensures { λ r. ⌜ Filled places (now (targets .entry)) (now (words .entry)) count (now (arcs .entry)) nodes (r .codes) (r .counts) ⌝ }
 {
     let mut codes = *targets;
-    let mut counts = explicit(nodes, count, arcs);
+    let mut counts = explicit(count, arcs);
     let mut s = 0;
     while s < nodes {
         implicit(places, words, s, &mut codes, &mut counts);

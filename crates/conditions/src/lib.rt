@@ -1,2 +1,4 @@
 // The tests of a scheme that has been read: hook, incidence, cycles, in this order.
 pub mod arcs;
+pub mod hook;
+pub mod tree;

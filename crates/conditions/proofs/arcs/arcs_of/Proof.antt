@@ -21,7 +21,7 @@ explicit-requires : tie.Need-explicit-requires Inv-loop μ-loop
 explicit-requires c κs = search needs
 
 loop-holds : tie.Need-loop-holds Inv-loop μ-loop
-loop-holds c = (omega arith, c .before .before .pre .0 .1, search needs, filled-none _ _ _ _ _ _ (c .explicit .ensures))
+loop-holds c = (omega arith, c .before .before .pre .0 .2, search needs, filled-none _ _ _ _ _ _ (c .explicit .ensures))
 
 implicit-requires : tie.Need-implicit-requires Inv-loop μ-loop
 implicit-requires c κs =

@@ -11,10 +11,10 @@ use Rattle.conditions.proofs.arcs.explicit.Statement.{statement}
 use Rattle.conditions.proofs.arcs.explicit.Tie as tie
 
 abbrev Inv-loop : tie.InvT-loop
-Inv-loop nodes count arcs counts₀ a₀ counts a = (a ≤ count) × (length counts ≡ 64) × Explicit arcs a counts
+Inv-loop count arcs counts₀ a₀ counts a = (a ≤ count) × (length counts ≡ 64) × Explicit arcs a counts
 
 abbrev μ-loop : tie.MeasureT-loop
-μ-loop nodes count arcs counts₀ a₀ counts a = count - a
+μ-loop count arcs counts₀ a₀ counts a = count - a
 
 loop-holds : tie.Need-loop-holds Inv-loop μ-loop
 loop-holds c = (omega arith, refl, explicit-none _)
