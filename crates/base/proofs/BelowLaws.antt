@@ -27,6 +27,11 @@ unfolding all _and_
 all-of zero p f = refl
 all-of (suc n) p f = rw (all-of n p (λ k h. f k (omega arith))) (f n (omega arith))
 
+pub all-same : (n : ℕ) (p q : ℕ → Bool) → ((k : ℕ) → k < n → p k ≡ q k) → all n p ≡ all n q
+unfolding all
+all-same zero p q f = refl
+all-same (suc n) p q f = ap₂ _and_ (all-same n p q (λ k h. f k (omega arith))) (f n (omega arith))
+
 pub any-at : (n : ℕ) (p : ℕ → Bool) → any n p ≡ true → (k : ℕ) × (k < n) × (p k ≡ true)
 unfolding any
 any-at zero p e = absurd (false≢true e)

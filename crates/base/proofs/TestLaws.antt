@@ -19,6 +19,11 @@ pub and-of : {a b : Bool} → a ≡ true → b ≡ true → (a and b) ≡ true
 unfolding _and_
 and-of {a} {b} p q = rw (p, q)
 
+pub and-true : (a : Bool) → (a and true) ≡ a
+unfolding _and_
+and-true true = refl
+and-true false = refl
+
 pub or-cases : (a b : Bool) → (a or b) ≡ true → (a ≡ true) ⊎ (b ≡ true)
 unfolding _or_
 or-cases true b e = inl refl
