@@ -52,6 +52,11 @@ module _ {A : Type 0} where
   or-else-none none r e = (refl, e)
   or-else-none (some b) r e = absurd (some-not-none {o = some b} {a = b} refl e)
 
+  pub or-else-last : (o : Option A) → o orElse none ≡ o
+  unfolding _orElse_
+  or-else-last none = refl
+  or-else-last (some a) = refl
+
   -- where `first` gives nothing, no number does
   pub first-none : (n : ℕ) (f : ℕ → Option A) → first n f ≡ none → (k : ℕ) → k < n → f k ≡ none
   unfolding first

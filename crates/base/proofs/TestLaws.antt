@@ -1,8 +1,11 @@
 -- Laws of the tests: what a joined test says of its parts.
 -- Assumes nothing.
-use mathlib.Core.Path.{_≡_, refl}
+use Prim.Native.Nat.{ℕ}
+use mathlib.Core.Path.{_≡_, refl, sym}
 use mathlib.Core.Logic.{_⊎_, inl, inr}
 use mathlib.Core.Bool.{Bool, true, false, false≢true}
+use lib.Dec.{eqb}
+use borrow.Author.Tests.{eqb-true, eqb-false, eq-eqb, ne-eqb}
 use Rattle.base.specs.Test.{_and_, _or_, _⇒_}
 
 pub and-left : (a b : Bool) → (a and b) ≡ true → a ≡ true
@@ -51,3 +54,16 @@ if-of false f = refl
 pub true-or-false : (a : Bool) → (a ≡ true) ⊎ (a ≡ false)
 true-or-false true = inl refl
 true-or-false false = inr refl
+
+pub or-false : (a : Bool) → (a or false) ≡ a
+unfolding _or_
+or-false true = refl
+or-false false = refl
+
+-- two equalities of numbers that follow from one another are one test
+pub eqb-same : (a b c d : ℕ) → (a ≡ b → c ≡ d) → (c ≡ d → a ≡ b) → eqb a b ≡ eqb c d
+eqb-same a b c d f g = go (eqb a b) refl
+  where
+    go : (t : Bool) → eqb a b ≡ t → t ≡ eqb c d
+    go true e = sym (eq-eqb c d (f (eqb-true a b e)))
+    go false e = sym (ne-eqb c d (λ q. eqb-false a b e (g q)))

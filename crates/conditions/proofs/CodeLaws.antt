@@ -21,7 +21,8 @@ use Rattle.model.specs.Conditions.{Arc, absent, explicit, implicit, arcOf, arcA
 use Rattle.model.specs.Formed.{Formed, FormedSide}
 use Rattle.model.specs.declared.Scheme.{Scheme}
 use Rattle.model.proofs.AcceptedLaws.{small}
-use Rattle.conditions.specs.Arcs.{arcCode, entry, partOf, readsOf, over, Joins, Filled, Coded, Counted}
+use Rattle.conditions.specs.Arcs.{arcCode, entry, partOf, readsOf, over, Joins, Filled, Coded, Counted, ArcTables}
+use Rattle.conditions.specs.declared.arcs.Arcs.{Arcs}
 
 -- a side's lists, as a scheme holds them
 abbrev pub wordsOf : Scheme → Side → List ℕ
@@ -121,3 +122,17 @@ module _ (S : Scheme) (f : Formed S) (side : Side) where
           ∙ ap₂ _+_ (ap (λ (part : ℕ → ℕ → ℕ). count (arcs S side) (touching part s i)) (sym (part-is S side)))
           (count-same (S .places) _ _ (λ p l. reads-is s i p h l));
     }
+
+-- a side's tables, from the numbers and lists that a scheme holds
+module _ (S : Scheme) (f : Formed S) (side : Side) (p n c : ℕ) (ep : p ≡ S .places) (en : n ≡ S .nodes) (ec : c ≡ arcs S side)
+    (longTargets : length (targetsOf S side) ≡ 64) where
+  pub tables-ask : ((p ≤ 4) × (n ≤ 16) × (length (targetsOf S side) ≡ 64)) × Joins (arcsOf S side) c
+  tables-ask =
+      let a = places-few S f side in
+      let b = f .nodesFew in
+      ((omega arith, omega arith, longTargets), subst (Joins (arcsOf S side)) (sym ec) (joins S f side))
+
+  pub tables : length (wordsOf S side) ≡ 64 → (a : Arcs) → Filled p (targetsOf S side) (wordsOf S side) c (arcsOf S side) n (a .codes) (a .counts) → ArcTables S side a
+  tables longWords a d =
+      let e = rw (ep, en, ec) at d in
+      record { coded = coded S f side longWords longTargets _ _ e; counted = counted S f side longWords longTargets _ _ e }

@@ -6,3 +6,5 @@ pub mod SpanLaws
 pub mod IncidenceLaws
 pub mod CycleTestLaws
 pub mod CycleSearchLaws
+pub mod CycleIsLaws
+pub mod FaultLaws

@@ -79,3 +79,7 @@ pub record Coded (S : Scheme) (side : Side) (codes : List ℕ) : Type 0 where
 
 pub record Counted (S : Scheme) (side : Side) (counts : List ℕ) : Type 0 where
   pub at : (s i : ℕ) → s < S .nodes → i < 4 → entry counts s i ≡ arcsOfDim S side s i
+
+pub record ArcTables (S : Scheme) (side : Side) (a : Arcs) : Type 0 where
+  pub coded : Coded S side (a .codes)
+  pub counted : Counted S side (a .counts)
