@@ -11,7 +11,7 @@ use lib.Dec.{leb, ltb}
 use borrow.Author.Tests.{leb-true, leb-false, ltb-true, ltb-false}
 use Rattle.base.specs.Test.{_and_, _or_, bit}
 use Rattle.base.specs.Below.{all, any, count}
-use Rattle.base.proofs.TestLaws.{and-left, and-right, or-cases, or-left, or-right, true-or-false}
+use Rattle.base.proofs.TestLaws.{and-left, and-right, and-of, or-cases, or-left, or-right, true-or-false}
 
 pub below-suc : {k n : ℕ} → k < suc n → (k ≡ n) ⊎ (k < n)
 below-suc h = eq-or-lt-of-le (le-of-suc-le-suc h)
@@ -26,6 +26,11 @@ pub all-of : (n : ℕ) (p : ℕ → Bool) → ((k : ℕ) → k < n → p k ≡ t
 unfolding all _and_
 all-of zero p f = refl
 all-of (suc n) p f = rw (all-of n p (λ k h. f k (omega arith))) (f n (omega arith))
+
+pub all-same : (n : ℕ) (p q : ℕ → Bool) → ((k : ℕ) → k < n → p k ≡ q k) → all n p ≡ all n q
+unfolding all
+all-same zero p q f = refl
+all-same (suc n) p q f = ap₂ _and_ (all-same n p q (λ k h. f k (omega arith))) (f n (omega arith))
 
 pub any-at : (n : ℕ) (p : ℕ → Bool) → any n p ≡ true → (k : ℕ) × (k < n) × (p k ≡ true)
 unfolding any
@@ -156,6 +161,9 @@ count-room n p k h e = lt-of-not-le (λ l. true≢false (sym (count-full n p l k
 
 -- ---- a loop's step: the numbers below i + 1 are those below i, and i
 
+pub below-step : {k i : ℕ} → k < i + 1 → (k ≡ i) ⊎ (k < i)
+below-step {k} {i} h = below-suc (subst (λ (n : ℕ). k < n) (add-one i) h)
+
 pub all-step : (i : ℕ) (p : ℕ → Bool) → all (i + 1) p ≡ (all i p and p i)
 unfolding all
 all-step i p = rw add-one refl
@@ -167,6 +175,13 @@ any-step i p = rw add-one refl
 pub count-step : (i : ℕ) (p : ℕ → Bool) → count (i + 1) p ≡ count i p + bit (p i)
 unfolding count
 count-step i p = rw add-one refl
+
+pub all-more : (i : ℕ) (p : ℕ → Bool) → all i p ≡ true → p i ≡ true → all (i + 1) p ≡ true
+all-more i p e f = all-step i p ∙ and-of e f
+
+-- one that fails is enough
+pub all-not : (n : ℕ) (p : ℕ → Bool) (k : ℕ) → k < n → p k ≡ false → all n p ≡ false
+all-not n p k h e = ⊎-elim (λ a. absurd (true≢false (sym (all-at n p a k h) ∙ e))) (λ a. a) (true-or-false (all n p))
 
 -- ---- as many below
 

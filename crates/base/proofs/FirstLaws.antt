@@ -70,6 +70,11 @@ module _ {A : Type 0} where
       go none f = f refl
       go (some c) f = refl
 
+  pub or-else-last : (o : Option A) → o orElse none ≡ o
+  unfolding _orElse_
+  or-else-last none = refl
+  or-else-last (some a) = refl
+
   -- where `first` gives nothing, no number does
   pub first-none : (n : ℕ) (f : ℕ → Option A) → first n f ≡ none → (k : ℕ) → k < n → f k ≡ none
   unfolding first
@@ -139,10 +144,37 @@ unfolding least when
 least-only n p k h e only =
     first-only n (λ x. when (p x) x) k k h (rw e refl) (λ j b l q. let w = when-at (p j) q in sym (w .1) ∙ only j l (w .0))
 
+pub least-same : (n : ℕ) (p q : ℕ → Bool) → ((k : ℕ) → k < n → p k ≡ q k) → least n p ≡ least n q
+unfolding least
+least-same n p q f = first-same n (λ x. when (p x) x) (λ x. when (q x) x) (λ k h. ap (λ (b : Bool). when b k) (f k h))
+
 module _ {A : Type 0} where
   pub first-step : (i : ℕ) (f : ℕ → Option A) → first (i + 1) f ≡ first i f orElse f i
   unfolding first
   first-step i f = rw add-one refl
+
+-- ---- a search that counts up: what it knows while it finds nothing, and what it has found where it stops
+
+module _ {A : Type 0} where
+  pub first-more : (k : ℕ) (f : ℕ → Option A) → first k f ≡ none → f k ≡ none → first (k + 1) f ≡ none
+  unfolding _orElse_
+  first-more k f e h = first-step k f ∙ rw e h
+
+  pub first-hit : (n : ℕ) (f : ℕ → Option A) (k : ℕ) (a : A) → k < n → first k f ≡ none → f k ≡ some a → first n f ≡ some a
+  unfolding first _orElse_
+  first-hit zero f k a h e q = absurd (not-suc-le-zero h)
+  first-hit (suc n) f k a h e q = ⊎-elim
+      (λ w. let z : first n f ≡ none = ap (λ (y : ℕ). first y f) (sym w) ∙ e in rw z (ap f (sym w) ∙ q))
+      (λ w. let z : first n f ≡ some a = first-hit n f k a w e q in rw z)
+      (below-suc h)
+
+pub least-more : (k : ℕ) (p : ℕ → Bool) → least k p ≡ none → p k ≡ false → least (k + 1) p ≡ none
+unfolding least when
+least-more k p e f = first-more k (λ x. when (p x) x) e (rw f)
+
+pub least-hit : (n : ℕ) (p : ℕ → Bool) (k : ℕ) → k < n → least k p ≡ none → p k ≡ true → least n p ≡ some k
+unfolding least when
+least-hit n p k h e f = first-hit n (λ x. when (p x) x) k k h e (rw f)
 
 -- ---- the k-th lowest
 

@@ -85,3 +85,8 @@ module _ {A : Type 0} where
   getD-inside [] i d e h = absurd (not-suc-le-zero h)
   getD-inside (a ∷ l) zero d e h = refl
   getD-inside (a ∷ l) (suc i) d e h = getD-inside l i d e (le-of-suc-le-suc h)
+
+  pub getD-replicate-all : (n i : ℕ) (a : A) → getD (replicate n a) i a ≡ a
+  getD-replicate-all zero i a = refl
+  getD-replicate-all (suc n) zero a = refl
+  getD-replicate-all (suc n) (suc i) a = getD-replicate-all n i a
