@@ -3,7 +3,7 @@
 use Prim.Native.Nat.{ℕ, zero, suc, _+_, _≤_, _<_}
 use mathlib.Core.Path.{_≡_, refl, sym, ap, ap₂, _∙_, subst}
 use mathlib.Core.Logic.{_⊎_, inl, inr, ⊎-elim}
-use mathlib.Core.Bool.{Bool, true, false, false≢true, true≢false}
+use mathlib.Core.Bool.{Bool, true, false, not, false≢true, true≢false}
 use native.Mathlib.Nat.{not-suc-le-zero, le-of-suc-le-suc, eq-or-lt-of-le, eq-zero-or-pos, lt-of-not-le, add-zero}
 use native.Mathlib.Numerals.{add-one}
 use native.Mathlib.Omega.{arith}
@@ -132,6 +132,16 @@ count-zero (suc n) p f = ap₂ (λ (a : ℕ) (b : Bool). a + bit b) (count-zero 
 
 pub count-some : (n : ℕ) (p : ℕ → Bool) (k : ℕ) → k < n → p k ≡ true → 1 ≤ count n p
 count-some n p k h e = ⊎-elim (λ z. absurd (true≢false (sym e ∙ count-none n p z k h))) (λ l. l) (eq-zero-or-pos (count n p))
+
+-- those that have p and those that have not are all
+pub count-not : (n : ℕ) (p : ℕ → Bool) → count n (λ k. not (p k)) + count n p ≡ n
+unfolding count
+count-not zero p = refl
+count-not (suc n) p = go (p n) (count-not n p)
+  where
+    go : (b : Bool) → count n (λ k. not (p k)) + count n p ≡ n → count n (λ k. not (p k)) + bit (not b) + (count n p + bit b) ≡ suc n
+    go true h = omega arith
+    go false h = omega arith
 
 -- tests that agree are counted equally often
 pub count-same : (n : ℕ) (p q : ℕ → Bool) → ((k : ℕ) → k < n → p k ≡ q k) → count n p ≡ count n q

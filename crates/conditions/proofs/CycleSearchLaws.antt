@@ -36,13 +36,13 @@ module _ (orbit kinds lefts rights : List ℕ) (s : ℕ) where
     node-fine h l = let same : k ≡ pairCount n = omega (arith, q) in ap (λ (m : ℕ). first m (atPair orbit kinds lefts rights s)) (sym same) ∙ e
 
     pub found-pair : (nodes : ℕ) (a : Answer) → k < p → atPair orbit kinds lefts rights s k ≡ some a → s < nodes
-        → first s (atNode orbit kinds lefts rights n) ≡ none → a ≡ cycleAnswer n nodes orbit kinds lefts rights
+        → first s (atNode orbit kinds lefts rights n) ≡ none → a ≡ cycleAnswer orbit kinds lefts rights n nodes
     unfolding cycleAnswer atNode
     found-pair nodes a h f l g =
         rw (first-hit nodes (atNode orbit kinds lefts rights n) s a l g (first-hit (pairCount n) (atPair orbit kinds lefts rights s) k a (omega (arith, q)) e f))
 
 pub found-no-pair : (orbit kinds lefts rights : List ℕ) (n nodes s : ℕ) → s ≤ nodes → nodes ≤ s
-    → first s (atNode orbit kinds lefts rights n) ≡ none → Done ≡ cycleAnswer n nodes orbit kinds lefts rights
+    → first s (atNode orbit kinds lefts rights n) ≡ none → Done ≡ cycleAnswer orbit kinds lefts rights n nodes
 unfolding cycleAnswer
 found-no-pair orbit kinds lefts rights n nodes s h l e =
     let same : s ≡ nodes = omega arith in

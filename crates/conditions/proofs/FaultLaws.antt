@@ -20,15 +20,17 @@ use Rattle.model.specs.declared.Scheme.{Scheme}
 use Rattle.model.specs.declared.Answer.{Answer}
 use Rattle.model.specs.declared.Answer.the-variants.{Done, BadHook, BadIncidence, BadCycle}
 use Rattle.model.proofs.AcceptedLaws as AcceptedLaws
-use Rattle.conditions.specs.Arcs.{Coded, ArcTables}
-use Rattle.conditions.specs.Tree.{TreeOf}
-use Rattle.conditions.specs.Hook.{hookedBy, leftOut, foundOf}
-use Rattle.conditions.specs.Incidence.{offends}
+use Rattle.conditions.specs.Arcs.{Joins, ArcTables}
+use Rattle.conditions.specs.Tree.{Spanning}
+use Rattle.conditions.specs.Hook.{hookedBy, leftOut, foundOf, HookBy, wrongHook, leftOver}
+use Rattle.conditions.specs.Incidence.{offends, arcsAnswer}
 use Rattle.conditions.specs.Cycles.{Coding, atNode, cycleAnswer}
 use Rattle.conditions.specs.declared.arcs.Arcs.{Arcs}
 use Rattle.conditions.specs.declared.hook.Found.{Found}
 use Rattle.conditions.specs.declared.hook.Found.the-variants.{Node, Nothing}
 use Rattle.conditions.specs.declared.tree.Tree.{Tree}
+use Rattle.conditions.proofs.CodeLaws.{joins}
+use Rattle.conditions.proofs.SpanLaws.{tree-of}
 use Rattle.conditions.proofs.HookLaws.{hook-is, unreached-is}
 use Rattle.conditions.proofs.IncidenceLaws.{incidence-is}
 use Rattle.conditions.proofs.CycleIsLaws.{coding, cycle-is}
@@ -43,19 +45,23 @@ found-nothing (some y) e = absurd (let z : _≡_ {A = ℕ} 0 1 = cc in omega ari
 
 -- ---- hook
 
-module _ (S : Scheme) (f : Formed S) (long : length (S .lwords) ≡ 64) (p : ℕ) (ep : p ≡ S .places)
-    (b : Bool) (e : b ≡ hookedBy p (S .orbit) (S .kinds) (S .lwords)) where
-  right-is : hookRight S ≡ b
-  right-is = hook-is S f long ∙ ap (λ (k : ℕ). hookedBy k (S .orbit) (S .kinds) (S .lwords)) (sym ep) ∙ sym e
+module _ (S : Scheme) (f : Formed S) (long : length (S .lwords) ≡ 64) (p n c : ℕ) (ep : p ≡ S .places) (en : n ≡ S .nodes) (ec : c ≡ S .lcount) where
+  pub hook-asks : ((p ≤ 4) × (n ≤ 16)) × Joins (S .larcs) c
+  hook-asks =
+      let a = AcceptedLaws.small S f in
+      let b = f .placesFew in
+      let d = f .nodesFew in
+      ((omega arith, omega arith), subst (Joins (S .larcs)) (sym ec) (joins S f left))
 
-  pub hook-zero : not b ≡ true → Node 0 ≡ foundOf (hookFault S)
-  unfolding hookFault when _orElse_
-  hook-zero q = rw (right-is, not-true b q)
+  right-is : hookRight S ≡ hookedBy p (S .orbit) (S .kinds) (S .lwords)
+  right-is = hook-is S f long ∙ ap (λ (k : ℕ). hookedBy k (S .orbit) (S .kinds) (S .lwords)) (sym ep)
 
-  pub hook-rest : not b ≡ false → (t : Tree) → TreeOf S t → (n : ℕ) → n ≡ S .nodes
-      → (r : Found) → r ≡ foundOf (least n (leftOut (S .kinds) (t .reached))) → r ≡ foundOf (hookFault S)
+  pub hook-of : (r : Found) → HookBy p n (S .orbit) (S .kinds) (S .lwords) c (S .larcs) r → r ≡ foundOf (hookFault S)
   unfolding hookFault when _orElse_
-  hook-rest q t g n en r h = rw (right-is, not-false b q, unreached-is S f t g, ← en) h
+  hook-of r (wrongHook q e) = rw (right-is, q) e
+  hook-of r (leftOver q t g e) =
+      let h = subst (λ (k : ℕ). Spanning (S .larcs) k t) ec g in
+      rw (right-is, q, unreached-is S f t (tree-of S f t h), ← en) e
 
 -- ---- all of them
 
@@ -65,31 +71,42 @@ module _ (S : Scheme) (f : Formed S) (h : Found) (eh : h ≡ foundOf (hookFault 
   fault-hook x e = rw (found-node (hookFault S) x (sym eh ∙ e))
 
   module _ (q : h ≡ Nothing) (a b : Arcs) (ta : ArcTables S left a) (tb : ArcTables S right b) (n : ℕ) (en : n ≡ S .nodes) where
-    no-hook : hookFault S ≡ none
-    no-hook = found-nothing (hookFault S) (sym eh ∙ q)
+    pub fault-arcs : (r : Answer) → r ≡ arcsAnswer (S .n) n (S .orbit) (S .kinds) (a .counts) (b .counts) (a .codes) (b .codes)
+        → r ≡ Option·getD (schemeFault S) Done
+    unfolding schemeFault arcsAnswer _orElse_
+    fault-arcs r g = rw (
+      found-nothing (hookFault S) (sym eh ∙ q),
+      incidence-is S f (a .counts) (b .counts) (ta .counted) (tb .counted),
+      cycle-is S f (a .codes) (b .codes) (ta .coded) (tb .coded),
+      ← en,
+    ) g
 
-    module _ (d : ℕ) (ed : d ≡ S .n) (k : Found) (ek : k ≡ foundOf (least n (offends d (S .kinds) (a .counts) (b .counts)))) where
-      incidence-found : k ≡ foundOf (incidenceFault S)
-      incidence-found = rw (incidence-is S f (a .counts) (b .counts) (ta .counted) (tb .counted), ← en, ← ed) ek
-
-      pub fault-incidence : (x : ℕ) → k ≡ Node x → BadIncidence x ≡ Option·getD (schemeFault S) Done
-      unfolding schemeFault _orElse_
-      fault-incidence x e = rw (no-hook, found-node (incidenceFault S) x (sym incidence-found ∙ e))
-
-      pub fault-cycle : k ≡ Nothing → (r : Answer) → r ≡ cycleAnswer (S .n) n (S .orbit) (S .kinds) (a .codes) (b .codes) → r ≡ Option·getD (schemeFault S) Done
-      unfolding schemeFault _orElse_ cycleAnswer
-      fault-cycle e r g =
-          rw (no-hook, found-nothing (incidenceFault S) (sym incidence-found ∙ e), cycle-is S f (a .codes) (b .codes) (ta .coded) (tb .coded), ← en) g
-
-    pub incidence-asks : (d : ℕ) → d ≡ S .n → ((d ≤ 3) × (n ≤ 16)) × ((s : ℕ) → s < n → (1 ≤ getD (S .kinds) s 0) × (getD (S .kinds) s 0 ≤ 3))
-    incidence-asks d ed = let k = AcceptedLaws.small S f in let m = f .nodesFew in ((omega arith, omega arith), λ s l. f .kinds s (omega arith))
-
-    pub cycle-asks : (n ≤ 16) × (Coding n (a .codes) × Coding n (b .codes))
-    cycle-asks =
+    pub arcs-asks : ((S .n ≤ 3) × (n ≤ 16))
+        × (((s : ℕ) → s < n → (1 ≤ getD (S .kinds) s 0) × (getD (S .kinds) s 0 ≤ 3)) × (Coding n (a .codes) × Coding n (b .codes)))
+    arcs-asks =
         let m = f .nodesFew in (
-          omega arith,
+          (AcceptedLaws.small S f, omega arith),
           (
-            subst (λ (z : ℕ). Coding z (a .codes)) (sym en) (coding S f left (a .codes) (ta .coded)),
-            subst (λ (z : ℕ). Coding z (b .codes)) (sym en) (coding S f right (b .codes) (tb .coded)),
+            (λ s l. f .kinds s (omega arith)),
+            (
+              subst (λ (z : ℕ). Coding z (a .codes)) (sym en) (coding S f left (a .codes) (ta .coded)),
+              subst (λ (z : ℕ). Coding z (b .codes)) (sym en) (coding S f right (b .codes) (tb .coded)),
+            ),
           ),
         )
+
+-- ---- incidence, then cycles
+
+module _ (n nodes : ℕ) (orbit kinds leftCounts rightCounts lefts rights : List ℕ) (d : ℕ) (ed : d ≡ n)
+    (k : Found) (ek : k ≡ foundOf (least nodes (offends d kinds leftCounts rightCounts))) where
+  offends-is : foundOf (least nodes (offends n kinds leftCounts rightCounts)) ≡ k
+  offends-is = ap (λ (z : ℕ). foundOf (least nodes (offends z kinds leftCounts rightCounts))) (sym ed) ∙ sym ek
+
+  pub answer-incidence : (x : ℕ) → k ≡ Node x → BadIncidence x ≡ arcsAnswer n nodes orbit kinds leftCounts rightCounts lefts rights
+  unfolding arcsAnswer _orElse_
+  answer-incidence x e = rw (found-node (least nodes (offends n kinds leftCounts rightCounts)) x (offends-is ∙ e))
+
+  pub answer-cycle : k ≡ Nothing → (r : Answer) → r ≡ cycleAnswer orbit kinds lefts rights n nodes
+      → r ≡ arcsAnswer n nodes orbit kinds leftCounts rightCounts lefts rights
+  unfolding arcsAnswer cycleAnswer _orElse_
+  answer-cycle e r g = rw (found-nothing (least nodes (offends n kinds leftCounts rightCounts)) (offends-is ∙ e)) g

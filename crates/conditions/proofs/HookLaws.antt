@@ -11,13 +11,13 @@ use lib.ListN.{length, getD}
 use lib.Dec.{eqb}
 use borrow.Author.Tests.{eqb-true, eqb-false, eq-eqb, ne-eqb}
 use Rattle.base.specs.Test.{_and_, _or_}
-use Rattle.base.specs.Below.{all}
+use Rattle.base.specs.Below.{all, count}
 use Rattle.base.specs.First.{least, there}
-use Rattle.base.proofs.BelowLaws.{all-not, all-same}
+use Rattle.base.proofs.BelowLaws.{all-not, all-same, count-same, count-not}
 use Rattle.base.proofs.FirstLaws.{least-hit, least-same}
 use Rattle.base.proofs.ListLaws.{getD-inside}
 use Rattle.base.proofs.TestLaws.{or-left, or-right, true-or-false}
-use Rattle.model.specs.Scheme.{left, onSide, kind, orbitDim, has}
+use Rattle.model.specs.Scheme.{left, onSide, kind, orbitDim, has, added}
 use Rattle.model.specs.Conditions.{pathTo, hookRight}
 use Rattle.model.specs.Formed.{Formed}
 use Rattle.model.specs.declared.Scheme.{Scheme}
@@ -95,3 +95,7 @@ module _ (S : Scheme) (f : Formed S) where
       → least (S .nodes) (λ s. has S left s and not (there (pathTo S s))) ≡ least (S .nodes) (leftOut (S .kinds) (t .reached))
   unfolding leftOut
   unreached-is t g = least-same (S .nodes) _ _ (λ s h. ap₂ (λ (a b : Bool). a and not b) (side-left s h) (sym (g .reached s h)))
+
+  -- the left nodes are those that are not added
+  pub left-count : count (S .nodes) (has S left) + count (S .nodes) (added S) ≡ S .nodes
+  left-count = ap (λ (k : ℕ). k + count (S .nodes) (added S)) (count-same (S .nodes) _ _ side-left) ∙ count-not (S .nodes) (added S)

@@ -8,3 +8,5 @@ pub mod CycleTestLaws
 pub mod CycleSearchLaws
 pub mod CycleIsLaws
 pub mod FaultLaws
+pub mod NodeLaws
+pub mod SmallLaws

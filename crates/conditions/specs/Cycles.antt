@@ -64,6 +64,6 @@ module _ (orbit kinds lefts rights : List ℕ) where
   unfoldable pub atNode : ℕ → ℕ → Option Answer
   atNode n s = first (pairCount n) (atPair s)
 
--- the offence of the least node that has one, at its first pair
-unfoldable pub cycleAnswer : ℕ → ℕ → List ℕ → List ℕ → List ℕ → List ℕ → Answer
-cycleAnswer n nodes orbit kinds lefts rights = Option·getD (first nodes (atNode orbit kinds lefts rights n)) Done
+  -- the offence of the least node that has one, at its first pair
+  unfoldable pub cycleAnswer : ℕ → ℕ → Answer
+  cycleAnswer n nodes = Option·getD (first nodes (atNode n)) Done

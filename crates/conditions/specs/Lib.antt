@@ -1,5 +1,6 @@
 pub mod Arcs
 pub mod Tree
 pub mod Hook
-pub mod Incidence
 pub mod Cycles
+pub mod Incidence
+pub mod Nodes

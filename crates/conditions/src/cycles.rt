@@ -131,7 +131,7 @@ pub fn cycle_fault<'a>(
     requires { ⌜ nodes ≤ 16 ⌝ }
     requires { ⌜ Coding nodes (now lefts) ⌝ }
     requires { ⌜ Coding nodes (now rights) ⌝ }
-    ensures { λ r. ⌜ r ≡ cycleAnswer n nodes (now (orbit .entry)) (now (kinds .entry)) (now (lefts .entry)) (now (rights .entry)) ⌝ }
+    ensures { λ r. ⌜ r ≡ cycleAnswer (now (orbit .entry)) (now (kinds .entry)) (now (lefts .entry)) (now (rights .entry)) n nodes ⌝ }
 {
     let pairs = pair_count(n);
     let mut answer = Answer::Done;

@@ -1,4 +1,4 @@
--- `conditions::left_arcs` meets its contract.
+-- `conditions::sides::left_arcs` meets its contract.
 -- Assumes nothing.
 use Prim.Native.Nat.{ℕ}
 use mathlib.Core.Path.{_≡_}
@@ -6,8 +6,8 @@ use lib.ListN.{length}
 use Rattle.model.specs.Scheme.{left}
 use Rattle.conditions.proofs.CodeLaws.{tables-ask, tables}
 use borrow.Author.Needs.{needs, length-unmapped}
-use Rattle.conditions.proofs.left_arcs.Statement.{statement}
-use Rattle.conditions.proofs.left_arcs.Tie as tie
+use Rattle.conditions.proofs.sides.left_arcs.Statement.{statement}
+use Rattle.conditions.proofs.sides.left_arcs.Tie as tie
 
 wide-requires : tie.Need-wide-requires
 wide-requires c κs = search needs

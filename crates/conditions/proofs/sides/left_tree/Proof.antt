@@ -1,4 +1,4 @@
--- `conditions::left_tree` meets its contract.
+-- `conditions::sides::left_tree` meets its contract.
 -- Assumes nothing.
 use mathlib.Core.Path.{sym, subst}
 use Rattle.model.specs.Scheme.{left}
@@ -7,8 +7,8 @@ use Rattle.conditions.specs.Tree.{Spanning}
 use Rattle.conditions.proofs.CodeLaws.{joins}
 use Rattle.conditions.proofs.SpanLaws.{tree-of}
 use borrow.Author.Needs.{needs}
-use Rattle.conditions.proofs.left_tree.Statement.{statement}
-use Rattle.conditions.proofs.left_tree.Tie as tie
+use Rattle.conditions.proofs.sides.left_tree.Statement.{statement}
+use Rattle.conditions.proofs.sides.left_tree.Tie as tie
 
 wide-requires : tie.Need-wide-requires
 wide-requires c κs = search needs
