@@ -11,6 +11,7 @@ use lib.ListN.{length}
 use lib.Dec.{ltb}
 use borrow.Author.Tests.{lt-ltb, le-ltb}
 use Rattle.base.specs.Below.{count}
+use Rattle.base.proofs.BelowLaws.{count-le}
 use Rattle.base.specs.First.{when, _orElse_, there, nth}
 use Rattle.model.specs.Map.{view, unused}
 use Rattle.model.specs.Scheme.{left, right, orbitDim, added, deleted}
@@ -23,10 +24,10 @@ use Rattle.model.proofs.AcceptedLaws.{small}
 use Rattle.model.proofs.MatchLaws.{match-assigns}
 use Rattle.model.proofs.MatchIff.{good-orbit}
 use Rattle.conditions.specs.Arcs.{Coded}
+use Rattle.conditions.specs.Nodes.{isKind, Listed}
 use Rattle.conditions.specs.Tree.{TreeOf}
 use Rattle.conditions.specs.declared.tree.Tree.{Tree}
 use Rattle.edit.specs.Store.{Taken, Walked}
-use Rattle.edit.specs.Nodes.{hasKind, Nodes}
 use Rattle.edit.specs.Walk as W
 use Rattle.edit.specs.Columns as C
 use Rattle.edit.specs.Grant as G
@@ -34,7 +35,6 @@ use Rattle.edit.specs.Links as L
 use Rattle.edit.specs.Links.{orbitFor}
 use Rattle.edit.specs.Apply.{At, Walking, Fitting, Roomy, Granted, Applied, rewritten}
 use Rattle.edit.proofs.RootedLaws.{rooted}
-use Rattle.edit.proofs.NodeLaws.{nodes-few}
 use Rattle.edit.proofs.WalkLaws.{walked-kept}
 
 module _ (slots : ℕ) (t : List ℕ) (S : Scheme) (d : ℕ) (A : At slots t S d) where
@@ -167,28 +167,29 @@ fit-on slots t store store′ S size d cols w answer m e = record {
 -- ---- the numbers of an edit
 
 -- the nodes of a kind among all nodes of the scheme
-pub kind-count : (S : Scheme) (k c : ℕ) (node : List ℕ) (many : ℕ) → Nodes (S .kinds) k c node many → c ≡ S .nodes → many ≡ count (S .nodes) (hasKind (S .kinds) k)
-kind-count S k c node many n e = n .every ∙ ap (λ (z : ℕ). count z (hasKind (S .kinds) k)) e
+pub kind-count : (S : Scheme) (k c : ℕ) (node : List ℕ) (many : ℕ) → Listed c (S .kinds) k node many → c ≡ S .nodes → many ≡ count (S .nodes) (isKind (S .kinds) k)
+kind-count S k c node many n e = n .total ∙ ap (λ (z : ℕ). count z (isKind (S .kinds) k)) e
 
-pub kind-listed : (S : Scheme) (c : ℕ) (node : List ℕ) (many : ℕ) → Nodes (S .kinds) 3 c node many → c ≡ S .nodes → G.Listed S node many
+pub kind-listed : (S : Scheme) (c : ℕ) (node : List ℕ) (many : ℕ) → Listed c (S .kinds) 3 node many → c ≡ S .nodes → G.Listed S node many
 kind-listed S c node many n e = record {
   every = kind-count S 3 c node many n e;
-  node = λ a h. ap (λ (z : ℕ). nth z (hasKind (S .kinds) 3) a) (sym e) ∙ n .at a h;
+  node = λ a h. ap (λ (z : ℕ). nth z (isKind (S .kinds) 3) a) (sym e) ∙ n .each a h;
 }
 
 -- the darts of the nodes of a kind are few
 pub pairs-few : (slots : ℕ) (t store : List ℕ) (S : Scheme) (size d : ℕ) (cols : List ℕ) → Fitting slots t store S size d cols
-    → (k c : ℕ) (node : List ℕ) (many : ℕ) → Nodes (S .kinds) k c node many → c ≡ S .nodes → (size ≤ 1024) × (size * many ≤ 16384)
+    → (k c : ℕ) (node : List ℕ) (many : ℕ) → Listed c (S .kinds) k node many → c ≡ S .nodes → (size ≤ 1024) × (size * many ≤ 16384)
 pairs-few slots t store S size d cols f k c node many n e =
     let few : size ≤ 1024 = omega (arith, f .walked .fits, f .at .sized .few) in
-    let nodes : many ≤ 16 = omega (arith, nodes-few (S .kinds) k c node many n, f .at .accepted .formed .nodesFew) in
+    let below : many ≤ c = rw (n .total) (count-le c (isKind (S .kinds) k)) in
+    let nodes : many ≤ 16 = omega (arith, f .at .accepted .formed .nodesFew) in
     (few, omega (arith, mul-le-mul-right many few, mul-le-mul-left 1024 nodes))
 
 -- ---- the ends of an edit that fits
 
 module _ (slots : ℕ) (t store : List ℕ) (S : Scheme) (size d : ℕ) (cols : List ℕ) (f : Fitting slots t store S size d cols)
     (room : ℕ) (free : room ≡ count slots (unused (view slots t))) (c : ℕ) (e : c ≡ S .nodes)
-    (node : List ℕ) (many : ℕ) (new : Nodes (S .kinds) 3 c node many) where
+    (node : List ℕ) (many : ℕ) (new : Listed c (S .kinds) 3 node many) where
   added-is : size * many ≡ addedDarts (view slots t) S (orbitFor (view slots t) S d)
   unfolding addedDarts orbitSize
   added-is = ap₂ _*_ (sym (f .walked .counted)) (kind-count S 3 c node many new e)
@@ -206,7 +207,7 @@ module _ (slots : ℕ) (t store : List ℕ) (S : Scheme) (size d : ℕ) (cols : 
     room = subst (λ (k : ℕ). k ≤ count slots (unused (view slots t))) added-is (subst (λ (k : ℕ). size * many ≤ k) free h);
   }
 
-  pub done : (other : List ℕ) (gone : ℕ) → Nodes (S .kinds) 1 c other gone → size * many ≤ room → (t′ : List ℕ) → t′ ≡ rewritten slots t S d
+  pub done : (other : List ℕ) (gone : ℕ) → Listed c (S .kinds) 1 other gone → size * many ≤ room → (t′ : List ℕ) → t′ ≡ rewritten slots t S d
       → Applied slots t S d (Edited size (size * many) (size * gone)) t′
   unfolding roomFault when _orElse_ there addedDarts deletedDarts orbitSize
   done other gone old h t′ q =

@@ -10,6 +10,5 @@ pub mod TestLoops
 pub mod PlacedLaws
 pub mod GrownLaws
 pub mod MatchedLaws
-pub mod NodeLaws
 pub mod RootedLaws
 pub mod ApplyLaws

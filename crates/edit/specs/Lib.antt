@@ -2,7 +2,6 @@ pub mod Store
 pub mod Places
 pub mod Walk
 pub mod Phases
-pub mod Nodes
 pub mod Links
 pub mod Grant
 pub mod Columns

@@ -1,17 +1,16 @@
 // Applying an accepted scheme at a dart: refusals 9 and 10, and the published rewriting.
 mod assign;
 mod links;
-mod nodes;
 mod orbit;
 mod slots;
 mod store;
 
-use conditions::left_arcs;
-use conditions::left_tree;
-use conditions::right_arcs;
+use conditions::nodes::of_kind;
+use conditions::sides::left_arcs;
+use conditions::sides::left_tree;
+use conditions::sides::right_arcs;
 use model::Answer;
 use model::Scheme;
-use nodes::of_kind;
 ghost use mathlib.Core.Path.{_≡_};
 ghost use Prim.Native.Nat.{_*_};
 ghost use lib.ListN.{length};
@@ -115,9 +114,9 @@ fn settle(
 {
     let kinds = s.kinds;
     let c = wide(s.nodes);
-    let gone = of_kind(&kinds, c, 1);
-    let new = of_kind(&kinds, c, 3);
-    let many = new.many;
+    let gone = of_kind(c, &kinds, 1);
+    let new = of_kind(c, &kinds, 3);
+    let many = new.size;
     if room < size * many {
         return Answer::NoRoom;
     }
@@ -126,7 +125,7 @@ fn settle(
     Answer::Edited {
         orbit: size as u32,
         added: (size * many) as u32,
-        deleted: (size * gone.many) as u32,
+        deleted: (size * gone.size) as u32,
     }
 }
 

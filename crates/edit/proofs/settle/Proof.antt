@@ -15,11 +15,11 @@ start k = k .before .before .before .before .before .before .before .before
 nodes : (k : tie.After-of-kind2) → k .before .before .before .before .wide .result ≡ start k .args .s .nodes
 nodes k = k .before .before .before .before .wide .ensures
 
-new-few : (k : tie.After-of-kind2) → (start k .args .size ≤ 1024) × (start k .args .size * k .of-kind2 .result .many ≤ 16384)
-new-few k = pairs-few _ _ _ _ _ _ _ (start k .pre .0) _ _ _ _ (k .of-kind2 .ensures) (nodes k)
+new-few : (k : tie.After-of-kind2) → (start k .args .size ≤ 1024) × (start k .args .size * k .of-kind2 .result .size ≤ 16384)
+new-few k = pairs-few _ _ _ _ _ _ _ (start k .pre .0) _ _ _ _ (k .of-kind2 .ensures .listed) (nodes k)
 
-gone-few : (k : tie.After-of-kind2) → (start k .args .size ≤ 1024) × (start k .args .size * k .before .before .of-kind .result .many ≤ 16384)
-gone-few k = pairs-few _ _ _ _ _ _ _ (start k .pre .0) _ _ _ _ (k .before .before .of-kind .ensures) (nodes k)
+gone-few : (k : tie.After-of-kind2) → (start k .args .size ≤ 1024) × (start k .args .size * k .before .before .of-kind .result .size ≤ 16384)
+gone-few k = pairs-few _ _ _ _ _ _ _ (start k .pre .0) _ _ _ _ (k .before .before .of-kind .ensures .listed) (nodes k)
 
 wide-requires : tie.Need-wide-requires
 wide-requires c κs = search needs
@@ -37,14 +37,14 @@ returns : tie.Need-returns
 returns c =
     let k = c .before in
     let p = start k .pre in
-    no-room _ _ _ _ _ _ _ (p .0) _ (p .1) _ (nodes k) _ _ (k .of-kind2 .ensures) (c .if1 .taken)
+    no-room _ _ _ _ _ _ _ (p .0) _ (p .1) _ (nodes k) _ _ (k .of-kind2 .ensures .listed) (c .if1 .taken)
 
 rewrite-requires : tie.Need-rewrite-requires
 rewrite-requires c κs =
     let e = c .before .before .before .before .before in
     let k = e .before in
     let p = start k .pre in
-    (p .0, roomy _ _ _ _ _ _ _ (p .0) _ (p .1) _ (nodes k) _ _ (k .of-kind2 .ensures) (e .if1 .left))
+    (p .0, roomy _ _ _ _ _ _ _ (p .0) _ (p .1) _ (nodes k) _ _ (k .of-kind2 .ensures .listed) (e .if1 .left))
 
 cast-t26 : tie.Need-cast-t26
 cast-t26 c = let k = c .before .before .before .before .before .before .before .before .before .before .before in record { fits = omega (arith, new-few k) }
@@ -73,7 +73,7 @@ returns-2 c =
     let e = r .before .before .before .before .before .before in
     let k = e .before in
     let p = start k .pre in
-    done _ _ _ _ _ _ _ (p .0) _ (p .1) _ (nodes k) _ _ (k .of-kind2 .ensures) _ _ (k .before .before .of-kind .ensures) (e .if1 .left) _ (r .rewrite .ensures)
+    done _ _ _ _ _ _ _ (p .0) _ (p .1) _ (nodes k) _ _ (k .of-kind2 .ensures .listed) _ _ (k .before .before .of-kind .ensures .listed) (e .if1 .left) _ (r .rewrite .ensures)
 
 pub settle-spec : {M : Type 1} → statement M
 settle-spec =
