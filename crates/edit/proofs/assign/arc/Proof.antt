@@ -1,18 +1,23 @@
 -- `edit::assign::arc` meets its contract.
 -- Assumes nothing.
-use Prim.Native.Nat.{_<_}
+use Prim.Native.Nat.{_+_, _*_, _<_}
 use mathlib.Core.Path.{refl}
 use native.Mathlib.Omega.{arith}
+use lib.ListN.{length}
+use denote.Ref.{now}
 use borrow.Author.Needs.{needs}
-use Rattle.edit.proofs.TestLoops.{code-none, code-explicit, code-hook, code-implicit, arc-read, firm-node, firm-explicit, firm-implicit}
+use Rattle.edit.proofs.ArcTestLaws.{code-none, code-explicit, code-hook, code-implicit, arc-read, firm-node, firm-explicit, firm-implicit}
 use Rattle.edit.proofs.assign.arc.Statement.{statement}
 use Rattle.edit.proofs.assign.arc.Tie as tie
 
--- the node is within the arrays
+-- the node and its code are within their arrays
 node : (c : tie.After-wide) → c .wide .result < 16
 node c =
     let a = c .before .before .before .before in
     firm-node _ _ _ _ _ _ _ _ (a .pre .0) _ _ (a .pre .1 .0) (a .pre .1 .1) _ (c .wide .ensures)
+
+inside : (c : tie.After-wide) → 4 * c .wide .result + c .before .before .before .before .args .i < length (now (c .before .before .before .before .args .codes))
+inside c = omega (arith, node c, c .before .before .before .before .pre .0 .codesLong)
 
 element-copy-out-wide : tie.Need-element-copy-out-wide
 element-copy-out-wide c = search needs
@@ -35,7 +40,7 @@ wide-requires-2 c κs = search needs
 returns : tie.Need-returns
 returns c =
     let w = c .before .before .before in
-    arc-read _ _ _ _ _ _ _ _ _ _ _ _ _ (w .wide .ensures) (c .before .wide2 .ensures) refl (omega (arith, node w, w .before .before .before .before .pre .0 .codesLong)) (code-none _ _ _ _ _ _ _ _ _ (c .if1 .taken))
+    arc-read _ _ _ _ _ _ _ _ _ _ _ _ _ (w .wide .ensures) (c .before .wide2 .ensures) refl (inside w) (code-none _ _ _ _ _ _ _ _ _ (c .if1 .taken))
 
 mul-from : tie.Need-mul-from
 mul-from c = omega (arith, node (c .before .before .before))
@@ -56,7 +61,7 @@ returns-2 c =
     let e = c .before .before .before in
     let k = e .before in
     let w = k .before .before in
-    arc-read _ _ _ _ _ _ _ _ _ _ _ _ _ (w .wide .ensures) (k .wide2 .ensures) refl (omega (arith, node w, w .before .before .before .before .pre .0 .codesLong))
+    arc-read _ _ _ _ _ _ _ _ _ _ _ _ _ (w .wide .ensures) (k .wide2 .ensures) refl (inside w)
     (code-explicit _ _ _ _ _ _ _ _ _ (e .if1 .left) _ (c .before .if2 .taken) (c .explicit .ensures))
 
 returns-3 : tie.Need-returns-3
@@ -64,7 +69,7 @@ returns-3 c =
     let e = c .before .before .before in
     let k = e .before in
     let w = k .before .before in
-    arc-read _ _ _ _ _ _ _ _ _ _ _ _ _ (w .wide .ensures) (k .wide2 .ensures) refl (omega (arith, node w, w .before .before .before .before .pre .0 .codesLong))
+    arc-read _ _ _ _ _ _ _ _ _ _ _ _ _ (w .wide .ensures) (k .wide2 .ensures) refl (inside w)
     (code-hook _ _ _ _ _ _ _ _ _ (e .if1 .left) (c .before .if2 .left) (c .if3 .taken))
 
 turned-requires : tie.Need-turned-requires
@@ -81,7 +86,7 @@ returns-4 c =
     let e = f .before .before in
     let k = e .before in
     let w = k .before .before in
-    arc-read _ _ _ _ _ _ _ _ _ _ _ _ _ (w .wide .ensures) (k .wide2 .ensures) refl (omega (arith, node w, w .before .before .before .before .pre .0 .codesLong))
+    arc-read _ _ _ _ _ _ _ _ _ _ _ _ _ (w .wide .ensures) (k .wide2 .ensures) refl (inside w)
     (code-implicit _ _ _ _ _ _ _ _ _ (e .if1 .left) _ (f .if2 .left) (c .before .if3 .left) (c .turned .ensures))
 
 pub arc-spec : {M : Type 1} → statement M
