@@ -258,3 +258,19 @@ count-gap p j (suc k) h f = ⊎-elim
     (λ (w : j < suc k). let l = le-of-suc-le-suc w in
     ap₂ (λ (a : ℕ) (b : Bool). a + bit b) (count-gap p j k l (λ z g i. f z g (omega arith))) (f k l (omega arith)) ∙ add-zero (count j p))
     (eq-or-lt-of-le h)
+
+-- ---- a loop that tests each number in turn, and stops at the first that fails
+
+module _ (p : ℕ → Bool) where
+  pub all-none : all 0 p ≡ true
+  unfolding all
+  all-none = refl
+
+  pub all-more : (i : ℕ) → all i p ≡ true → p i ≡ true → all (i + 1) p ≡ true
+  all-more i e f = all-step i p ∙ and-of e f
+
+  pub all-stops : (i n : ℕ) → i < n → p i ≡ false → false ≡ all n p
+  all-stops i n h e = ⊎-elim (λ q. absurd (true≢false (sym (all-at n p q i h) ∙ e))) (λ q. sym q) (true-or-false (all n p))
+
+  pub all-ends : (i n : ℕ) → all i p ≡ true → i ≤ n → n ≤ i → true ≡ all n p
+  all-ends i n e h k = let same : i ≡ n = omega arith in sym (rw same at e)

@@ -6,7 +6,7 @@ pub mod EditedLaws
 pub mod ColumnLaws
 pub mod GrantLaws
 pub mod GiveLaws
-pub mod TestLoops
+pub mod ArcTestLaws
 pub mod PlacedLaws
 pub mod GrownLaws
 pub mod MatchedLaws

@@ -1,14 +1,16 @@
 -- `edit::assign::arc` meets its contract.
 -- Assumes nothing.
-use Prim.Native.Nat.{_<_}
+use Prim.Native.Nat.{_+_, _*_, _<_}
 use mathlib.Core.Path.{refl}
 use native.Mathlib.Omega.{arith}
+use lib.ListN.{length}
+use denote.Ref.{now}
 use borrow.Author.Needs.{needs}
-use Rattle.edit.proofs.TestLoops.{code-none, code-explicit, code-hook, code-implicit, arc-read, firm-node, firm-explicit, firm-implicit}
+use Rattle.edit.proofs.ArcTestLaws.{code-none, code-explicit, code-hook, code-implicit, arc-read, firm-node, firm-explicit, firm-implicit}
 use Rattle.edit.proofs.assign.arc.Statement.{statement}
 use Rattle.edit.proofs.assign.arc.Tie as tie
 
--- the node is within the arrays
+-- the node and its code are within their arrays
 node : (c : tie.After-wide) → c .wide .result < 16
 node c =
     let a = c .before .before .before .before in

@@ -8,7 +8,7 @@ use borrow.Author.Needs.{needs}
 use borrow.Author.Tests.{not-true, not-false}
 use Rattle.model.specs.Map.{view}
 use Rattle.edit.specs.Columns.{arcsTest}
-use Rattle.edit.proofs.TestLoops.{arcs-none, arcs-more, arcs-stop, arcs-done}
+use Rattle.edit.proofs.ArcTestLaws.{arcs-none, arcs-more, arcs-stop, arcs-done}
 use Rattle.edit.proofs.assign.arcs.Statement.{statement}
 use Rattle.edit.proofs.assign.arcs.Tie as tie
 

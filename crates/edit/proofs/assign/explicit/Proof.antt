@@ -3,7 +3,7 @@
 use mathlib.Core.Path.{refl, _∙_}
 use mathlib.Core.Logic.{inl, inr, ⊎-elim}
 use borrow.Author.Needs.{needs}
-use Rattle.edit.proofs.TestLoops.{explicit-later, explicit-tree, explicit-tested}
+use Rattle.edit.proofs.ArcTestLaws.{explicit-later, explicit-tree, explicit-tested}
 use Rattle.edit.proofs.assign.explicit.Statement.{statement}
 use Rattle.edit.proofs.assign.explicit.Tie as tie
 

@@ -8,7 +8,7 @@ use borrow.Author.Needs.{needs}
 use borrow.Author.Tests.{ne-eqb}
 use Rattle.model.specs.Map.{view}
 use Rattle.edit.specs.Columns.{follows}
-use Rattle.edit.proofs.TestLoops.{follows-none, follows-more, follows-stop, follows-done, dart-read}
+use Rattle.edit.proofs.ArcTestLaws.{follows-none, follows-more, follows-stop, follows-done, dart-read}
 use Rattle.edit.proofs.assign.straight.Statement.{statement}
 use Rattle.edit.proofs.assign.straight.Tie as tie
 

@@ -9,7 +9,7 @@ use borrow.Author.Tests.{ne-eqb}
 use Rattle.model.specs.Map.{view}
 use Rattle.edit.specs.Store.{next}
 use Rattle.edit.specs.Columns.{follows}
-use Rattle.edit.proofs.TestLoops.{follows-none, follows-done, turned-more, turned-stop, dart-read, turn-below}
+use Rattle.edit.proofs.ArcTestLaws.{follows-none, follows-done, turned-more, turned-stop, dart-read, turn-below}
 use Rattle.edit.proofs.assign.turned.Statement.{statement}
 use Rattle.edit.proofs.assign.turned.Tie as tie
 

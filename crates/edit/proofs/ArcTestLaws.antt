@@ -3,8 +3,8 @@
 -- Assumes nothing.
 use Prim.Native.Nat.{ℕ, _+_, _*_, _-_, _/_, _%_, _≤_, _<_}
 use mathlib.Core.Path.{_≡_, refl, sym, ap, _∙_}
-use mathlib.Core.Logic.{_⊎_, inl, inr, ⊎-elim}
-use mathlib.Core.Bool.{Bool, true, false, not, true≢false}
+use mathlib.Core.Logic.{_⊎_, inl, inr}
+use mathlib.Core.Bool.{Bool, true, false, not}
 use mathlib.Core.List.{List}
 use native.Mathlib.Omega.{arith}
 use lib.ListN.{length, getD}
@@ -12,28 +12,17 @@ use lib.Dec.{eqb}
 use borrow.Author.Tests.{eq-eqb, ne-eqb, lt-ltb, le-ltb}
 use Rattle.base.specs.Test.{_and_, _or_}
 use Rattle.base.specs.Below.{all}
-use Rattle.base.proofs.TestLaws.{and-of, or-left, or-right, true-or-false}
-use Rattle.base.proofs.BelowLaws.{all-at, all-step}
+use Rattle.base.proofs.TestLaws.{and-of, or-left, or-right}
+use Rattle.base.proofs.BelowLaws.{all-none, all-more, all-stops, all-ends}
 use Rattle.base.proofs.ListLaws.{getD-inside}
 use Rattle.model.specs.Map.{Map}
 use Rattle.edit.specs.Store.{next, dartAt}
 use Rattle.edit.specs.Columns.{Slots, Testable, Turns, Firm, follows, explicitTest, implicitTest, codeTest, arcTest, arcsTest}
 
--- a loop over the numbers below n that stops at the first without p
-module _ (p : ℕ → Bool) where
-  pub all-more : (r : ℕ) → all r p ≡ true → p r ≡ true → all (r + 1) p ≡ true
-  all-more r e h = all-step r p ∙ and-of e h
-
-  pub all-stop : (r n : ℕ) → r < n → p r ≡ false → false ≡ all n p
-  all-stop r n h e = ⊎-elim (λ t. absurd (true≢false (sym (all-at n p t r h) ∙ e))) (λ f. sym f) (true-or-false (all n p))
-
-  pub all-done : (r n : ℕ) → r ≤ n → n ≤ r → all r p ≡ true → true ≡ all n p
-  all-done r n h l e = let same : r ≡ n = omega arith in sym (sym (ap (λ (k : ℕ). all k p) same) ∙ e)
-
 module _ (m : Map) (s : List ℕ) (i from base : ℕ) (to : ℕ → ℕ) where
   pub follows-none : follows m s 0 i from base to ≡ true
-  unfolding follows all
-  follows-none = refl
+  unfolding follows
+  follows-none = all-none _
 
   -- x, y, z are what the loop reads at place r
   module _ (r x y z : ℕ) (a : x ≡ getD s (from + r) 0) (b : y ≡ m .link i x) (c : z ≡ getD s (base + to r) 0) where
@@ -47,11 +36,11 @@ module _ (m : Map) (s : List ℕ) (i from base : ℕ) (to : ℕ → ℕ) where
 
     pub follows-stop : (size : ℕ) → r < size → eqb y z ≡ false → false ≡ follows m s size i from base to
     unfolding follows
-    follows-stop size h e = all-stop _ r size h (sym read ∙ e)
+    follows-stop size h e = all-stops _ r size h (sym read ∙ e)
 
   pub follows-done : (r size : ℕ) → r ≤ size → size ≤ r → follows m s r i from base to ≡ true → true ≡ follows m s size i from base to
   unfolding follows
-  follows-done r size h l e = all-done _ r size h l e
+  follows-done r size h l e = all-ends _ r size e h l
 
 -- ---- what is read
 
@@ -130,8 +119,8 @@ arc-read m s size nodes dims codes cols j i v code from r a b c e = rw (← a, �
 
 module _ (m : Map) (s : List ℕ) (size : ℕ) (nodes dims codes cols : List ℕ) where
   pub arcs-none : arcsTest m s size nodes dims codes cols 0 ≡ true
-  unfolding arcsTest all
-  arcs-none = refl
+  unfolding arcsTest
+  arcs-none = all-none _
 
   module _ (k : ℕ) (r : Bool) (e : r ≡ arcTest m s size nodes dims codes cols (k / 4) (k % 4)) where
     pub arcs-more : r ≡ true → arcsTest m s size nodes dims codes cols k ≡ true → arcsTest m s size nodes dims codes cols (k + 1) ≡ true
@@ -140,11 +129,11 @@ module _ (m : Map) (s : List ℕ) (size : ℕ) (nodes dims codes cols : List ℕ
 
     pub arcs-stop : r ≡ false → (bound : ℕ) → k < bound → false ≡ arcsTest m s size nodes dims codes cols bound
     unfolding arcsTest
-    arcs-stop h bound l = all-stop _ k bound l (sym e ∙ h)
+    arcs-stop h bound l = all-stops _ k bound l (sym e ∙ h)
 
   pub arcs-done : (k bound : ℕ) → k ≤ bound → bound ≤ k → arcsTest m s size nodes dims codes cols k ≡ true → true ≡ arcsTest m s size nodes dims codes cols bound
   unfolding arcsTest
-  arcs-done k bound h l e = all-done _ k bound h l e
+  arcs-done k bound h l e = all-ends _ k bound e h l
 
 -- ---- what the tests of an arc ask for
 
