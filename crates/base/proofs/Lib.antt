@@ -3,3 +3,4 @@ pub mod DigitLaws
 pub mod BelowLaws
 pub mod FirstLaws
 pub mod ListLaws
+pub mod BinaryLaws

@@ -1,4 +1,5 @@
 pub mod StoreLaws
 pub mod ColumnLaws
 pub mod GrantLaws
+pub mod BlockLaws
 pub mod GiveLaws
