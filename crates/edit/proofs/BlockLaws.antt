@@ -9,11 +9,11 @@ use native.Mathlib.Nat.{mod-eq-of-lt, one-mul}
 use native.Mathlib.Decide.{ℕ-discrete, decLt}
 use native.Mathlib.Omega.{arith}
 use lib.Count.{trailingZeros}
-use lib.Dec.{leb, ltb}
-use lib.ListN.{length, getD, set, replicate, length-set, length-replicate, getD-replicate}
+use lib.Dec.{leb}
+use lib.ListN.{getD, set, replicate, length-set, length-replicate, getD-replicate}
 use lib.Pow.{pow-pos, pow-lt}
 use lib.Seq.{getD-set-same, getD-set-other}
-use borrow.Author.Tests.{ltb-true, lt-ltb, leb-true, le-leb, lt-leb}
+use borrow.Author.Tests.{ltb-true, lt-ltb, leb-true, le-leb}
 use Rattle.base.specs.Test.{_and_, bit}
 use Rattle.base.specs.Below.{count}
 use Rattle.base.specs.Binary.{binary}
@@ -21,7 +21,7 @@ use Rattle.base.proofs.TestLaws.{and-left, and-right, and-of, true-or-false}
 use Rattle.base.proofs.BelowLaws.{count-step, count-gap}
 use Rattle.base.proofs.BinaryLaws.{binary-same, binary-below, binary-more, binary-none, binary-zero, binary-lowest}
 use Rattle.model.specs.declared.Scheme.{Scheme}
-use Rattle.edit.specs.Store.{mark, place, among}
+use Rattle.edit.specs.Store.{mark, place}
 use Rattle.edit.specs.Grant.{Grant, Granting, Turn, early, Placed, Blank, Digits, Block}
 use Rattle.edit.proofs.StoreLaws.{among-mark, mark-among}
 

@@ -8,7 +8,6 @@ use mathlib.Core.List.{List}
 use native.Mathlib.Nat.{mul-le-mul-right}
 use native.Mathlib.Omega.{arith}
 use lib.ListN.{getD}
-use Rattle.base.specs.Test.{bit}
 use Rattle.base.specs.Below.{count}
 use Rattle.base.proofs.TestLaws.{or-left, or-right, true-or-false}
 use Rattle.base.proofs.BelowLaws.{count-le, count-lt, count-injective, count-gap}

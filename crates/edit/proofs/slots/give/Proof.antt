@@ -1,15 +1,14 @@
 -- `edit::slots::give` meets its contract. The loop's invariant: the pairs of the orbit darts below 64 × w have their slots.
 -- Assumes nothing.
-use Prim.Native.Nat.{ℕ, _*_, _-_, _≤_, _<_}
-use mathlib.Core.Path.{_≡_, refl}
+use Prim.Native.Nat.{ℕ, _*_, _-_, _≤_}
+use mathlib.Core.Path.{refl}
 use mathlib.Core.Bool.{Bool}
 use native.Mathlib.Omega.{arith}
-use lib.ListN.{length}
 use borrow.Author.Needs.{needs}
 use denote.Ref.{now}
 use Rattle.base.specs.Below.{count}
 use Rattle.model.specs.declared.Scheme.{Scheme}
-use Rattle.edit.specs.Grant.{Grant, Granting, early, Digits, Blank}
+use Rattle.edit.specs.Grant.{Grant, Granting, early, Digits}
 use Rattle.edit.proofs.BlockLaws.{blank}
 use Rattle.edit.proofs.GiveLaws.{orbitOf, grant-of, placed-of, apart-of, granting-start, granting-idle, block-of, next-block, granted-all, granted}
 use Rattle.edit.proofs.slots.give.Statement.{statement}
