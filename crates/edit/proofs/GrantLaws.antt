@@ -7,7 +7,7 @@ use mathlib.Core.Bool.{Bool, true}
 use mathlib.Core.Option.{Option, Option·getD}
 use mathlib.Core.List.{List}
 use native.Mathlib.Nat.{add-zero, mul-le-mul-right, lt-of-lt-of-le}
-use native.Mathlib.Decide.{decLt}
+use native.Mathlib.Decide.{ℕ-discrete, decLt}
 use native.Mathlib.Omega.{arith}
 use lib.ListN.{length, getD, set, length-set}
 use lib.Seq.{getD-set-same, getD-set-other}
@@ -26,6 +26,30 @@ use Rattle.table.specs.Words.{Sized, wordAt, put}
 use Rattle.table.proofs.WordLaws.{length-put, put-same, put-other}
 use Rattle.edit.specs.Store.{mark, dartAt}
 use Rattle.edit.specs.Grant.{Room, Lowest, revived, column, Grant, Due, Granting, Turn}
+
+-- ---- the scan for an unused slot
+
+-- no slot from `from` to before y is unused
+pub record Scanned (N : ℕ) (t : List ℕ) (from y : ℕ) : Type 0 where
+  pub late : from ≤ y
+  pub none : (z : ℕ) → from ≤ z → z < y → view N t .state z ≡ 0 → ⊥
+
+pub scan-start : (N : ℕ) (t : List ℕ) (from : ℕ) → Scanned N t from from
+scan-start N t from = record { late = omega arith; none = λ z g h. absurd (omega arith) }
+
+module _ {N : ℕ} {t : List ℕ} {from y : ℕ} (p : Scanned N t from y) where
+  -- the scan does not pass the unused slot that there is
+  pub scan-inside : Room N t from → y < N
+  scan-inside R = by-cases (decLt (R .slot) y) (λ h. absurd (p .none (R .slot) (R .late) h (R .is))) (λ h. omega (arith, R .fits))
+
+  pub scan-more : (k y′ : ℕ) → k ≡ view N t .state y → (k ≡ 0 → ⊥) → y′ ≡ y + 1 → Scanned N t from y′
+  scan-more k y′ e n q = record {
+    late = omega (arith, p .late);
+    none = λ z g h f. by-cases (ℕ-discrete z y) (λ w. n (e ∙ ap (view N t .state) (sym w) ∙ f)) (λ w. p .none z g (omega arith) f);
+  }
+
+  pub scan-found : (k : ℕ) → Room N t from → k ≡ view N t .state y → k ≡ 0 → Lowest N t from y
+  scan-found k R e z = record { fits = scan-inside R; late = p .late; is = sym e ∙ z; first = p .none }
 
 -- ---- one slot
 
