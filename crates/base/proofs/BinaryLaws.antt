@@ -1,11 +1,12 @@
--- Laws of `binary`: a digit set, the lowest set digit, and no digit set.
+-- Laws of `binary`: a digit set, the lowest set digit, and no digit set; a digit as the machine makes it.
 -- Assumes nothing.
 use Prim.Native.Nat.{ℕ, zero, suc, _+_, _*_, _/_, _%_, _^_, _≤_, _<_}
 use mathlib.Core.Path.{_≡_, refl, ap₂}
 use mathlib.Core.Bool.{Bool, true, false}
-use native.Mathlib.Nat.{not-suc-le-zero, le-of-suc-le-suc, pow-suc}
+use native.Mathlib.Nat.{not-suc-le-zero, le-of-suc-le-suc, pow-suc, one-mul, mod-eq-of-lt}
 use native.Mathlib.Omega.{arith}
 use lib.Count.{trailingZeros, under}
+use lib.Pow.{pow-lt}
 use Rattle.base.specs.Test.{bit}
 use Rattle.base.specs.Binary.{binary}
 
@@ -82,3 +83,7 @@ unfolding binary
 binary-zero zero p f = refl
 binary-zero (suc n) p f =
     ap₂ (λ (b : Bool) (r : ℕ). bit b + 2 * r) (f 0 (omega arith)) (binary-zero n (λ k. p (suc k)) (λ k h. f (suc k) (omega arith)))
+
+-- a one shifted to digit k of 64
+pub shifted : (k : ℕ) → k < 64 → (1 * 2 ^ k) % 2 ^ 64 ≡ 2 ^ k
+shifted k h = let e : 1 * 2 ^ k ≡ 2 ^ k = one-mul (2 ^ k) in rw e (mod-eq-of-lt (pow-lt h))

@@ -1,6 +1,6 @@
 -- Laws of the tests: what a joined test says of its parts.
 -- Assumes nothing.
-use mathlib.Core.Path.{_≡_, refl}
+use mathlib.Core.Path.{_≡_, refl, sym}
 use mathlib.Core.Logic.{_⊎_, inl, inr}
 use mathlib.Core.Bool.{Bool, true, false, false≢true}
 use Rattle.base.specs.Test.{_and_, _or_, _⇒_}
@@ -46,3 +46,13 @@ if-of false f = refl
 pub true-or-false : (a : Bool) → (a ≡ true) ⊎ (a ≡ false)
 true-or-false true = inl refl
 true-or-false false = inr refl
+
+-- a test that cannot hold
+pub refuted : (b : Bool) → (b ≡ true → ⊥) → b ≡ false
+refuted true f = absurd (f refl)
+refuted false f = refl
+
+-- two tests that hold together
+pub alike : (a b : Bool) → (a ≡ true → b ≡ true) → (b ≡ true → a ≡ true) → a ≡ b
+alike true b f g = sym (f refl)
+alike false b f g = sym (refuted b (λ e. false≢true (g e)))

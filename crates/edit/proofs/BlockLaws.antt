@@ -2,42 +2,27 @@
 -- Assumes nothing.
 use Prim.Native.Nat.{ℕ, _+_, _*_, _-_, _/_, _%_, _^_, _≤_, _<_}
 use mathlib.Core.Path.{_≡_, refl, sym, ap, ap₂, _∙_, subst}
-use mathlib.Core.Logic.{inl, ⊎-elim, by-cases}
+use mathlib.Core.Logic.{inl, by-cases}
 use mathlib.Core.Bool.{Bool, true, false, true≢false}
 use mathlib.Core.List.{List}
-use native.Mathlib.Nat.{mod-eq-of-lt, one-mul}
 use native.Mathlib.Decide.{ℕ-discrete, decLt}
 use native.Mathlib.Omega.{arith}
 use lib.Count.{trailingZeros}
 use lib.Dec.{leb}
 use lib.ListN.{getD, set, replicate, length-set, length-replicate, getD-replicate}
-use lib.Pow.{pow-pos, pow-lt}
+use lib.Pow.{pow-pos}
 use lib.Seq.{getD-set-same, getD-set-other}
 use borrow.Author.Tests.{ltb-true, lt-ltb, leb-true, le-leb}
 use Rattle.base.specs.Test.{_and_, bit}
 use Rattle.base.specs.Below.{count}
 use Rattle.base.specs.Binary.{binary}
-use Rattle.base.proofs.TestLaws.{and-left, and-right, and-of, true-or-false}
+use Rattle.base.proofs.TestLaws.{and-left, and-right, and-of, refuted, alike}
 use Rattle.base.proofs.BelowLaws.{count-step, count-gap}
-use Rattle.base.proofs.BinaryLaws.{binary-same, binary-below, binary-more, binary-none, binary-zero, binary-lowest}
+use Rattle.base.proofs.BinaryLaws.{binary-same, binary-below, binary-more, binary-none, binary-zero, binary-lowest, shifted}
 use Rattle.model.specs.declared.Scheme.{Scheme}
 use Rattle.edit.specs.Store.{mark, place}
 use Rattle.edit.specs.Grant.{Grant, Granting, Turn, early, Placed, Blank, Digits, Block}
 use Rattle.edit.proofs.StoreLaws.{among-mark, mark-among}
-
--- ---- tests
-
--- a test that cannot hold
-pub refuted : (b : Bool) → (b ≡ true → ⊥) → b ≡ false
-refuted b f = ⊎-elim (λ e. absurd (f e)) (λ e. e) (true-or-false b)
-
--- two tests that hold together
-alike : (a b : Bool) → (a ≡ true → b ≡ true) → (b ≡ true → a ≡ true) → a ≡ b
-alike a b f g = ⊎-elim (λ e. e ∙ sym (f e)) (λ e. e ∙ sym (refuted b (λ q. true≢false (sym (g q) ∙ e)))) (true-or-false a)
-
--- the machine's power of two
-shifted : (k : ℕ) → k < 64 → (1 * 2 ^ k) % 2 ^ 64 ≡ 2 ^ k
-shifted k h = let e : 1 * 2 ^ k ≡ 2 ^ k = one-mul (2 ^ k) in rw e (mod-eq-of-lt (pow-lt h))
 
 -- ---- a digit for each of the first places
 

@@ -5,12 +5,11 @@ use mathlib.Core.Path.{_≡_, sym, ap, ap₂, _∙_, subst}
 use mathlib.Core.Logic.{inl, inr, ⊎-elim}
 use mathlib.Core.Bool.{Bool, true, false, true≢false}
 use mathlib.Core.List.{List}
-use native.Mathlib.Nat.{mul-le-mul-right}
 use native.Mathlib.Omega.{arith}
 use lib.ListN.{getD}
 use Rattle.base.specs.Below.{count}
-use Rattle.base.proofs.TestLaws.{or-left, or-right, true-or-false}
-use Rattle.base.proofs.BelowLaws.{count-le, count-lt, count-injective, count-gap}
+use Rattle.base.proofs.TestLaws.{or-left, or-right, true-or-false, refuted}
+use Rattle.base.proofs.BelowLaws.{count-le, count-injective, count-gap}
 use Rattle.base.proofs.BinaryLaws.{binary-same}
 use Rattle.base.proofs.FirstLaws.{nth-at}
 use Rattle.model.specs.Map.{view}
@@ -25,8 +24,8 @@ use Rattle.edit.specs.Store.{mark, place, next, dartAt, among, Kept}
 use Rattle.edit.specs.Phases.{Darts, Given}
 use Rattle.edit.specs.Grant.{column, Apart, Columned, Grant, Due, Granting, early, Placed, Digits, Block, Ready, Granted}
 use Rattle.edit.proofs.StoreLaws.{among-mark, mark-among, among-same}
-use Rattle.edit.proofs.GrantLaws.{granting-none, cells}
-use Rattle.edit.proofs.BlockLaws.{refuted, early-orbit}
+use Rattle.edit.proofs.GrantLaws.{granting-none, cells, column-within}
+use Rattle.edit.proofs.BlockLaws.{early-orbit}
 
 -- ---- the words of digits one after the other
 
@@ -153,7 +152,7 @@ module _ {N : ℕ} {t s : List ℕ} {size : ℕ} {nodes : List ℕ} {many : ℕ}
     -- the column of an added node, and that of a left one
     column-added : (v : ℕ) → v < R .scheme .nodes → added (R .scheme) v ≡ true → getD cols′ v 0 ≡ column N size (count v (added (R .scheme)))
     column-added v h a =
-        let l : count v (added (R .scheme)) < many = rw (R .listed .every) (count-lt (added (R .scheme)) v (R .scheme .nodes) h a) in
+        let l = column-within grant-of v h a .0 in
         let n = listed-at (count v (added (R .scheme))) l in
         let e : getD nodes (count v (added (R .scheme))) 0 ≡ v = count-injective (added (R .scheme)) _ v (n .1) a (n .2) in
         subst (λ (k : ℕ). getD cols′ k 0 ≡ column N size (count v (added (R .scheme)))) e (C .at _ l)
@@ -178,10 +177,7 @@ module _ {N : ℕ} {t s : List ℕ} {size : ℕ} {nodes : List ℕ} {many : ℕ}
     unfolding dartAt
     darts-of = record {
       inside = λ v h. ⊎-elim
-          (λ a. let c = column-added v h a in
-          let l : count v (added (R .scheme)) < many = rw (R .listed .every) (count-lt (added (R .scheme)) v (R .scheme .nodes) h a) in
-          let k = mul-le-mul-right size l in
-          (omega arith, omega (arith, cells grant-of)))
+          (λ a. let c = column-added v h a in (omega arith, omega (arith, column-within grant-of v h a)))
           (λ n. let c = column-left v n in let i = R .assigned .inside v h (is-left v h n) in (omega arith, omega arith))
           (true-or-false (added (R .scheme) v));
       dart = λ v r h l. ⊎-elim

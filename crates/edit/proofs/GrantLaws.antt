@@ -125,12 +125,15 @@ module _ {N : ℕ} {S : Scheme} {O : ℕ → Bool} {t₀ s₀ : List ℕ} {size 
   abbrev cell : ℕ → ℕ → ℕ
   cell u v = column N size (count v (added S)) + (mark s₀ u - 1)
 
-  cell-fits : (u v : ℕ) → O u ≡ true → v < S .nodes → added S v ≡ true → (2 * N ≤ cell u v) × (cell u v < 3 * N)
-  cell-fits u v e h a =
-      let p = G .placed u e in
+  -- the column of an added node ends within N words
+  pub column-within : (v : ℕ) → v < S .nodes → added S v ≡ true → (count v (added S) < many) × (count v (added S) * size + size ≤ N)
+  column-within v h a =
       let l : count v (added S) < many = rw (G .every) (count-lt (added S) v (S .nodes) h a) in
       let c = mul-le-mul-right size l in
-      (omega arith, omega (arith, cells))
+      (l, omega (arith, cells))
+
+  cell-fits : (u v : ℕ) → O u ≡ true → v < S .nodes → added S v ≡ true → (2 * N ≤ cell u v) × (cell u v < 3 * N)
+  cell-fits u v e h a = let p = G .placed u e in (omega arith, omega (arith, column-within v h a))
 
   cell-once : (u v x w : ℕ) → O u ≡ true → O x ≡ true → added S v ≡ true → added S w ≡ true → cell u v ≡ cell x w → (u ≡ x) × (v ≡ w)
   cell-once u v x w e f a b q =
