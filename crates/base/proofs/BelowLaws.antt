@@ -186,9 +186,6 @@ pub count-step : (i : ℕ) (p : ℕ → Bool) → count (i + 1) p ≡ count i p 
 unfolding count
 count-step i p = rw add-one refl
 
-pub all-more : (i : ℕ) (p : ℕ → Bool) → all i p ≡ true → p i ≡ true → all (i + 1) p ≡ true
-all-more i p e f = all-step i p ∙ and-of e f
-
 -- one that fails is enough
 pub all-not : (n : ℕ) (p : ℕ → Bool) (k : ℕ) → k < n → p k ≡ false → all n p ≡ false
 all-not n p k h e = ⊎-elim (λ a. absurd (true≢false (sym (all-at n p a k h) ∙ e))) (λ a. a) (true-or-false (all n p))
@@ -270,7 +267,7 @@ module _ (p : ℕ → Bool) where
   all-more i e f = all-step i p ∙ and-of e f
 
   pub all-stops : (i n : ℕ) → i < n → p i ≡ false → false ≡ all n p
-  all-stops i n h e = ⊎-elim (λ q. absurd (true≢false (sym (all-at n p q i h) ∙ e))) (λ q. sym q) (true-or-false (all n p))
+  all-stops i n h e = sym (all-not n p i h e)
 
   pub all-ends : (i n : ℕ) → all i p ≡ true → i ≤ n → n ≤ i → true ≡ all n p
   all-ends i n e h k = let same : i ≡ n = omega arith in sym (rw same at e)

@@ -5,3 +5,4 @@ pub mod FirstLaws
 pub mod ListLaws
 pub mod StepLaws
 pub mod RowLaws
+pub mod BinaryLaws

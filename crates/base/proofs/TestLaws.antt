@@ -82,3 +82,8 @@ eqb-same a b c d f g = go (eqb a b) refl
     go : (t : Bool) → eqb a b ≡ t → t ≡ eqb c d
     go true e = sym (eq-eqb c d (f (eqb-true a b e)))
     go false e = sym (ne-eqb c d (λ q. eqb-false a b e (g q)))
+
+-- a test that cannot hold
+pub refuted : (b : Bool) → (b ≡ true → ⊥) → b ≡ false
+refuted true f = absurd (f refl)
+refuted false f = refl

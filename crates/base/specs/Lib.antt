@@ -3,3 +3,4 @@ pub mod Below
 pub mod First
 pub mod Lists
 pub mod Steps
+pub mod Binary

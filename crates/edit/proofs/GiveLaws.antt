@@ -5,13 +5,12 @@ use mathlib.Core.Path.{_≡_, sym, ap, ap₂, _∙_, subst}
 use mathlib.Core.Logic.{inl, inr, ⊎-elim}
 use mathlib.Core.Bool.{Bool, true, false, true≢false}
 use mathlib.Core.List.{List}
-use native.Mathlib.Nat.{mul-le-mul-right}
 use native.Mathlib.Omega.{arith}
 use lib.ListN.{getD}
-use Rattle.base.specs.Test.{bit}
 use Rattle.base.specs.Below.{count}
-use Rattle.base.proofs.TestLaws.{or-left, or-right, true-or-false}
-use Rattle.base.proofs.BelowLaws.{count-le, count-lt, count-injective, count-step}
+use Rattle.base.proofs.TestLaws.{or-left, or-right, true-or-false, refuted}
+use Rattle.base.proofs.BelowLaws.{count-le, count-injective, count-gap}
+use Rattle.base.proofs.BinaryLaws.{binary-same}
 use Rattle.base.proofs.FirstLaws.{nth-at}
 use Rattle.model.specs.Map.{view}
 use Rattle.model.specs.Scheme.{left, orbitDim, has, added}
@@ -23,11 +22,12 @@ use Rattle.model.proofs.OrbitLaws.{orbit-slot, orbit-reached, reached-dart}
 use Rattle.model.proofs.RankLaws.{rank-low, dart-left}
 use Rattle.edit.specs.Store.{mark, place, next, dartAt, among, Kept}
 use Rattle.edit.specs.Phases.{Darts, Given}
-use Rattle.edit.specs.Grant.{column, Apart, Columned, Grant, Due, Granting, Turn, Ready, Granted}
+use Rattle.edit.specs.Grant.{column, Apart, Columned, Grant, Due, Granting, early, Placed, Digits, Block, Ready, Granted}
 use Rattle.edit.proofs.StoreLaws.{among-at, among-of, among-same}
-use Rattle.edit.proofs.GrantLaws.{granting-none, cells}
+use Rattle.edit.proofs.GrantLaws.{granting-none, cells, column-within}
+use Rattle.edit.proofs.BlockLaws.{early-orbit}
 
--- ---- the orbit dart by dart
+-- ---- the words of digits one after the other
 
 module _ {N : ℕ} {S : Scheme} {O : ℕ → Bool} {t₀ s₀ : List ℕ} {size many : ℕ} (G : Grant N S O t₀ s₀ size many) where
   pub granting-start : Granting N S O t₀ s₀ size (count 0 O * many) 0 t₀ s₀
@@ -38,49 +38,30 @@ module _ {N : ℕ} {S : Scheme} {O : ℕ → Bool} {t₀ s₀ : List ℕ} {size 
   pub granting-idle : many ≡ 0 → Granting N S O t₀ s₀ size (count N O * many) 0 t₀ s₀
   granting-idle e = let z : count N O * many ≡ 0 = rw e (omega arith) in rw z (granting-none G)
 
-  module _ {x free : ℕ} {t s : List ℕ} (g : Granting N S O t₀ s₀ size (count x O * many) free t s) (h : x < N) where
-    same-mark : mark s x ≡ mark s₀ x
-    unfolding mark
-    same-mark = g .kept x (inl (omega arith))
+  -- a digit for each orbit dart
+  orbit-digits : {bits : List ℕ} → Digits (early N s₀ size) bits → Digits O bits
+  orbit-digits d = record { long = d .long; at = λ w h. d .at w h ∙ binary-same 64 _ _ (λ k l. early-orbit G (64 * w + k)) }
 
-    -- what the code reads of x in the store says whether x is in the orbit
-    in-orbit : {b : Bool} → b ≡ among s size x → O x ≡ b
-    in-orbit p = sym (p ∙ among-same s s₀ size x same-mark ∙ G .is x h)
+  module _ {bits : List ℕ} (d : Digits (early N s₀ size) bits) {w free : ℕ} {t s : List ℕ}
+      (g : Granting N S O t₀ s₀ size (count (64 * w) O * many) free t s) (h : w < 16) where
+    pub block-of : (number : ℕ) → number ≡ getD bits w 0 → Block N t s size many w number free
+    block-of number e = record {
+      scheme = S;
+      orbit = O;
+      table = t₀;
+      store = s₀;
+      grant = G;
+      digits = e ∙ orbit-digits d .at w h;
+      granting = g;
+    }
 
-    module _ {b : Bool} (p : b ≡ among s size x) (e : b ≡ true) where
-      pub mark-some : (k : ℕ) → k ≡ getD s x 0 → 1 ≤ k
-      unfolding mark
-      mark-some k q = omega (arith, among-at s size x (sym p ∙ e))
-
-      pub turn-of : (k : ℕ) → k ≡ getD s x 0 → Turn N t s size many x (k - 1) free
-      unfolding mark
-      turn-of k q = record {
-        scheme = S;
-        orbit = O;
-        table = t₀;
-        store = s₀;
-        grant = G;
-        inOrbit = in-orbit p ∙ e;
-        place = omega (arith, mark-some k q, same-mark);
-        granting = g;
-      }
-
-      -- after the pairs of x, those of x + 1 come next
-      pub next-in : (k free′ : ℕ) (t′ s′ : List ℕ) → k ≡ getD s x 0
-          → ((T : Turn N t s size many x (k - 1) free)
-          → Granting N (T .scheme) (T .orbit) (T .table) (T .store) size (count x (T .orbit) * many + many) free′ t′ s′)
-          → Granting N S O t₀ s₀ size (count (x + 1) O * many) free′ t′ s′
-      unfolding turn-of
-      next-in k free′ t′ s′ q f =
-          let c : count (x + 1) O ≡ count x O + 1 = count-step x O ∙ ap (λ (b : Bool). count x O + bit b) (in-orbit p ∙ e) in
-          let d : (count x O + 1) * many ≡ count x O * many + many = omega arith in
-          rw (c, d) (f (turn-of k q))
-
-    pub next-out : {b : Bool} → b ≡ among s size x → b ≡ false → Granting N S O t₀ s₀ size (count (x + 1) O * many) free t s
-    next-out p e =
-        let z : count x O + 0 ≡ count x O = omega arith in
-        let c : count (x + 1) O ≡ count x O = count-step x O ∙ ap (λ (b : Bool). count x O + bit b) (in-orbit p ∙ e) ∙ z in
-        rw c g
+    -- after the pairs of one word of digits, those of the next
+    pub next-block : (number free′ : ℕ) (t′ s′ : List ℕ) → number ≡ getD bits w 0
+        → ((B : Block N t s size many w number free)
+        → Granting N (B .scheme) (B .orbit) (B .table) (B .store) size (count (64 * w + 64) (B .orbit) * many) free′ t′ s′)
+        → Granting N S O t₀ s₀ size (count (64 * (w + 1)) O * many) free′ t′ s′
+    unfolding block-of
+    next-block number free′ t′ s′ e f = let a : 64 * (w + 1) ≡ 64 * w + 64 = omega arith in rw a (f (block-of number e))
 
 -- ---- from the phases before
 
@@ -107,6 +88,16 @@ module _ {N : ℕ} {t s : List ℕ} {size : ℕ} {nodes : List ℕ} {many : ℕ}
     is = R .walked .is;
     placed = λ u e. among-at s size u (in-store u e);
     once = λ u v e f q. sym (R .walked .found u (in-table u e) (in-store u e)) ∙ ap (λ (k : ℕ). place N s (k - 1)) q ∙ R .walked .found v (in-table v f) (in-store v f);
+  }
+
+  pub placed-of : Placed N s size
+  placed-of = record {
+    few = R .sized .few;
+    long = R .long;
+    fits = R .walked .fits;
+    slot = R .walked .slot;
+    back = R .walked .back;
+    found = R .walked .found;
   }
 
   -- the a-th listed node is the a-th added one
@@ -161,7 +152,7 @@ module _ {N : ℕ} {t s : List ℕ} {size : ℕ} {nodes : List ℕ} {many : ℕ}
     -- the column of an added node, and that of a left one
     column-added : (v : ℕ) → v < R .scheme .nodes → added (R .scheme) v ≡ true → getD cols′ v 0 ≡ column N size (count v (added (R .scheme)))
     column-added v h a =
-        let l : count v (added (R .scheme)) < many = rw (R .listed .every) (count-lt (added (R .scheme)) v (R .scheme .nodes) h a) in
+        let l = column-within grant-of v h a .0 in
         let n = listed-at (count v (added (R .scheme))) l in
         let e : getD nodes (count v (added (R .scheme))) 0 ≡ v = count-injective (added (R .scheme)) _ v (n .1) a (n .2) in
         subst (λ (k : ℕ). getD cols′ k 0 ≡ column N size (count v (added (R .scheme)))) e (C .at _ l)
@@ -186,10 +177,7 @@ module _ {N : ℕ} {t s : List ℕ} {size : ℕ} {nodes : List ℕ} {many : ℕ}
     unfolding dartAt
     darts-of = record {
       inside = λ v h. ⊎-elim
-          (λ a. let c = column-added v h a in
-          let l : count v (added (R .scheme)) < many = rw (R .listed .every) (count-lt (added (R .scheme)) v (R .scheme .nodes) h a) in
-          let k = mul-le-mul-right size l in
-          (omega arith, omega (arith, cells grant-of)))
+          (λ a. let c = column-added v h a in (omega arith, omega (arith, column-within grant-of v h a)))
           (λ n. let c = column-left v n in let i = R .assigned .inside v h (is-left v h n) in (omega arith, omega arith))
           (true-or-false (added (R .scheme) v));
       dart = λ v r h l. ⊎-elim
@@ -208,8 +196,8 @@ module _ {N : ℕ} {t s : List ℕ} {size : ℕ} {nodes : List ℕ} {many : ℕ}
     granted-all = record { given = given-of; darts = darts-of; kept = kept-of; wide = C .long ∙ R .wide }
 
   -- once x is past the last slot
-  pub granted : {x free : ℕ} {t′ s′ cols′ : List ℕ} → Columned N size nodes many cols cols′ → x ≤ N → N ≤ x
+  pub granted : {x free : ℕ} {t′ s′ cols′ : List ℕ} → Columned N size nodes many cols cols′ → N ≤ x
       → Granting N (R .scheme) (orbitOf R) t s size (count x (orbitOf R) * many) free t′ s′ → Granted (view N t) (R .scheme) (orbitOf R) t s t′ s′ cols′ size
-  granted {x} {free} {t′} {s′} {cols′} C h l g =
-      let e : x ≡ N = omega arith in
-      granted-all C (subst (λ (k : ℕ). Granting N (R .scheme) (orbitOf R) t s size (count k (orbitOf R) * many) free t′ s′) e g)
+  granted {x} {free} {t′} {s′} {cols′} C h g =
+      let e : count x (orbitOf R) ≡ count N (orbitOf R) = count-gap (orbitOf R) N x h (λ z l k. refuted _ (λ q. let b = in-table z q in omega arith)) in
+      granted-all C (rw e at g)

@@ -7,7 +7,7 @@ use mathlib.Core.Bool.{Bool, true}
 use mathlib.Core.Option.{Option, Option·getD}
 use mathlib.Core.List.{List}
 use native.Mathlib.Nat.{add-zero, mul-le-mul-right, lt-of-lt-of-le}
-use native.Mathlib.Decide.{decLt}
+use native.Mathlib.Decide.{ℕ-discrete, decLt}
 use native.Mathlib.Omega.{arith}
 use lib.ListN.{length, getD, set, length-set}
 use lib.Seq.{getD-set-same, getD-set-other}
@@ -26,6 +26,30 @@ use Rattle.table.specs.Words.{Sized, wordAt, put}
 use Rattle.table.proofs.WordLaws.{length-put, put-same, put-other}
 use Rattle.edit.specs.Store.{mark, dartAt}
 use Rattle.edit.specs.Grant.{Room, Lowest, revived, column, Grant, Due, Granting, Turn}
+
+-- ---- the scan for an unused slot
+
+-- no slot from `from` to before y is unused
+pub record Scanned (N : ℕ) (t : List ℕ) (from y : ℕ) : Type 0 where
+  pub late : from ≤ y
+  pub none : (z : ℕ) → from ≤ z → z < y → view N t .state z ≡ 0 → ⊥
+
+pub scan-start : (N : ℕ) (t : List ℕ) (from : ℕ) → Scanned N t from from
+scan-start N t from = record { late = omega arith; none = λ z g h. absurd (omega arith) }
+
+module _ {N : ℕ} {t : List ℕ} {from y : ℕ} (p : Scanned N t from y) where
+  -- the scan does not pass the unused slot that there is
+  pub scan-inside : Room N t from → y < N
+  scan-inside R = by-cases (decLt (R .slot) y) (λ h. absurd (p .none (R .slot) (R .late) h (R .is))) (λ h. omega (arith, R .fits))
+
+  pub scan-more : (k y′ : ℕ) → k ≡ view N t .state y → (k ≡ 0 → ⊥) → y′ ≡ y + 1 → Scanned N t from y′
+  scan-more k y′ e n q = record {
+    late = omega (arith, p .late);
+    none = λ z g h f. by-cases (ℕ-discrete z y) (λ w. n (e ∙ ap (view N t .state) (sym w) ∙ f)) (λ w. p .none z g (omega arith) f);
+  }
+
+  pub scan-found : (k : ℕ) → Room N t from → k ≡ view N t .state y → k ≡ 0 → Lowest N t from y
+  scan-found k R e z = record { fits = scan-inside R; late = p .late; is = sym e ∙ z; first = p .none }
 
 -- ---- one slot
 
@@ -101,12 +125,15 @@ module _ {N : ℕ} {S : Scheme} {O : ℕ → Bool} {t₀ s₀ : List ℕ} {size 
   abbrev cell : ℕ → ℕ → ℕ
   cell u v = column N size (count v (added S)) + (mark s₀ u - 1)
 
-  cell-fits : (u v : ℕ) → O u ≡ true → v < S .nodes → added S v ≡ true → (2 * N ≤ cell u v) × (cell u v < 3 * N)
-  cell-fits u v e h a =
-      let p = G .placed u e in
+  -- the column of an added node ends within N words
+  pub column-within : (v : ℕ) → v < S .nodes → added S v ≡ true → (count v (added S) < many) × (count v (added S) * size + size ≤ N)
+  column-within v h a =
       let l : count v (added S) < many = rw (G .every) (count-lt (added S) v (S .nodes) h a) in
       let c = mul-le-mul-right size l in
-      (omega arith, omega (arith, cells))
+      (l, omega (arith, cells))
+
+  cell-fits : (u v : ℕ) → O u ≡ true → v < S .nodes → added S v ≡ true → (2 * N ≤ cell u v) × (cell u v < 3 * N)
+  cell-fits u v e h a = let p = G .placed u e in (omega arith, omega (arith, column-within v h a))
 
   cell-once : (u v x w : ℕ) → O u ≡ true → O x ≡ true → added S v ≡ true → added S w ≡ true → cell u v ≡ cell x w → (u ≡ x) × (v ≡ w)
   cell-once u v x w e f a b q =

@@ -5,6 +5,7 @@ pub mod WriteLaws
 pub mod EditedLaws
 pub mod ColumnLaws
 pub mod GrantLaws
+pub mod BlockLaws
 pub mod GiveLaws
 pub mod ArcTestLaws
 pub mod PlacedLaws

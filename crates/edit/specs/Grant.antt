@@ -7,8 +7,11 @@ use mathlib.Core.Bool.{Bool, true}
 use mathlib.Core.Option.{some}
 use mathlib.Core.List.{List}
 use lib.ListN.{length, getD}
+use lib.Dec.{ltb}
+use Rattle.base.specs.Test.{_and_}
 use Rattle.base.specs.Below.{count}
 use Rattle.base.specs.First.{nth}
+use Rattle.base.specs.Binary.{binary}
 use Rattle.model.specs.Map.{Map, view, unused}
 use Rattle.model.specs.WellFormed.{WellFormed}
 use Rattle.model.specs.Scheme.{orbitDim, added}
@@ -17,7 +20,7 @@ use Rattle.model.specs.Orbit.{orbit}
 use Rattle.model.specs.Edit.{addedDarts, rank, dartOf}
 use Rattle.model.specs.declared.Scheme.{Scheme}
 use Rattle.table.specs.Words.{Sized, wordAt, put}
-use Rattle.edit.specs.Store.{mark, dartAt, among, Walked, Kept}
+use Rattle.edit.specs.Store.{mark, place, dartAt, among, Walked, Kept}
 use Rattle.edit.specs.Phases.{Assigned, Darts, Given}
 
 -- ---- one slot
@@ -112,6 +115,41 @@ pub record Turn (N : ℕ) (t s : List ℕ) (size many u r free : ℕ) : Type 0 w
   pub inOrbit : orbit u ≡ true
   pub place : mark store u ≡ r + 1
   pub granting : Granting N scheme orbit table store size (count u orbit * many) free t s
+
+-- ---- the orbit ascending
+
+-- x is the dart at one of the first r places
+unfoldable pub early : ℕ → List ℕ → ℕ → ℕ → Bool
+early N s r x = ltb x N and among s r x
+
+-- the first `size` places hold different slots, each marked with its place
+pub record Placed (N : ℕ) (s : List ℕ) (size : ℕ) : Type 0 where
+  pub few : N ≤ 1024
+  pub long : length s ≡ 16 * N
+  pub fits : size ≤ N
+  pub slot : (r : ℕ) → r < size → place N s r < N
+  pub back : (r : ℕ) → r < size → mark s (place N s r) ≡ r + 1
+  pub found : (x : ℕ) → x < N → among s size x ≡ true → place N s (mark s x - 1) ≡ x
+
+-- sixteen zeros
+pub record Blank (bits : List ℕ) : Type 0 where
+  pub long : length bits ≡ 16
+  pub zeros : (w : ℕ) → w < 16 → getD bits w 0 ≡ 0
+
+-- a binary digit for each slot, 64 to a word, set where p
+pub record Digits (p : ℕ → Bool) (bits : List ℕ) : Type 0 where
+  pub long : length bits ≡ 16
+  pub at : (w : ℕ) → w < 16 → getD bits w 0 ≡ binary 64 (λ k. p (64 * w + k))
+
+-- the pairs of the orbit darts from 64 × w to 64 × w + 63 come next, with a digit for each; the other fields are as in `Turn`
+pub record Block (N : ℕ) (t s : List ℕ) (size many w number free : ℕ) : Type 0 where
+  pub scheme : Scheme
+  pub orbit : ℕ → Bool
+  pub table : List ℕ
+  pub store : List ℕ
+  pub grant : Grant N scheme orbit table store size many
+  pub digits : number ≡ binary 64 (λ k. orbit (64 * w + k))
+  pub granting : Granting N scheme orbit table store size (count (64 * w) orbit * many) free t s
 
 -- ---- all pairs
 

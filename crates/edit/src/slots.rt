@@ -12,10 +12,9 @@ ghost use Rattle.model.specs.Map.{view};
 ghost use Rattle.model.specs.Scheme.{orbitDim};
 ghost use Rattle.model.specs.Orbit.{orbit};
 ghost use Rattle.table.specs.Words.{Sized};
-ghost use Rattle.edit.specs.Store.{among};
-ghost use Rattle.edit.specs.Grant.{Room, Lowest, revived, Apart, Columned, Turn, Granting, Ready, Granted};
+ghost use Rattle.edit.specs.Grant.{Room, Lowest, revived, Apart, Columned, Turn, Granting, early, Placed, Blank, Digits, Block, Ready, Granted};
 
-// The lowest unused slot from `from` on.
+// The lowest unused slot from `from` on. Four slots a turn: in a full table this scan is most of what an added dart costs.
 fn lowest(slots: usize, table: &[u32], from: usize) -> usize
     requires { ⌜ Sized slots (now table) ⌝ }
     requires { ⌜ Room slots (now table) from ⌝ }
@@ -23,7 +22,16 @@ fn lowest(slots: usize, table: &[u32], from: usize) -> usize
 {
     let mut y = from;
     while state(slots, table, y) != 0 {
-        y += 1;
+        if state(slots, table, y + 1) == 0 {
+            return y + 1;
+        }
+        if state(slots, table, y + 2) == 0 {
+            return y + 2;
+        }
+        if state(slots, table, y + 3) == 0 {
+            return y + 3;
+        }
+        y += 4;
     }
     y
 }
@@ -81,16 +89,46 @@ fn columns(slots: usize, size: usize, added: &[u8; 16], many: usize, cols: &mut 
     }
 }
 
-// The dart x stands at one of the first `size` places.
-fn placed(store: &[u32], size: usize, x: usize) -> bool
-    requires { ⌜ x < length (now store) ⌝ }
-    ensures { λ r. ⌜ r ≡ among (now (store .entry)) size x ⌝ }
+// The darts at the first `size` places as binary digits, 64 slots a word, so that they can be taken ascending.
+fn mark_bits(slots: usize, store: &[u32], size: usize, bits: &mut [u64; 16])
+    requires { ⌜ Placed slots (now store) size ⌝ }
+    requires { ⌜ Blank (now bits) ⌝ }
+    ensures { λ _. ⌜ Digits (early slots (now (store .entry)) size) (now (bits .exit)) ⌝ }
 {
-    let e = word(store, x);
-    if e == 0 {
-        return false;
+    let mut r = 0;
+    while r < size {
+        let u = word(store, slots + r);
+        let w = u / 64;
+        bits[w] = bits[w] + (1 << (u % 64));
+        r += 1;
     }
-    e <= size
+}
+
+// The darts of all pairs of the orbit darts from 64 * w on whose digits are set in `digits`, ascending. The answer is as in `row`.
+fn block(
+    slots: usize,
+    table: &mut [u32],
+    store: &mut [u32],
+    size: usize,
+    many: usize,
+    w: usize,
+    digits: u64,
+    free: usize,
+) -> usize
+    requires { ⌜ Block slots (now table) (now store) size many w digits free ⌝ }
+    ensures { λ f. ⌜ ((B : Block slots (now (table .entry)) (now (store .entry)) size many w digits free)
+        → Granting slots (B .scheme) (B .orbit) (B .table) (B .store) size (count (64 * w + 64) (B .orbit) * many) f (now (table .exit)) (now (store .exit))) ⌝ }
+{
+    let mut rest = digits;
+    let mut from = free;
+    while rest != 0 {
+        let t = u64::trailing_zeros(rest) as usize;
+        rest = rest - (1 << t);
+        let u = 64 * w + t;
+        let r = word(store, u) - 1;
+        from = row(slots, table, store, size, many, u, r, from);
+    }
+    from
 }
 
 // Gives each added pair its dart, in the table and in the store, and `cols` the columns of the added nodes.
@@ -112,13 +150,13 @@ pub(crate) fn give(
     if many == 0 {
         return;
     }
+    let mut bits: [u64; 16] = [0; 16];
+    mark_bits(slots, store, size, &mut bits);
     let mut free = 0;
-    let mut x = 0;
-    while x < slots {
-        if placed(store, size, x) {
-            let r = word(store, x) - 1;
-            free = row(slots, table, store, size, many, x, r, free);
-        }
-        x += 1;
+    let mut w = 0;
+    while w < 16 {
+        let digits = bits[w];
+        free = block(slots, table, store, size, many, w, digits, free);
+        w += 1;
     }
 }
