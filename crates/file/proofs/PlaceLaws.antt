@@ -52,3 +52,6 @@ put-join w u l at v l' p l'' q x y = rw (bytes-join w u v) (put-then l at _ l' p
 -- the room that is left after a number
 pub put-room : (w : ℕ) (l : List ℕ) (at v : ℕ) (l' : List ℕ) (p : ℕ) → Put l at (bytesOf w v) l' p → (k : ℕ) → at + w + k ≤ length l → p + k ≤ length l'
 put-room w l at v l' p x k h = rw (put-length l at _ l' p x, x .after, length-bytes w v) h
+
+pub put-value : (w : ℕ) {v u : ℕ} (l : List ℕ) (at : ℕ) (l' : List ℕ) (p : ℕ) → v ≡ u → Put l at (bytesOf w v) l' p → Put l at (bytesOf w u) l' p
+put-value w l at l' p e x = rw (← e) x
