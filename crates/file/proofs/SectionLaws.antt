@@ -1,22 +1,23 @@
 -- A section, dart by dart.
 -- Assumes nothing.
-use Prim.Native.Nat.{ℕ, suc, _+_, _*_, _≤_, _<_}
-use mathlib.Core.Path.{_≡_, refl, sym, _∙_, subst}
-use mathlib.Core.List.{List, append-nil}
+use Prim.Native.Nat.{ℕ, suc, _+_, _*_, _/_, _%_, _≤_, _<_}
+use mathlib.Core.Path.{_≡_, refl, sym, ap, ap₂, _∙_, subst}
+use mathlib.Core.List.{List, [], _∷_, _++_, append-nil, append-assoc}
 use native.Mathlib.Nat.{add-zero, mul-le-mul-left}
 use native.Mathlib.Omega.{arith}
-use lib.ListN.{length}
+use lib.ListN.{length, drop, length-append}
+use lib.Seq.{sets}
 use borrow.Author.Tests.{eq-eqb, ne-eqb}
 use Rattle.base.specs.Below.{count}
 use Rattle.base.specs.Lists.{joined}
 use Rattle.base.specs.Digits.{bytesOf}
 use Rattle.base.proofs.BelowLaws.{count-le, count-lt}
-use Rattle.base.proofs.ListLaws.{joined-step, length-joined, length-chosen}
+use Rattle.base.proofs.ListLaws.{joined-step, length-joined, length-chosen, sets-start}
 use Rattle.base.proofs.DigitLaws.{length-bytes}
 use Rattle.model.specs.Map.{Map, live}
-use Rattle.model.specs.File.{liveDarts, section}
+use Rattle.model.specs.File.{twoBytes, fourBytes, liveDarts, section, file}
 use Rattle.file.specs.Places.{Put}
-use Rattle.file.specs.Sections.{linkBytes, partBytes, partSize, dartsBytes}
+use Rattle.file.specs.Sections.{linkBytes, partBytes, partSize, dartsBytes, sectionBytes, headBytes}
 use Rattle.file.specs.declared.sections.Part.{Part}
 use Rattle.file.specs.declared.sections.Part.the-variants.{Slots, Tags, Links}
 use Rattle.file.proofs.PlaceLaws.{put-then, put-length}
@@ -105,8 +106,8 @@ module _ (n : ℕ) (m : Map) (part : Part) (l : List ℕ) (at : ℕ) where
         rw (put-length l at _ l' p u, u .after, length-darts n m part x) (omega (arith, mul-le-mul-left (partSize n part) less))
 
   pub darts-all : (k : ℕ) (l' : List ℕ) (p x : ℕ) (l'' : List ℕ) (q : ℕ) → k ≡ liveDarts n m → x ≡ m .slots → Put l at (bytesOf 2 k) l' p
-      → Put l' p (dartsBytes n m part x) l'' q → Put l at (section n m (partBytes n m part)) l'' q
-  unfolding section dartsBytes bytesOf
+      → Put l' p (dartsBytes n m part x) l'' q → Put l at (sectionBytes n m part) l'' q
+  unfolding sectionBytes section dartsBytes bytesOf
   darts-all k l' p x l'' q f e y z =
       put-then l at _ l' p _ l'' q
       (subst (λ (j : ℕ). Put l at (bytesOf 2 j) l' p) f y) (subst (λ (j : ℕ). Put l' p (dartsBytes n m part j) l'' q) e z)
@@ -114,3 +115,54 @@ module _ (n : ℕ) (m : Map) (part : Part) (l : List ℕ) (at : ℕ) where
 pub few-live : (n : ℕ) (m : Map) (k : ℕ) → k ≡ liveDarts n m → k ≤ m .slots
 unfolding liveDarts
 few-live n m k e = rw e (count-le (m .slots) (live m))
+
+pub length-section : (n : ℕ) (m : Map) (part : Part) → length (sectionBytes n m part) ≡ 2 + partSize n part * liveDarts n m
+unfolding sectionBytes section liveDarts
+length-section n m part = ap (λ (k : ℕ). suc (suc k)) (length-chosen (partSize n part) (live m) (partBytes n m part) (length-part n m part) (m .slots)) ∙ omega arith
+
+-- ---- a file
+
+pub four-bytes : (v : ℕ) → fourBytes v ≡ bytesOf 4 v
+unfolding bytesOf
+four-bytes v =
+    let two : v / 65536 ≡ v / 256 / 256 = omega arith in
+    let three : v / 16777216 ≡ v / 256 / 256 / 256 = omega arith in
+    rw (two, three)
+
+module _ (n : ℕ) (m : Map) (h : n < 256) where
+  pub file-parts : file n m ≡ headBytes n (m .slots) ++ sectionBytes n m Slots ++ sectionBytes n m Tags ++ sectionBytes n m Links
+  unfolding file headBytes sectionBytes partBytes linkBytes bytesOf
+  file-parts =
+      let e : n % 256 ≡ n = omega arith in
+      let tags : _≡_ {A = ℕ → List ℕ} (λ x. fourBytes (m .tag x)) (λ x. bytesOf 4 (m .tag x)) = λ i x. four-bytes (m .tag x) i in
+      ap₂ (λ (a : ℕ) (f : ℕ → List ℕ). a ∷ twoBytes (m .slots) ++ section n m twoBytes ++ section n m f
+      ++ section n m (λ x. joined (suc n) (λ i. twoBytes (m .link i x)))) (sym e) tags
+
+  -- the length of a map file
+  pub length-file : length (file n m) ≡ 9 + liveDarts n m * (6 + 2 * (n + 1))
+  unfolding partSize headBytes bytesOf
+  length-file =
+      rw (file-parts, length-append, length-append, length-append, length-section, length-section, length-section) (omega arith)
+
+  -- there is room for a section after what stands before it
+  pub section-room : (a : List ℕ) (part : Part) (r l : List ℕ) (l' : List ℕ) (p k : ℕ) → file n m ≡ a ++ sectionBytes n m part ++ r → k ≡ liveDarts n m
+      → length (file n m) ≤ length l → Put l 0 a l' p → p + 2 + partSize n part * k ≤ length l'
+  section-room a part r l l' p k e f fits x =
+      let len : length (file n m) ≡ length a + (2 + partSize n part * k) + length r = rw (e, f, length-append, length-append, length-section) in
+      rw (put-length l 0 a l' p x, x .after) (omega arith)
+
+  module _ (k : ℕ) (e : k ≡ liveDarts n m) (l : List ℕ) (fits : length (file n m) ≤ length l) where
+    pub room-slots : (l' : List ℕ) (p : ℕ) → Put l 0 (headBytes n (m .slots)) l' p → p + 2 + partSize n Slots * k ≤ length l'
+    room-slots l' p x = section-room _ Slots (sectionBytes n m Tags ++ sectionBytes n m Links) l l' p k
+        (file-parts ∙ append-assoc (headBytes n (m .slots) ++ sectionBytes n m Slots) _ _) e fits x
+
+    pub room-tags : (l' : List ℕ) (p : ℕ) → Put l 0 (headBytes n (m .slots) ++ sectionBytes n m Slots) l' p → p + 2 + partSize n Tags * k ≤ length l'
+    room-tags l' p x = section-room _ Tags _ l l' p k file-parts e fits x
+
+    pub room-links : (l' : List ℕ) (p : ℕ) → Put l 0 (headBytes n (m .slots) ++ sectionBytes n m Slots ++ sectionBytes n m Tags) l' p
+        → p + 2 + partSize n Links * k ≤ length l'
+    room-links l' p x = section-room _ Links [] l l' p k (file-parts ∙ sym (append-nil _)) e fits x
+
+    pub file-put : (l' : List ℕ) (p : ℕ) → Put l 0 (headBytes n (m .slots) ++ sectionBytes n m Slots ++ sectionBytes n m Tags ++ sectionBytes n m Links) l' p
+        → l' ≡ file n m ++ drop (length (file n m)) l
+    file-put l' p x = x .bytes ∙ ap (sets l 0) (sym file-parts) ∙ sets-start l (file n m) fits

@@ -2,10 +2,11 @@
 -- Assumes nothing.
 use Prim.Native.Nat.{ℕ, suc, _+_, _*_}
 use mathlib.Core.Bool.{cond}
-use mathlib.Core.List.{List, []}
+use mathlib.Core.List.{List, [], _++_}
 use Rattle.base.specs.Lists.{joined}
 use Rattle.base.specs.Digits.{bytesOf}
 use Rattle.model.specs.Map.{Map, live}
+use Rattle.model.specs.File.{section}
 use Rattle.file.specs.declared.sections.Part.{Part}
 use Rattle.file.specs.declared.sections.Part.the-variants.{Slots, Tags, Links}
 
@@ -26,3 +27,10 @@ partSize n Links = 2 * (n + 1)
 -- what a section has of the live darts below x
 unfoldable pub dartsBytes : ℕ → Map → Part → ℕ → List ℕ
 dartsBytes n m part x = joined x (λ y. cond (live m y) (partBytes n m part y) [])
+
+unfoldable pub sectionBytes : ℕ → Map → Part → List ℕ
+sectionBytes n m part = section n m (partBytes n m part)
+
+-- what stands before the sections
+unfoldable pub headBytes : ℕ → ℕ → List ℕ
+headBytes n N = bytesOf 1 n ++ bytesOf 2 N

@@ -2,7 +2,7 @@
 mod cursor;
 mod sections;
 
-use cursor::Cursor;
+use sections::head;
 use sections::section;
 use sections::Part;
 ghost use mathlib.Core.Path.{_≡_};
@@ -22,9 +22,8 @@ pub fn write(n: u32, slots: usize, table: &[u32], live: usize, out: &mut [u8])
     requires { ⌜ length (file n (view slots (now table))) ≤ length (now out) ⌝ }
     ensures { λ _. ⌜ now (out .exit) ≡ file n (view slots (now (table .entry))) ++ drop (length (file n (view slots (now (table .entry))))) (now (out .entry)) ⌝ }
 {
-    let a = Cursor { at: 0 }.put_one(out, n);
-    let b = a.put_two(out, slots as u32);
-    let c = section(Part::Slots, n, slots, table, live, out, b);
-    let d = section(Part::Tags, n, slots, table, live, out, c);
-    let _end = section(Part::Links, n, slots, table, live, out, d);
+    let a = head(n, slots, out);
+    let b = section(Part::Slots, n, slots, table, live, out, a);
+    let c = section(Part::Tags, n, slots, table, live, out, b);
+    let _end = section(Part::Links, n, slots, table, live, out, c);
 }

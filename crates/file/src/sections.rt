@@ -9,10 +9,10 @@ ghost use Prim.Native.Nat.{suc, _+_, _*_, _≤_, _<_};
 ghost use lib.ListN.{length};
 ghost use Rattle.base.specs.Digits.{bytesOf};
 ghost use Rattle.model.specs.Map.{view};
-ghost use Rattle.model.specs.File.{liveDarts, section as sectionOf};
+ghost use Rattle.model.specs.File.{liveDarts};
 ghost use Rattle.table.specs.Words.{Sized};
 ghost use Rattle.file.specs.Places.{Put};
-ghost use Rattle.file.specs.Sections.{linkBytes, partBytes, partSize};
+ghost use Rattle.file.specs.Sections.{linkBytes, partBytes, partSize, sectionBytes, headBytes};
 
 pub enum Part {
     Slots,
@@ -59,13 +59,23 @@ fn dart(part: Part, n: u32, slots: usize, table: &[u32], x: usize, out: &mut [u8
     }
 }
 
+// n and the number of slots, at the start of `out`.
+pub fn head(n: u32, slots: usize, out: &mut [u8]) -> Cursor
+    requires { ⌜ (slots ≤ 1024) × (3 ≤ length (now out)) ⌝ }
+    ensures { λ r. ⌜ Put (now (out .entry)) 0 (headBytes n slots) (now (out .exit)) (r .at) ⌝ }
+{
+    let start = Cursor { at: 0 };
+    let next = start.put_one(out, n);
+    next.put_two(out, slots as u32)
+}
+
 // A section of a map with `live` live darts.
 pub fn section(part: Part, n: u32, slots: usize, table: &[u32], live: usize, out: &mut [u8], from: Cursor) -> Cursor
     requires { ⌜ (n ≡ 2) ⊎ (n ≡ 3) ⌝ }
     requires { ⌜ Sized slots (now table) ⌝ }
     requires { ⌜ live ≡ liveDarts n (view slots (now table)) ⌝ }
     requires { ⌜ from .at + 2 + partSize n part * live ≤ length (now out) ⌝ }
-    ensures { λ r. ⌜ Put (now (out .entry)) (from .at) (sectionOf n (view slots (now (table .entry))) (partBytes n (view slots (now (table .entry))) part)) (now (out .exit)) (r .at) ⌝ }
+    ensures { λ r. ⌜ Put (now (out .entry)) (from .at) (sectionBytes n (view slots (now (table .entry))) part) (now (out .exit)) (r .at) ⌝ }
 {
     let mut at = from.put_two(out, live as u32);
     let mut x = 0;
