@@ -19,6 +19,11 @@ pub and-of : {a b : Bool} → a ≡ true → b ≡ true → (a and b) ≡ true
 unfolding _and_
 and-of {a} {b} p q = rw (p, q)
 
+pub and-assoc : (a b c : Bool) → (a and b and c) ≡ (a and (b and c))
+unfolding _and_
+and-assoc true b c = refl
+and-assoc false b c = refl
+
 pub or-cases : (a b : Bool) → (a or b) ≡ true → (a ≡ true) ⊎ (b ≡ true)
 unfolding _or_
 or-cases true b e = inl refl

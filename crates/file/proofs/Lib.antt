@@ -1,3 +1,6 @@
 pub mod PlaceLaws
 pub mod SectionLaws
 pub mod FormLaws
+pub mod RecordLaws
+pub mod FillLaws
+pub mod LoadLaws

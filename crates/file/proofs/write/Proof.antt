@@ -2,7 +2,7 @@
 -- Assumes nothing.
 use Prim.Native.Nat.{ℕ, _<_}
 use mathlib.Core.Path.{_≡_}
-use mathlib.Core.Logic.{_⊎_, inl, inr}
+use mathlib.Core.Logic.{_⊎_}
 use mathlib.Core.List.{_++_}
 use native.Mathlib.Omega.{arith}
 use denote.Ref.{now}
@@ -11,6 +11,7 @@ use Rattle.model.specs.Map.{view}
 use Rattle.file.specs.Places.{Put}
 use Rattle.file.specs.Sections.{headBytes, sectionBytes}
 use Rattle.file.specs.declared.sections.Part.the-variants.{Slots, Tags}
+use Rattle.file.proofs.FormLaws.{three-le}
 use Rattle.file.proofs.PlaceLaws.{put-then}
 use Rattle.file.proofs.SectionLaws.{length-file, room-slots, room-tags, room-links, file-put}
 use Rattle.file.proofs.write.Statement.{statement}
@@ -30,8 +31,7 @@ tagged : (c : tie.After-section2) → let a = c .before .before .before .before 
 tagged c = put-then _ _ _ _ _ _ _ _ (slotted (c .before .before .before .before)) (c .section2 .ensures)
 
 small : {n : ℕ} → (n ≡ 2) ⊎ (n ≡ 3) → n < 256
-small (inl e) = omega arith
-small (inr e) = omega arith
+small d = omega (arith, three-le d)
 
 head-requires : tie.Need-head-requires
 head-requires c κs =
