@@ -4,13 +4,13 @@ mod form;
 mod records;
 mod sections;
 
+use form::Framing;
 use form::ascending;
 use form::frame;
-use form::Framing;
 use records::fill;
+use sections::Part;
 use sections::head;
 use sections::section;
-use sections::Part;
 use table::words::clear;
 ghost use mathlib.Core.Path.{_≡_};
 ghost use mathlib.Core.Logic.{_⊎_};

@@ -14,3 +14,4 @@ pub mod MapLaws
 pub mod EditLaws
 pub mod KeepLaws
 pub mod CallLaws
+pub mod SameLaws
