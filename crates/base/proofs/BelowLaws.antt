@@ -132,6 +132,11 @@ count-zero (suc n) p f = ap₂ (λ (a : ℕ) (b : Bool). a + bit b) (count-zero 
 pub count-some : (n : ℕ) (p : ℕ → Bool) (k : ℕ) → k < n → p k ≡ true → 1 ≤ count n p
 count-some n p k h e = ⊎-elim (λ z. absurd (true≢false (sym e ∙ count-none n p z k h))) (λ l. l) (eq-zero-or-pos (count n p))
 
+pub count-same : (n : ℕ) (p q : ℕ → Bool) → ((k : ℕ) → k < n → p k ≡ q k) → count n p ≡ count n q
+unfolding count
+count-same zero p q f = refl
+count-same (suc n) p q f = ap₂ (λ (a : ℕ) (b : Bool). a + bit b) (count-same n p q (λ k h. f k (omega arith))) (f n (omega arith))
+
 -- ---- a loop's step: the numbers below i + 1 are those below i, and i
 
 pub all-step : (i : ℕ) (p : ℕ → Bool) → all (i + 1) p ≡ (all i p and p i)
