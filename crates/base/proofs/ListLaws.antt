@@ -139,17 +139,21 @@ module _ (p : ℕ → Bool) (s : ℕ → ℕ) (n k : ℕ) (a : Ascends (suc n) p
       let i : ℕ = r .0 in
       let end : s i ≡ n = r .2 in
       let size : k ≡ suc i = ⊎-elim (λ (q : suc i ≡ k). sym q)
-          (λ (q : suc i < k). let u : s i < s (suc i) = a .up i (suc i) (omega arith) q in let v : s (suc i) < suc n = a .inside (suc i) q in absurd (omega arith))
-          (eq-or-lt-of-le (r .1)) in
-      (i, size, end, record {
-        inside = λ j h. let u : s j < s i = a .up j i h (r .1) in omega arith;
-        has = λ j h. a .has j (omega arith);
-        up = λ j l h g. a .up j l h (omega arith);
-        each = λ x h q.
-            let t = a .each x (omega arith) q in
-            let at : s (t .0) ≡ x = t .2 in
-            (t .0, ⊎-elim (λ (g : t .0 ≡ i). let same : s (t .0) ≡ s i = ap s g in absurd (omega arith)) (λ (g : t .0 < i). g) (below-suc (subst (λ (z : ℕ). t .0 < z) size (t .1))), at);
-      })
+      (λ (q : suc i < k). let u : s i < s (suc i) = a .up i (suc i) (omega arith) q in let v : s (suc i) < suc n = a .inside (suc i) q in absurd (omega arith))
+      (eq-or-lt-of-le (r .1)) in (
+        i,
+        size,
+        end,
+        record {
+          inside = λ j h. let u : s j < s i = a .up j i h (r .1) in omega arith;
+          has = λ j h. a .has j (omega arith);
+          up = λ j l h g. a .up j l h (omega arith);
+          each = λ x h q.
+              let t = a .each x (omega arith) q in
+              let at : s (t .0) ≡ x = t .2 in
+              (t .0, ⊎-elim (λ (g : t .0 ≡ i). let same : s (t .0) ≡ s i = ap s g in absurd (omega arith)) (λ (g : t .0 < i). g) (below-suc (subst (λ (z : ℕ). t .0 < z) size (t .1))), at);
+        },
+      )
 
   without : p n ≡ false → Ascends n p k s
   without e = record {

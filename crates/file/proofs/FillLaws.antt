@@ -3,7 +3,7 @@
 use Prim.Native.Nat.{ℕ, zero, suc, _+_, _*_, _≤_, _<_}
 use mathlib.Core.Path.{_≡_, refl, sym, ap, ap₂, _∙_}
 use mathlib.Core.Logic.{⊎-elim}
-use mathlib.Core.Bool.{Bool, true, false, cond}
+use mathlib.Core.Bool.{true, cond}
 use mathlib.Core.Option.{Option, none, some}
 use mathlib.Core.List.{List, [], _∷_}
 use native.Mathlib.Omega.{arith}
@@ -16,7 +16,7 @@ use Rattle.base.proofs.TestLaws.{true-or-false}
 use Rattle.base.proofs.BelowLaws.{below-suc}
 use Rattle.base.proofs.FirstLaws.{first-step, least-at, least-only}
 use Rattle.model.specs.Map.{tableSize, recordOf, words}
-use Rattle.model.specs.File.{atPlace, twoAt, fourAt, tagAt, linkAt, placeOf, fileMap}
+use Rattle.model.specs.File.{atPlace, twoAt, tagAt, linkAt, placeOf, fileMap}
 use Rattle.table.specs.Words.{Sized, wordAt}
 use Rattle.table.proofs.WordLaws.{words-by}
 use Rattle.file.specs.Form.{slotOf}
@@ -79,23 +79,23 @@ filled-more n N b k t t' F h u e = rw e (record {
 -- ---- all darts
 
 module _ (n N : ℕ) (b : List ℕ) where
-  place-is : (x : ℕ) → least (numberAt 2 b 3) (λ o. eqb (slotOf b o) x) ≡ placeOf n N b x
+  pub place-is : (x : ℕ) → least (numberAt 2 b 3) (λ o. eqb (slotOf b o) x) ≡ placeOf n N b x
   unfolding placeOf slotOf
   place-is x = ap (λ (f : ℕ → ℕ). least (f 3) (λ o. eqb (f (5 + 2 * o)) x)) (λ i at. two-at n N b at i)
 
   module _ (x k : ℕ) (e : slotOf b k ≡ x) where
-    link-is : (i : ℕ) → linkWord n b (linkPlace n b k) (slotOf b k) i ≡ cond (leb i n) (linkAt n N b k i) x
+    pub link-is : (i : ℕ) → linkWord n b (linkPlace n b k) (slotOf b k) i ≡ cond (leb i n) (linkAt n N b k i) x
     unfolding linkWord linkPlace
     link-is i =
         let L = two-at n N b 3 in
         let at : 9 + 6 * numberAt 2 b 3 + 2 * ((n + 1) * k) + 2 * i ≡ 9 + 6 * twoAt n N b 3 + 2 * ((n + 1) * k + i) = omega arith in
         ap₂ (cond (leb i n)) (ap (numberAt 2 b) at ∙ two-at n N b _) e
 
-    tag-is : numberAt 4 b (tagPlace b k) ≡ tagAt n N b k
+    pub tag-is : numberAt 4 b (tagPlace b k) ≡ tagAt n N b k
     unfolding tagPlace
     tag-is = ap (λ (L : ℕ). numberAt 4 b (7 + 2 * L + 4 * k)) (two-at n N b 3) ∙ four-at n N b _
 
-  record-is : (x : ℕ) (o : Option ℕ) → placeOf n N b x ≡ o → ((k : ℕ) → o ≡ some k → slotOf b k ≡ x)
+  pub record-is : (x : ℕ) (o : Option ℕ) → placeOf n N b x ≡ o → ((k : ℕ) → o ≡ some k → slotOf b k ≡ x)
       → let w : ℕ → ℕ = λ c. atPlace o (λ j. rowOf n b j c) in recordOf (fileMap n N b) x ≡ w 0 ∷ w 1 ∷ w 2 ∷ w 3 ∷ w 4 ∷ w 5 ∷ []
   unfolding fileMap there rowOf
   record-is x none q f = rw q refl

@@ -1,7 +1,7 @@
 -- What a load answers and leaves, way by way.
 -- Assumes nothing.
 use Prim.Native.Nat.{ℕ, _+_, _*_, _≤_}
-use mathlib.Core.Path.{_≡_, refl, sym, ap, _∙_}
+use mathlib.Core.Path.{_≡_, refl, sym, _∙_}
 use mathlib.Core.Bool.{Bool, true, false, not, cond}
 use mathlib.Core.List.{List}
 use native.Mathlib.Omega.{arith}
@@ -9,7 +9,6 @@ use lib.ListN.{length}
 use borrow.Author.Tests.{not-true, not-false}
 use Rattle.base.specs.Test.{_and_}
 use Rattle.base.specs.Digits.{numberAt}
-use Rattle.base.proofs.TestLaws.{and-of}
 use Rattle.model.specs.Map.{words}
 use Rattle.model.specs.File.{fileForm, fileMap}
 use Rattle.model.specs.Calls.{zeros}

@@ -1,14 +1,12 @@
 -- The records of a file's darts as they are entered into a table.
 -- Assumes nothing.
 use Prim.Native.Nat.{ℕ, zero, suc, _+_, _*_, _≤_, _<_}
-use mathlib.Core.Path.{_≡_, refl, sym, ap, ap₂, _∙_, subst}
+use mathlib.Core.Path.{_≡_, refl, ap₂, _∙_}
 use mathlib.Core.Logic.{inl, inr, ⊎-elim}
-use mathlib.Core.Bool.{Bool, true, false}
-use mathlib.Core.Option.{Option, none, some}
 use mathlib.Core.List.{List}
 use native.Mathlib.Nat.{mul-le-mul-left}
 use native.Mathlib.Omega.{arith}
-use lib.ListN.{length, getD}
+use lib.ListN.{length}
 use borrow.Author.Tests.{le-leb}
 use Rattle.base.specs.Digits.{numberAt}
 use Rattle.base.proofs.BelowLaws.{below-suc}
@@ -81,16 +79,10 @@ pub entered : (n : ℕ) (b : List ℕ) (k x v at tagged : ℕ) (t t1 t2 t3 : Lis
 unfolding putRow putLinks rowOf
 entered n b k x v at tagged t t1 t2 t3 e f g h p q r = rw (r, q, p, g, h, f, e) refl
 
--- the slot, the tag and the links of a dart stand within the bytes
+-- the links of a dart stand within the bytes, and its slot is below the number of slots
 module _ (n N : ℕ) (b : List ℕ) (F : Formed n N b) (L k : ℕ) (e : L ≡ numberAt 2 b 3) (h : k < L) where
   size : length b ≡ 9 + 6 * L + 2 * ((n + 1) * L)
   size = rw (F .size, e) (omega arith)
-
-  pub slot-room : 5 + 2 * k + 2 ≤ length b
-  slot-room = omega (arith, size)
-
-  pub tag-room : 7 + 2 * L + 4 * k + 4 ≤ length b
-  tag-room = omega (arith, size)
 
   pub links-room : 9 + 6 * L + 2 * ((n + 1) * k) + 2 * (n + 1) ≤ length b
   links-room = let l : k + 1 ≤ L = omega arith in omega (arith, size, mul-le-mul-left (n + 1) l)

@@ -167,7 +167,7 @@ module _ (n : ℕ) (m : Map) (h : n < 256) where
       → (l' : List ℕ) (p : ℕ) → Put l 0 (fileBefore n m part) l' p → p + 2 + partSize n part * k ≤ length l'
   section-room part k f l fits l' p x =
       let len : length (file n m) ≡ length (fileBefore n m part) + (2 + partSize n part * k) + length (fileAfter n m part)
-          = rw (file-split part, f, length-append, length-append, length-section) in
+      = rw (file-split part, f, length-append, length-append, length-section) in
       rw (put-length l 0 _ l' p x, x .after) (omega arith)
 
   module _ (l : List ℕ) (fits : length (file n m) ≤ length l) where

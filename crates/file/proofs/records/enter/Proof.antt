@@ -10,7 +10,7 @@ use Rattle.table.specs.Words.{Sized}
 use Rattle.table.proofs.WordLaws.{put-sized}
 use Rattle.file.specs.Form.{slotOf}
 use Rattle.file.specs.Records.{linkPlace, tagPlace}
-use Rattle.file.proofs.RecordLaws.{links-sized, entered, slot-room, tag-room, links-room, slot-below}
+use Rattle.file.proofs.RecordLaws.{links-sized, entered, links-room, slot-below}
 use Rattle.file.proofs.records.enter.Statement.{statement}
 use Rattle.file.proofs.records.enter.Tie as tie
 

@@ -4,7 +4,6 @@ use Prim.Native.Nat.{_-_, _≤_}
 use mathlib.Core.Path.{_≡_, sym, ap, _∙_}
 use native.Mathlib.Omega.{arith}
 use lib.ListN.{length, length-replicate}
-use borrow.Author.Needs.{needs}
 use Rattle.file.proofs.FillLaws.{Filled, filled-none, filled-more, filled-all}
 use Rattle.file.proofs.records.fill.Statement.{statement}
 use Rattle.file.proofs.records.fill.Tie as tie
