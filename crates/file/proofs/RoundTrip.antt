@@ -93,7 +93,7 @@ module _ (n : ℕ) (m : Map) (h : n < 256) (few : m .slots ≤ 1024) where
       let d = dart-at k l in
       ne-eqb (slotOf b k) x (λ q. true≢false (sym (d .2) ∙ ap (live m) (sym (d .4) ∙ q) ∙ e))))
 
-  module _ (d : (n ≡ 2) ⊎ (n ≡ 3)) (w : WellFormed n m) (tags : (x : ℕ) → x < m .slots → m .tag x < 4294967296) where
+  module _ (d : (n ≡ 2) ⊎ (n ≡ 3)) (w : WellFormed n m) (tags : (x : ℕ) → x < m .slots → m .state x ≡ 1 → m .tag x < 4294967296) where
     link-read : (x : ℕ) → x < m .slots → m .state x ≡ 1 → (i : ℕ) → i ≤ 3
         → linkWord n b (linkPlace n b (count x (live m))) (slotOf b (count x (live m))) i ≡ m .link i x
     unfolding linkWord linkPlace
@@ -111,7 +111,7 @@ module _ (n : ℕ) (m : Map) (h : n < 256) (few : m .slots ≤ 1024) where
         let c : ℕ = count x (live m) in
         let slot : slotOf b c ≡ x = slot-back n m h x g e (omega arith) in
         let tag : numberAt 4 b (tagPlace b c) ≡ m .tag x
-        = ap (λ (L : ℕ). numberAt 4 b (7 + 2 * L + 4 * c)) darts-read ∙ tag-back n m h x g e (tags x g) in
+        = ap (λ (L : ℕ). numberAt 4 b (7 + 2 * L + 4 * c)) darts-read ∙ tag-back n m h x g e (tags x g e) in
         let link : (i : ℕ) → i ≤ 3 → linkWord n b (linkPlace n b c) (slotOf b c) i ≡ m .link i x = link-read x g e in
         record-is n (m .slots) b x (some c) (place-live x g e) (λ k q. let z : c ≡ k = cc in ap (slotOf b) (sym z) ∙ slot)
         ∙ (λ i. sym e i ∷ link 0 (omega arith) i ∷ link 1 (omega arith) i ∷ link 2 (omega arith) i ∷ link 3 (omega arith) i ∷ tag i ∷ [])
@@ -123,6 +123,7 @@ module _ (n : ℕ) (m : Map) (h : n < 256) (few : m .slots ≤ 1024) where
         (λ (t : live m x ≡ false). rw t (record-is n (m .slots) b x none (place-unused x t) (λ k q. absurd (some-not-none q refl))))
         (true-or-false (live m x))
 
+    -- the table that is read
     pub read-back-table : words (fileMap n (m .slots) b) ≡ joined (m .slots) (λ x. cond (live m x) (recordOf m x) (replicate 6 0))
     unfolding words fileMap
     read-back-table = joined-same (m .slots) _ _ read-back
@@ -154,6 +155,7 @@ module _ (n : ℕ) (m k : Map) (a : Alike n m k) where
       each x l true q = rw (← a .alive x l, q) (e x l q)
       each x l false q = rw (← a .alive x l, q) refl
 
+  -- maps that agree in their live records have one file
   pub file-same : file n m ≡ file n k
   unfolding file
   file-same =
