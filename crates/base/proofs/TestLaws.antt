@@ -27,6 +27,11 @@ unfolding _and_
 and-true true = refl
 and-true false = refl
 
+pub and-assoc : (a b c : Bool) → (a and b and c) ≡ (a and (b and c))
+unfolding _and_
+and-assoc true b c = refl
+and-assoc false b c = refl
+
 pub or-cases : (a b : Bool) → (a or b) ≡ true → (a ≡ true) ⊎ (b ≡ true)
 unfolding _or_
 or-cases true b e = inl refl

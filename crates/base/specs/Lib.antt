@@ -4,3 +4,4 @@ pub mod First
 pub mod Lists
 pub mod Steps
 pub mod Binary
+pub mod Digits

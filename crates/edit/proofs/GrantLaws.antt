@@ -16,7 +16,7 @@ use Rattle.base.specs.Test.{bit}
 use Rattle.base.specs.Below.{count}
 use Rattle.base.proofs.BelowLaws.{count-le, count-lt, count-injective, count-reaches, count-step, count-gap}
 use Rattle.base.proofs.FirstLaws.{nth-is}
-use Rattle.base.proofs.DigitLaws.{digits}
+use Rattle.base.proofs.RowLaws.{digits}
 use Rattle.model.specs.Map.{view, unused}
 use Rattle.model.specs.Scheme.{added}
 use Rattle.model.specs.Edit.{orbitSize, addedDarts, rank, freeSlot, dartOf}

@@ -13,7 +13,7 @@ use borrow.Author.Tests.{eqb-true, eqb-false, eq-eqb, ne-eqb, ltb-true, lt-ltb, 
 use Rattle.base.specs.Test.{_or_}
 use Rattle.base.proofs.TestLaws.{and-left, and-right, or-cases, or-right, same-test}
 use Rattle.base.proofs.BelowLaws.{all-at, all-of}
-use Rattle.base.proofs.DigitLaws.{digits}
+use Rattle.base.proofs.RowLaws.{digits}
 use Rattle.base.proofs.RowLaws.{row-end, row-cell}
 use Rattle.model.specs.Map.{Map, view}
 use Rattle.model.specs.Scheme.{left, orbitDim, word, arcPart, has}

@@ -15,11 +15,12 @@ use Rattle.base.proofs.TestLaws.{same-test}
 use Rattle.base.proofs.BelowLaws.{count-same}
 use Rattle.base.proofs.FirstLaws.{nth-same}
 use Rattle.model.specs.Map.{Map, view, words, live, unused}
-use Rattle.model.specs.WellFormed.{WellFormed}
+use Rattle.model.specs.WellFormed.{WellFormed, wellFormed}
 use Rattle.model.specs.Orbit.{orbit, InOrbit, itself, onward}
 use Rattle.model.specs.Edit.{freeSlot}
 use Rattle.model.specs.Alike.{Alike}
 use Rattle.model.specs.declared.Scheme.{Scheme}
+use Rattle.model.proofs.WellFormedLaws.{wellFormed-iff}
 use Rattle.model.proofs.MapLaws.{state-words, link-words, tag-words}
 use Rattle.model.proofs.OrbitLaws.{orbit-reached, reached-dart, orbit-iff}
 
@@ -98,6 +99,17 @@ module _ (n : ℕ) (small : n ≤ 3) (m m′ : Map) (a : Alike m m′) (w : Well
 pub words-well : (n : ℕ) (m : Map) → n ≤ 3 → WellFormed n m → WellFormed n (view (m .slots) (words m))
 words-well n m small w = well-alike n small m _ (alike-sym (words-alike m)) w
     (λ x h. ⊎-elim (λ e. inl (state-words m x h ∙ e)) (λ e. inr (state-words m x h ∙ e)) (w .states x h))
+
+-- and only of one
+well-words : (n : ℕ) (m : Map) → n ≤ 3 → WellFormed n (view (m .slots) (words m)) → WellFormed n m
+well-words n m small w = well-alike n small _ m (words-alike m) w
+    (λ x h. ⊎-elim (λ e. inl (sym (state-words m x h) ∙ e)) (λ e. inr (sym (state-words m x h) ∙ e)) (w .states x h))
+
+-- a map is well-formed just if its table is
+pub words-formed : (n : ℕ) (m : Map) → n ≤ 3 → wellFormed n (view (m .slots) (words m)) ≡ wellFormed n m
+words-formed n m small = same-test _ _
+    (λ e. wellFormed-iff n m .1 (well-words n m small (wellFormed-iff n _ .0 e)))
+    (λ e. wellFormed-iff n _ .1 (words-well n m small (wellFormed-iff n m .0 e)))
 
 -- ---- states
 

@@ -15,7 +15,7 @@ use Rattle.model.specs.Edit.{orbitSize, addedDarts, rank, freeSlot, dart
 use Rattle.model.specs.declared.Scheme.{Scheme}
 use Rattle.base.proofs.TestLaws.{or-cases}
 use Rattle.base.proofs.BelowLaws.{count-lt, count-injective}
-use Rattle.base.proofs.DigitLaws.{digits}
+use Rattle.base.proofs.RowLaws.{digits}
 
 pub left-not-added : (S : Scheme) (s : ℕ) → has S left s ≡ true → added S s ≡ false
 left-not-added S s e = ⊎-elim
