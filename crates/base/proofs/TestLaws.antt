@@ -1,8 +1,8 @@
 -- Laws of the tests: what a joined test says of its parts.
 -- Assumes nothing.
-use mathlib.Core.Path.{_≡_, refl}
-use mathlib.Core.Logic.{_⊎_, inl, inr}
-use mathlib.Core.Bool.{Bool, true, false, false≢true}
+use mathlib.Core.Path.{_≡_, refl, sym, _∙_}
+use mathlib.Core.Logic.{_⊎_, inl, inr, ⊎-elim}
+use mathlib.Core.Bool.{Bool, true, false, false≢true, true≢false}
 use Rattle.base.specs.Test.{_and_, _or_, _⇒_}
 
 pub and-left : (a b : Bool) → (a and b) ≡ true → a ≡ true
@@ -46,3 +46,22 @@ if-of false f = refl
 pub true-or-false : (a : Bool) → (a ≡ true) ⊎ (a ≡ false)
 true-or-false true = inl refl
 true-or-false false = inr refl
+
+-- ---- tests that fail
+
+pub and-no-left : {a : Bool} (b : Bool) → a ≡ false → (a and b) ≡ false
+unfolding _and_
+and-no-left b e = rw e
+
+pub and-no-right : (a : Bool) {b : Bool} → b ≡ false → (a and b) ≡ false
+unfolding _and_
+and-no-right true e = e
+and-no-right false e = refl
+
+-- a test that would make another true, which is false, is false
+pub refuted : {a b : Bool} → (a ≡ true → b ≡ true) → b ≡ false → a ≡ false
+refuted {a} f e = ⊎-elim (λ w. absurd (true≢false (sym (f w) ∙ e))) (λ w. w) (true-or-false a)
+
+-- two tests that hold together are one
+pub same-test : {a b : Bool} → (a ≡ true → b ≡ true) → (b ≡ true → a ≡ true) → a ≡ b
+same-test {a} {b} f g = ⊎-elim (λ w. w ∙ sym (f w)) (λ w. w ∙ sym (refuted g w)) (true-or-false a)

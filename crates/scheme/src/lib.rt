@@ -1,0 +1,3 @@
+// Reading a scheme's bytes into one value of fixed size.
+pub mod cursor;
+pub mod frame;
