@@ -11,7 +11,7 @@ use lib.Dec.{leb, ltb}
 use borrow.Author.Tests.{leb-true, leb-false, ltb-true, ltb-false}
 use Rattle.base.specs.Test.{_and_, _or_, bit}
 use Rattle.base.specs.Below.{all, any, count}
-use Rattle.base.proofs.TestLaws.{and-left, and-right, or-cases, or-left, or-right, true-or-false}
+use Rattle.base.proofs.TestLaws.{and-left, and-right, and-of, or-cases, or-left, or-right, true-or-false, refuted}
 
 pub below-suc : {k n : ℕ} → k < suc n → (k ≡ n) ⊎ (k < n)
 below-suc h = eq-or-lt-of-le (le-of-suc-le-suc h)
@@ -179,3 +179,19 @@ count-reaches p (suc n) k h = go (p n) refl h (count-reaches p n k)
         one : (b : Bool) → k < count n p + bit b → count n p ≤ k → (b ≡ true) × (count n p ≡ k)
         one true u v = (refl, omega arith)
         one false u v = absurd (omega arith)
+
+-- ---- a loop that tests each number in turn, and stops at the first that fails
+
+module _ (p : ℕ → Bool) where
+  pub all-none : all 0 p ≡ true
+  unfolding all
+  all-none = refl
+
+  pub all-more : (i : ℕ) → all i p ≡ true → p i ≡ true → all (i + 1) p ≡ true
+  all-more i e f = all-step i p ∙ and-of e f
+
+  pub all-stops : (i n : ℕ) → i < n → p i ≡ false → false ≡ all n p
+  all-stops i n h e = sym (refuted (λ q. all-at n p q i h) e)
+
+  pub all-ends : (i n : ℕ) → all i p ≡ true → i ≤ n → n ≤ i → true ≡ all n p
+  all-ends i n e h k = let same : i ≡ n = omega arith in sym (rw same at e)

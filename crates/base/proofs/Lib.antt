@@ -2,3 +2,5 @@ pub mod TestLaws
 pub mod BelowLaws
 pub mod FirstLaws
 pub mod ListLaws
+pub mod FilledLaws
+pub mod AscentLaws

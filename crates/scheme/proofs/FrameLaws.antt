@@ -5,12 +5,15 @@ use mathlib.Core.Path.{_≡_, sym}
 use mathlib.Core.Logic.{_⊎_, inl, inr, ⊎-elim}
 use mathlib.Core.Bool.{Bool, true, false, true≢false}
 use mathlib.Core.List.{List}
-use native.Mathlib.Nat.{eq-or-lt-of-le}
+use native.Mathlib.Nat.{eq-or-lt-of-le, mul-le-mul-right}
 use native.Mathlib.Omega.{arith}
 use lib.ListN.{length}
 use Rattle.base.proofs.TestLaws.{true-or-false, refuted}
-use Rattle.model.specs.Scheme.{Side, left, right, byte, placesOf, nodesOf, arcsAt, arcCount, endAt, inForm}
+use Rattle.model.specs.Scheme.{Side, left, right, byte, placesOf, nodesOf, nodeAt, arcsAt, arcCount, endAt, inForm}
 use Rattle.scheme.specs.Place.{after, fits}
+use Rattle.scheme.specs.Frame.{LaidOut}
+use Rattle.scheme.specs.Words.{wordPlace}
+use Rattle.scheme.specs.declared.frame.Layout.{Layout}
 use Rattle.scheme.proofs.PlaceLaws.{Fitted, fitting}
 use Rattle.scheme.proofs.FormLaws.{Parts, parts, places-few, arcs-few}
 
@@ -52,3 +55,22 @@ module _ (b : List ℕ) where
   pub other-end : (after b (arcsAt b right) 3 ≡ length b → ⊥) → inForm b ≡ false
   unfolding after
   other-end h = impossible (λ f. h (omega arith))
+
+-- ---- what a layout tells
+
+module _ (b : List ℕ) (l : Layout) (laid : LaidOut b l) where
+  pub dimension-small : byte b 0 ≤ 3
+  dimension-small = let h = laid .headed in ⊎-elim (λ e. omega arith) (λ e. omega arith) (h .dimension)
+
+  pub places-small : placesOf b ≤ 4
+  places-small = let h = laid .headed in let n3 = dimension-small in omega arith
+
+  pub orbit-inside : 2 + placesOf b ≤ length b
+  orbit-inside = omega arith
+
+  pub node-inside : (s : ℕ) → s < nodesOf b → nodeAt b s + 1 + 2 * placesOf b ≤ length b
+  node-inside s h = omega (arith, mul-le-mul-right (1 + 2 * placesOf b) h)
+
+  pub word-inside : (side : Side) (s : ℕ) → s < nodesOf b → wordPlace b side s + placesOf b ≤ length b
+  word-inside left s h = omega (arith, node-inside s h)
+  word-inside right s h = omega (arith, node-inside s h)

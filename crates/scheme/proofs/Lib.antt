@@ -1,3 +1,6 @@
 pub mod PlaceLaws
 pub mod FormLaws
 pub mod FrameLaws
+pub mod OrbitLaws
+pub mod WordLaws
+pub mod NodeLaws

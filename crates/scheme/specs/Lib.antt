@@ -1,2 +1,3 @@
 pub mod Place
 pub mod Frame
+pub mod Words
