@@ -28,12 +28,16 @@ list-same n f g h = ext-getD 0 _ _ (length-list n f ∙ sym (length-list n g)) (
 pub same-ltb : (a b c d : ℕ) → (a < b → c < d) → (c < d → a < b) → ltb a b ≡ ltb c d
 same-ltb a b c d f g = same-test (λ t. lt-ltb c d (f (ltb-true a b t))) (λ t. lt-ltb a b (g (ltb-true c d t)))
 
+-- a list of one word over and over
+pub list-all : (n z : ℕ) (f : ℕ → ℕ) → ((k : ℕ) → k < n → f k ≡ z) → replicate n z ≡ list n f
+list-all n z f h = ext-getD z _ _ (length-replicate n z ∙ sym (length-list n f)) (λ k l.
+    let l′ : k < n = omega (arith, length-replicate n z) in
+    getD-replicate n k z z l′ ∙ sym (getD-list n k f z l′ ∙ h k l′))
+
 module _ (n : ℕ) (f : ℕ → ℕ) (z : ℕ) where
   pub filled-none : replicate n z ≡ filled n 0 f z
   unfolding filled
-  filled-none = ext-getD z _ _ (length-replicate n z ∙ sym (length-list n _)) (λ k l.
-      let l′ : k < n = omega (arith, length-replicate n z) in
-      getD-replicate n k z z l′ ∙ sym (getD-list n k _ z l′ ∙ ap (λ (t : Bool). cond t (f k) z) (le-ltb k 0 (omega arith))))
+  filled-none = list-all n z _ (λ k l. ap (λ (t : Bool). cond t (f k) z) (le-ltb k 0 (omega arith)))
 
   pub length-filled : (j : ℕ) → length (filled n j f z) ≡ n
   unfolding filled
@@ -85,6 +89,9 @@ module _ (l : List ℕ) (base : ℕ) (s : List ℕ) (at : ℕ) where
   pub stored-more : {d : List ℕ} (m : ℕ) → d ≡ stored l base s at m → set d (base + m) (getD s (at + m) 0) ≡ stored l base s at (m + 1)
   unfolding stored
   stored-more m e = rw (add-one m, e) refl
+
+  pub stored-next : {d : List ℕ} (m : ℕ) {i : ℕ} → d ≡ stored l base s at m → i ≡ base + m → set d i (getD s (at + m) 0) ≡ stored l base s at (m + 1)
+  stored-next {d} m e q = ap (λ (i : ℕ). set d i (getD s (at + m) 0)) q ∙ stored-more m e
 
   pub length-stored : (m : ℕ) → length (stored l base s at m) ≡ length l
   unfolding stored

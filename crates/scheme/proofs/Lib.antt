@@ -4,3 +4,7 @@ pub mod FrameLaws
 pub mod OrbitLaws
 pub mod WordLaws
 pub mod NodeLaws
+pub mod TargetLaws
+pub mod ArcLaws
+pub mod ArcTestLaws
+pub mod ReadLaws
