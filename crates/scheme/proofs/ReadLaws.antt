@@ -3,17 +3,18 @@
 use Prim.Native.Nat.{ℕ, _+_, _*_, _≤_}
 use mathlib.Core.Path.{_≡_, refl, sym, _∙_}
 use mathlib.Core.Logic.{inl, inr, ⊎-elim}
-use mathlib.Core.Bool.{true, false}
+use mathlib.Core.Bool.{Bool, true, false}
 use mathlib.Core.List.{List}
 use native.Mathlib.Omega.{arith}
-use lib.ListN.{length}
+use lib.ListN.{length, replicate}
 use Rattle.base.specs.Below.{all}
 use Rattle.base.proofs.TestLaws.{refuted}
 use Rattle.model.specs.Scheme.{Side, left, right, nodesOf, orbitForm, nodeForm, arcsForm, arcsOf, targetsOf, inForm, schemeOf}
 use Rattle.scheme.specs.Frame.{LaidOut}
 use Rattle.scheme.specs.Arcs.{ArcsPlaced}
-use Rattle.scheme.specs.Reading.{Counted, Held}
+use Rattle.scheme.specs.Reading.{Counted, Held, blank, reading}
 use Rattle.scheme.specs.declared.frame.Layout.{Layout}
+use Rattle.scheme.specs.declared.Reading.{Reading}
 use Rattle.scheme.proofs.FormLaws.{Parts, parts, whole}
 
 -- ---- a part that is not in the form
@@ -85,3 +86,53 @@ pub holds : (b : List ℕ) {orbit kinds lwords rwords larcs ltargets rarcs rtarg
     → Held (schemeOf b) orbit kinds lwords rwords larcs ltargets rarcs rtargets
 unfolding schemeOf
 holds b o k l r la lt ra rt = record { orbitIs = o; kindsIs = k; lwordsIs = l; rwordsIs = r; larcsIs = la; ltargetsIs = lt; rarcsIs = ra; rtargetsIs = rt }
+
+-- ---- the reading
+
+module _ (b : List ℕ) where
+  read-formed : inForm b ≡ true → reading b ≡ record { ok = true; scheme = schemeOf b }
+  unfolding reading
+  read-formed e = rw e refl
+
+  read-broken : inForm b ≡ false → reading b ≡ record { ok = false; scheme = blank }
+  unfolding reading
+  read-broken e = rw e refl
+
+  pub settled-formed : {n places nodes lcount rcount : ℕ} {orbit kinds lwords rwords larcs ltargets rarcs rtargets : List ℕ} → inForm b ≡ true
+      → Counted (schemeOf b) n places nodes lcount rcount → Held (schemeOf b) orbit kinds lwords rwords larcs ltargets rarcs rtargets
+      → (true ≡ reading b .ok) × (Counted (reading b .scheme) n places nodes lcount rcount × Held (reading b .scheme) orbit kinds lwords rwords larcs ltargets rarcs rtargets)
+  settled-formed e c h = rw (read-formed e) (refl, (c, h))
+
+  pub settled-broken : inForm b ≡ false
+      → (false ≡ reading b .ok) × (Counted (reading b .scheme) 0 0 0 0 0 × Held (reading b .scheme) (replicate 4 0) (replicate 16 0) (replicate 64 255) (replicate 64 255) (replicate 192 0) (replicate 64 255) (replicate 192 0) (replicate 64 255))
+  unfolding blank
+  settled-broken e = rw (read-broken e) (
+    refl,
+    (
+      record { nIs = refl; placesIs = refl; nodesIs = refl; lcountIs = refl; rcountIs = refl },
+      record { orbitIs = refl; kindsIs = refl; lwordsIs = refl; rwordsIs = refl; larcsIs = refl; ltargetsIs = refl; rarcsIs = refl; rtargetsIs = refl },
+    ),
+  )
+
+-- a reading is made of its parts
+pub made : (R : Reading) {ok : Bool} {n places nodes lcount rcount : ℕ} {orbit kinds lwords rwords larcs ltargets rarcs rtargets : List ℕ}
+    → ok ≡ R .ok → Counted (R .scheme) n places nodes lcount rcount → Held (R .scheme) orbit kinds lwords rwords larcs ltargets rarcs rtargets
+    → _≡_ {A = Reading} (record {
+      ok = ok;
+      scheme = record {
+        n = n;
+        places = places;
+        orbit = orbit;
+        nodes = nodes;
+        kinds = kinds;
+        lwords = lwords;
+        rwords = rwords;
+        ltargets = ltargets;
+        rtargets = rtargets;
+        lcount = lcount;
+        larcs = larcs;
+        rcount = rcount;
+        rarcs = rarcs;
+      };
+    }) R
+made R e c h = rw (e, c .nIs, c .placesIs, c .nodesIs, c .lcountIs, c .rcountIs, h .orbitIs, h .kindsIs, h .lwordsIs, h .rwordsIs, h .larcsIs, h .ltargetsIs, h .rarcsIs, h .rtargetsIs) refl
