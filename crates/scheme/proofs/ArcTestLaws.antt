@@ -1,8 +1,8 @@
 -- The test of one arc, one condition after the other.
 -- Assumes nothing.
 use Prim.Native.Nat.{ℕ, _≤_, _<_}
-use mathlib.Core.Path.{_≡_, sym, ap, _∙_}
-use mathlib.Core.Bool.{Bool, true, false}
+use mathlib.Core.Path.{_≡_, refl, sym, ap, _∙_}
+use mathlib.Core.Bool.{Bool, true, false, not}
 use mathlib.Core.List.{List}
 use lib.ListN.{getD}
 use lib.Dec.{eqb, leb}
@@ -37,13 +37,17 @@ module _ (n nodes : ℕ) (kinds : List ℕ) (other low d s t : ℕ) where
   unfolding arcTest
   no-near e h = sym (refuted (λ q. and-right _ _ (and-left _ _ (and-left _ _ q))) (lacks kinds e h))
 
-  pub no-far : {far : ℕ} → far ≡ t → getD kinds far 0 ≡ other → false ≡ arcTest n nodes kinds other low d s t
+  pub no-key : {k : ℕ} → k ≡ keyOf d s t → k < low → false ≡ arcTest n nodes kinds other low d s t
   unfolding arcTest
-  no-far e h = sym (refuted (λ q. and-right _ _ (and-left _ _ q)) (lacks kinds e h))
+  no-key e h = sym (refuted (λ q. and-right _ _ q) (lt-leb _ _ (rw e at h)))
 
-  pub key-last : {near far k : ℕ} → d ≤ n → s ≤ t → t < nodes → near ≡ s → (getD kinds near 0 ≡ other → ⊥) → far ≡ t → (getD kinds far 0 ≡ other → ⊥) → k ≡ keyOf d s t
-      → leb low k ≡ arcTest n nodes kinds other low d s t
-  unfolding arcTest
-  key-last h₁ h₂ h₃ e₁ q₁ e₂ q₂ e = ap (leb low) e ∙ same-test
-      (λ q. and-of (and-of (and-of (and-of (and-of (le-leb _ _ h₁) (le-leb _ _ h₂)) (lt-ltb _ _ h₃)) (has kinds e₁ q₁)) (has kinds e₂ q₂)) q)
-      (λ q. and-right _ _ q)
+  pub far-last : {near far k : ℕ} → k ≡ keyOf d s t → low ≤ k → d ≤ n → s ≤ t → t < nodes → near ≡ s → (getD kinds near 0 ≡ other → ⊥) → far ≡ t
+      → not (eqb (getD kinds far 0) other) ≡ arcTest n nodes kinds other low d s t
+  unfolding arcTest _⇒_
+  far-last e h₀ h₁ h₂ h₃ e₁ q₁ e₂ = ap (λ (x : ℕ). not (eqb (getD kinds x 0) other)) e₂ ∙ denies (eqb (getD kinds t 0) other) ∙ same-test
+      (λ q. and-of (and-of (and-of (and-of (and-of (le-leb _ _ h₁) (le-leb _ _ h₂)) (lt-ltb _ _ h₃)) (has kinds e₁ q₁)) q) (le-leb _ _ (rw e at h₀)))
+      (λ q. and-right _ _ (and-left _ _ q))
+    where
+      denies : (x : Bool) → not x ≡ (x ⇒ false)
+      denies true = refl
+      denies false = refl

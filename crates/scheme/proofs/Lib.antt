@@ -8,3 +8,4 @@ pub mod TargetLaws
 pub mod ArcLaws
 pub mod ArcTestLaws
 pub mod ReadLaws
+pub mod MarkLaws

@@ -22,14 +22,6 @@ use Rattle.scheme.specs.Words.{sideOf, wordPlace, row, freshAt, emptyAt,
 -- ---- tests of a byte
 
 module _ (b : List ℕ) (at : ℕ) where
-  pub not-fresh : (d o : ℕ) → byte b (at + o) ≡ d → freshAt b at d o ≡ false
-  unfolding freshAt _⇒_
-  not-fresh d o e = rw (eq-eqb _ _ e)
-
-  pub is-fresh : (d o : ℕ) → (byte b (at + o) ≡ d → ⊥) → freshAt b at d o ≡ true
-  unfolding freshAt _⇒_
-  is-fresh d o e = rw (ne-eqb _ _ e)
-
   pub is-empty : (p : ℕ) → byte b (at + p) ≡ 255 → emptyAt b at p ≡ true
   unfolding emptyAt
   is-empty p e = eq-eqb _ _ e
@@ -41,14 +33,6 @@ module _ (b : List ℕ) (at : ℕ) where
   pub empty-fits : (n p : ℕ) → byte b (at + p) ≡ 255 → true ≡ fitsAt b n at p
   unfolding fitsAt
   empty-fits n p e = sym (or-left _ (eq-eqb _ _ e))
-
-  pub no-dimension : (n p : ℕ) → (byte b (at + p) ≡ 255 → ⊥) → n < byte b (at + p) → false ≡ fitsAt b n at p
-  unfolding fitsAt _or_ _and_
-  no-dimension n p e h = rw (ne-eqb _ _ e, lt-leb _ _ h)
-
-  pub fresh-fits : {r : Bool} (n p : ℕ) → (byte b (at + p) ≡ 255 → ⊥) → byte b (at + p) ≤ n → r ≡ all p (freshAt b at (byte b (at + p))) → r ≡ fitsAt b n at p
-  unfolding fitsAt _or_ _and_
-  fresh-fits n p e h q = rw (ne-eqb _ _ e, le-leb _ _ h) q
 
 -- ---- a word of a side
 

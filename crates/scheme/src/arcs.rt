@@ -23,11 +23,14 @@ fn key(d: u8, s: u8, t: u8) -> u32
     number(d) * 65536 + number(s) * 256 + number(t)
 }
 
-// The arc joins nodes of kinds but `other`, the smaller first, and its key is at least `low`.
+// The key of the arc is at least `low`, and it joins nodes of kinds but `other`, the smaller first.
 fn arc_fits(n: u8, nodes: u8, kinds: &[u8; 16], other: u8, low: u32, d: u8, s: u8, t: u8) -> bool
     requires { ⌜ nodes ≤ 16 ⌝ }
     ensures { λ r. ⌜ r ≡ arcTest n nodes (now (kinds .entry)) other low d s t ⌝ }
 {
+    if key(d, s, t) < low {
+        return false;
+    }
     if n < d {
         return false;
     }
@@ -42,10 +45,7 @@ fn arc_fits(n: u8, nodes: u8, kinds: &[u8; 16], other: u8, low: u32, d: u8, s: u
         return false;
     }
     let far = wide(t);
-    if kinds[far] == other {
-        return false;
-    }
-    low <= key(d, s, t)
+    kinds[far] != other
 }
 
 // The first arc of a node and dimension wins.

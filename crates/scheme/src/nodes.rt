@@ -11,7 +11,7 @@ ghost use Rattle.base.specs.Below.{all};
 ghost use Rattle.base.specs.Filled.{filled, stored};
 ghost use Rattle.model.specs.Scheme.{nodesOf, nodeAt, kindAt, orbitForm, wordForm, wordEmpty, nodeForm, left, right, schemeOf};
 ghost use Rattle.scheme.specs.Frame.{LaidOut};
-ghost use Rattle.scheme.specs.Words.{sideOf, wordPlace, row, freshAt, emptyAt, fitsAt};
+ghost use Rattle.scheme.specs.Words.{sideOf, wordPlace, row, emptyAt, fitsAt, markable, marked};
 
 // The orbit type ascends strictly, so that it is enough to compare each dimension with the one before it.
 pub fn read_orbit(bytes: &[u8], l: Layout, orbit: &mut [u8; 4]) -> bool
@@ -39,21 +39,6 @@ pub fn read_orbit(bytes: &[u8], l: Layout, orbit: &mut [u8; 4]) -> bool
     true
 }
 
-// No byte of the word at `at` is d before its byte p.
-fn fresh(bytes: &[u8], at: usize, p: usize, d: u8) -> bool
-    requires { ⌜ at + p ≤ length (now bytes) ⌝ }
-    ensures { λ r. ⌜ r ≡ all p (freshAt (now (bytes .entry)) at d) ⌝ }
-{
-    let mut o = 0;
-    while o < p {
-        if bytes[at + o] == d {
-            return false;
-        }
-        o += 1;
-    }
-    true
-}
-
 // Every byte of the word at `at` is 255.
 fn empty(bytes: &[u8], at: usize, places: usize) -> bool
     requires { ⌜ at + places ≤ length (now bytes) ⌝ }
@@ -69,19 +54,24 @@ fn empty(bytes: &[u8], at: usize, places: usize) -> bool
     true
 }
 
-// Byte p of the word at `at` is 255, or a dimension that no byte before it is.
-fn position(bytes: &[u8], n: u8, at: usize, p: usize) -> bool
-    requires { ⌜ at + p < length (now bytes) ⌝ }
-    ensures { λ r. ⌜ r ≡ fitsAt (now (bytes .entry)) n at p ⌝ }
+// d is 255, or a dimension that is not marked yet and is marked now.
+fn mark(marks: &mut [u8; 4], n: u8, d: u8) -> bool
+    requires { ⌜ n ≤ 3 ⌝ }
+    ensures { λ r. ⌜ r ≡ markable (now (marks .entry)) n d ⌝ }
+    ensures { λ r. ⌜ (r ≡ true → now (marks .exit) ≡ marked (now (marks .entry)) d) ⌝ }
 {
-    let d = bytes[at + p];
     if d == 255 {
         return true;
     }
     if n < d {
         return false;
     }
-    fresh(bytes, at, p, d)
+    let i = wide(d);
+    if marks[i] != 0 {
+        return false;
+    }
+    marks[i] = 1;
+    true
 }
 
 fn read_word(
@@ -92,16 +82,18 @@ fn read_word(
     words: &mut [u8; 64],
     base: usize,
 ) -> bool
-    requires { ⌜ (at + places ≤ length (now bytes)) × (base + places ≤ 64) ⌝ }
+    requires { ⌜ (n ≤ 3) × (at + places ≤ length (now bytes)) × (base + places ≤ 64) ⌝ }
     ensures { λ r. ⌜ r ≡ all places (fitsAt (now (bytes .entry)) n at) ⌝ }
     ensures { λ r. ⌜ (r ≡ true → now (words .exit) ≡ stored (now (words .entry)) base (now (bytes .entry)) at places) ⌝ }
 {
+    let mut marks = [0u8; 4];
     let mut p = 0;
     while p < places {
-        if !position(bytes, n, at, p) {
+        let d = bytes[at + p];
+        if !mark(&mut marks, n, d) {
             return false;
         }
-        words[base + p] = bytes[at + p];
+        words[base + p] = d;
         p += 1;
     }
     true

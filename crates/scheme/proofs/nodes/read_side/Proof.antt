@@ -7,7 +7,7 @@ use Prim.Native.Nat.{_+_, _≤_}
 use lib.ListN.{length}
 use Rattle.scheme.specs.Words.{sideOf}
 use borrow.Author.Needs.{needs}
-use Rattle.scheme.proofs.FrameLaws.{places-small, word-inside}
+use Rattle.scheme.proofs.FrameLaws.{dimension-small, places-small, word-inside}
 use Rattle.scheme.proofs.WordLaws.{Placed, on-form, on-value, off-form, off-value}
 use Rattle.scheme.proofs.nodes.read_side.Statement.{statement}
 use Rattle.scheme.proofs.nodes.read_side.Tie as tie
@@ -53,7 +53,12 @@ mul-read-word : tie.Need-mul-read-word
 mul-read-word c = search needs
 
 read-word-requires : tie.Need-read-word-requires
-read-word-requires c κs = let h = inside (c .before .before) in let w = placed (c .before .before) in let few = w .few in omega arith
+read-word-requires c κs =
+    let h = inside (c .before .before) in
+    let w = placed (c .before .before) in
+    let few = w .few in
+    let n3 = dimension-small _ _ (c .before .before .before .before .pre .0) in
+    (omega (arith, w .nIs), omega arith, omega arith)
 
 returns-2 : tie.Need-returns-2
 returns-2 c =
