@@ -39,14 +39,6 @@ module _ (n : ℕ) (f : ℕ → ℕ) (z : ℕ) where
   unfolding filled
   filled-none = list-all n z _ (λ k l. ap (λ (t : Bool). cond t (f k) z) (le-ltb k 0 (omega arith)))
 
-  pub length-filled : (j : ℕ) → length (filled n j f z) ≡ n
-  unfolding filled
-  length-filled j = length-list n _
-
-  pub filled-at : (j k d : ℕ) → k < j → k < n → getD (filled n j f z) k d ≡ f k
-  unfolding filled
-  filled-at j k d h l = getD-list n k _ d l ∙ ap (λ (t : Bool). cond t (f k) z) (lt-ltb k j h)
-
   -- one word more
   pub filled-more : {l : List ℕ} (j : ℕ) {v : ℕ} → l ≡ filled n j f z → j < n → v ≡ f j → set l j v ≡ filled n (j + 1) f z
   unfolding filled
@@ -92,11 +84,6 @@ module _ (l : List ℕ) (base : ℕ) (s : List ℕ) (at : ℕ) where
 
   pub stored-next : {d : List ℕ} (m : ℕ) {i : ℕ} → d ≡ stored l base s at m → i ≡ base + m → set d i (getD s (at + m) 0) ≡ stored l base s at (m + 1)
   stored-next {d} m e q = ap (λ (i : ℕ). set d i (getD s (at + m) 0)) q ∙ stored-more m e
-
-  pub length-stored : (m : ℕ) → length (stored l base s at m) ≡ length l
-  unfolding stored
-  length-stored zero = refl
-  length-stored (suc m) = length-set (stored l base s at m) (base + m) (getD s (at + m) 0) ∙ length-stored m
 
 -- a part that is stored next fills further
 pub stored-filled : (n : ℕ) (f : ℕ → ℕ) (z : ℕ) {l : List ℕ} (j : ℕ) (s : List ℕ) (at m : ℕ) → l ≡ filled n j f z → j + m ≤ n

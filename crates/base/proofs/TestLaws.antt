@@ -62,6 +62,12 @@ and-no-right false e = refl
 pub refuted : {a b : Bool} → (a ≡ true → b ≡ true) → b ≡ false → a ≡ false
 refuted {a} f e = ⊎-elim (λ w. absurd (true≢false (sym (f w) ∙ e))) (λ w. w) (true-or-false a)
 
+pub or-rest : {a b : Bool} → a ≡ false → (a or b) ≡ true → b ≡ true
+or-rest {a} {b} f e = ⊎-elim (λ w. absurd (true≢false (sym w ∙ f))) (λ w. w) (or-cases a b e)
+
 -- two tests that hold together are one
 pub same-test : {a b : Bool} → (a ≡ true → b ≡ true) → (b ≡ true → a ≡ true) → a ≡ b
 same-test {a} {b} f g = ⊎-elim (λ w. w ∙ sym (f w)) (λ w. w ∙ sym (refuted g w)) (true-or-false a)
+
+pub or-none : (a : Bool) {b : Bool} → b ≡ false → (a or b) ≡ a
+or-none a f = same-test (λ e. ⊎-elim (λ w. w) (λ w. absurd (true≢false (sym w ∙ f))) (or-cases a _ e)) (λ e. or-left _ e)

@@ -1,23 +1,23 @@
 -- The arcs of a side as they are read: the test of an arc is its form, and what holds once the first a arcs are read.
 -- Assumes nothing.
-use Prim.Native.Nat.{ℕ, _+_, _*_, _/_, _%_, _≤_, _<_}
+use Prim.Native.Nat.{ℕ, _+_, _*_, _/_, _≤_, _<_}
 use mathlib.Core.Path.{_≡_, refl, sym, ap, ap₂, _∙_}
 use mathlib.Core.Logic.{⊎-elim}
 use mathlib.Core.Bool.{Bool, true, false, true≢false, cond}
 use mathlib.Core.List.{List}
 use native.Mathlib.Omega.{arith}
-use lib.ListN.{length, getD, replicate}
+use lib.ListN.{getD, replicate}
 use lib.Dec.{eqb, ltb, leb}
 use borrow.Author.Tests.{eq-eqb, eqb-true, lt-ltb, ltb-true, ltb-false, le-leb, leb-true, leb-false}
 use Rattle.base.specs.Test.{_and_, _or_, _⇒_}
 use Rattle.base.specs.Below.{all}
-use Rattle.base.specs.Filled.{filled, stored}
+use Rattle.base.specs.Filled.{stored}
 use Rattle.base.proofs.TestLaws.{and-left, and-right, and-of, or-cases, or-left, or-right, true-or-false, refuted, same-test}
-use Rattle.base.proofs.BelowLaws.{all-at, all-of, all-none, all-more, all-stops, all-ends}
+use Rattle.base.proofs.BelowLaws.{all-at, all-of, all-none, all-more, all-ends}
 use Rattle.base.proofs.ListLaws.{getD-list}
 use Rattle.base.proofs.FilledLaws.{filled-none, filled-all, stored-filled, same-ltb}
 use Rattle.base.proofs.AscentLaws.{above, above-step, ascends, descends}
-use Rattle.model.specs.Scheme.{Side, left, right, onSide, byte, nodesOf, kindAt, arcsAt, arcCount, arcByte, before, nodeForm, arcForm, arcsForm, upTo, arcsOf, targetsOf, schemeOf}
+use Rattle.model.specs.Scheme.{Side, onSide, byte, nodesOf, kindAt, arcCount, arcByte, before, nodeForm, arcForm, arcsForm, arcsOf, targetsOf, schemeOf}
 use Rattle.scheme.specs.Words.{sideOf}
 use Rattle.scheme.specs.Arcs.{ArcsPlaced, keyOf, arcTest, linked, targetsTo}
 use Rattle.scheme.specs.declared.frame.Layout.{Layout}

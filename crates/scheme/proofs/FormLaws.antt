@@ -3,14 +3,13 @@
 use Prim.Native.Nat.{ℕ, _+_, _≤_}
 use mathlib.Core.Path.{_≡_}
 use mathlib.Core.Logic.{_⊎_, inl, inr, ⊎-elim}
-use mathlib.Core.Bool.{true, false}
+use mathlib.Core.Bool.{true}
 use mathlib.Core.List.{List}
-use native.Mathlib.Omega.{arith}
-use borrow.Author.Tests.{eqb-true, eq-eqb, leb-true, le-leb, eqb-false}
+use borrow.Author.Tests.{eqb-true, eq-eqb, leb-true, le-leb}
 use lib.ListN.{length}
 use Rattle.base.specs.Below.{all}
 use Rattle.base.proofs.TestLaws.{and-left, and-right, and-of, or-cases, or-left, or-right}
-use Rattle.model.specs.Scheme.{Side, left, right, byte, placesOf, nodesOf, arcsAt, arcCount, endAt, orbitForm, nodeForm, arcsForm, inForm}
+use Rattle.model.specs.Scheme.{Side, left, right, byte, placesOf, nodesOf, arcCount, endAt, orbitForm, nodeForm, arcsForm, inForm}
 
 module _ (b : List ℕ) where
   pub record Parts : Type 0 where

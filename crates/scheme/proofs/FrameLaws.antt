@@ -3,18 +3,18 @@
 use Prim.Native.Nat.{ℕ, _+_, _*_, _≤_, _<_}
 use mathlib.Core.Path.{_≡_, sym}
 use mathlib.Core.Logic.{_⊎_, inl, inr, ⊎-elim}
-use mathlib.Core.Bool.{Bool, true, false, true≢false}
+use mathlib.Core.Bool.{false}
 use mathlib.Core.List.{List}
 use native.Mathlib.Nat.{eq-or-lt-of-le, mul-le-mul-right}
 use native.Mathlib.Omega.{arith}
 use lib.ListN.{length}
 use Rattle.base.proofs.TestLaws.{true-or-false, refuted}
-use Rattle.model.specs.Scheme.{Side, left, right, byte, placesOf, nodesOf, nodeAt, arcsAt, arcCount, endAt, inForm}
+use Rattle.model.specs.Scheme.{Side, left, right, byte, placesOf, nodesOf, nodeAt, arcsAt, inForm}
 use Rattle.scheme.specs.Place.{after, fits}
 use Rattle.scheme.specs.Frame.{LaidOut}
 use Rattle.scheme.specs.Words.{wordPlace}
 use Rattle.scheme.specs.declared.frame.Layout.{Layout}
-use Rattle.scheme.proofs.PlaceLaws.{Fitted, fitting}
+use Rattle.scheme.proofs.PlaceLaws.{fitting}
 use Rattle.scheme.proofs.FormLaws.{Parts, parts, places-few, arcs-few}
 
 pub two-or-three : {n : ℕ} → 2 ≤ n → n ≤ 3 → (n ≡ 2) ⊎ (n ≡ 3)

@@ -3,18 +3,18 @@
 use Prim.Native.Nat.{ℕ, _+_, _≤_, _<_}
 use mathlib.Core.Path.{_≡_, refl, sym, ap, _∙_}
 use mathlib.Core.Logic.{⊎-elim, by-cases}
-use mathlib.Core.Bool.{Bool, true, false, true≢false, cond}
+use mathlib.Core.Bool.{Bool, true, false, true≢false}
 use mathlib.Core.List.{List}
 use native.Mathlib.Decide.{ℕ-discrete}
 use native.Mathlib.Omega.{arith}
 use lib.ListN.{length, getD, set, replicate, length-set}
 use lib.Seq.{ext-getD, getD-set-same, getD-set-other}
-use lib.Dec.{eqb, leb}
-use borrow.Author.Tests.{eq-eqb, ne-eqb, eqb-true, eqb-false, lt-leb, le-leb, leb-true}
+use lib.Dec.{eqb}
+use borrow.Author.Tests.{eq-eqb, ne-eqb, eqb-true, lt-leb, le-leb, leb-true}
 use Rattle.base.specs.Test.{_and_, _or_, _⇒_, bit}
 use Rattle.base.specs.Below.{all, any}
 use Rattle.base.specs.Lists.{list}
-use Rattle.base.proofs.TestLaws.{and-left, and-right, and-of, or-cases, or-left, or-right, if-so, if-of, true-or-false, same-test, refuted}
+use Rattle.base.proofs.TestLaws.{and-left, and-right, and-of, or-left, or-right, or-rest, or-none, if-so, if-of, true-or-false, same-test}
 use Rattle.base.proofs.BelowLaws.{all-at, all-of, any-at, any-of, any-step}
 use Rattle.base.proofs.ListLaws.{getD-list, length-list}
 use Rattle.base.proofs.FilledLaws.{list-all, list-same}
@@ -70,13 +70,10 @@ module _ (b : List ℕ) (at : ℕ) where
   marks-fit {marks} n p e few q = q ∙ ⊎-elim
       (λ w. or-left _ w ∙ sym (or-left _ w))
       (λ w. same-test
-      (λ t. or-right _ (let u = rest w t in and-of (and-left _ _ u) (fresh-none p _ ∙ sym (at-mark (leb-true _ _ (and-left _ _ u))) ∙ and-right _ _ u)))
-      (λ t. or-right _ (let u = rest w t in and-of (and-left _ _ u) (at-mark (leb-true _ _ (and-left _ _ u)) ∙ sym (fresh-none p _) ∙ and-right _ _ u))))
+      (λ t. or-right _ (let u = or-rest w t in and-of (and-left _ _ u) (fresh-none p _ ∙ sym (at-mark (leb-true _ _ (and-left _ _ u))) ∙ and-right _ _ u)))
+      (λ t. or-right _ (let u = or-rest w t in and-of (and-left _ _ u) (at-mark (leb-true _ _ (and-left _ _ u)) ∙ sym (fresh-none p _) ∙ and-right _ _ u))))
       (true-or-false (eqb (byte b (at + p)) 255))
     where
-      rest : {x y : Bool} → x ≡ false → (x or y) ≡ true → y ≡ true
-      rest {x} {y} f t = ⊎-elim (λ v. absurd (true≢false (sym v ∙ f))) (λ v. v) (or-cases x y t)
-
       at-mark : byte b (at + p) ≤ n → eqb (getD marks (byte b (at + p)) 0) 0 ≡ eqb (bit (any p (stands (byte b (at + p))))) 0
       at-mark h = ap (λ (x : ℕ). eqb x 0) (ap (λ (l : List ℕ). getD l (byte b (at + p)) 0) e ∙ getD-list 4 (byte b (at + p)) _ 0 (omega arith))
 
@@ -85,16 +82,10 @@ module _ (b : List ℕ) (at : ℕ) where
       → marked marks (byte b (at + p)) ≡ marksTo b at (p + 1)
   unfolding markable marked marksTo
   marks-more {marks} n p e few q = ⊎-elim
-      (λ w. rw w (e ∙ list-same 4 _ _ (λ k h. ap bit (sym (any-step p (stands k) ∙ or-none (ne-eqb _ _ (λ f. gone w k h f)))))))
-      (λ w. rw w (here (leb-true _ _ (and-left _ _ (rest w q)))))
+      (λ w. rw w (e ∙ list-same 4 _ _ (λ k h. ap bit (sym (any-step p (stands k) ∙ or-none _ (ne-eqb _ _ (λ f. gone w k h f)))))))
+      (λ w. rw w (here (leb-true _ _ (and-left _ _ (or-rest w q)))))
       (true-or-false (eqb (byte b (at + p)) 255))
     where
-      rest : {x y : Bool} → x ≡ false → (x or y) ≡ true → y ≡ true
-      rest {x} {y} f t = ⊎-elim (λ v. absurd (true≢false (sym v ∙ f))) (λ v. v) (or-cases x y t)
-
-      or-none : {x y : Bool} → y ≡ false → (x or y) ≡ x
-      or-none {x} {y} f = same-test (λ t. ⊎-elim (λ v. v) (λ v. absurd (true≢false (sym v ∙ f))) (or-cases x y t)) (λ t. or-left _ t)
-
       gone : eqb (byte b (at + p)) 255 ≡ true → (k : ℕ) → k < 4 → byte b (at + p) ≡ k → ⊥
       gone w k h f = let v : byte b (at + p) ≡ 255 = eqb-true _ _ w in omega arith
 
@@ -107,4 +98,4 @@ module _ (b : List ℕ) (at : ℕ) where
           (λ f. ap (λ (i : ℕ). getD (set marks (byte b (at + p)) 1) i 0) f ∙ getD-set-same marks _ 1 0 (omega arith)
           ∙ sym (getD-list 4 k _ 0 l′ ∙ ap bit (any-of (p + 1) (stands k) p (omega arith) (eq-eqb _ _ (sym f)))))
           (λ ne. getD-set-other marks _ k 1 0 ne ∙ ap (λ (m : List ℕ). getD m k 0) e ∙ getD-list 4 k _ 0 l′
-          ∙ ap bit (sym (any-step p (stands k) ∙ or-none (ne-eqb _ _ (λ f. ne (sym f))))) ∙ sym (getD-list 4 k _ 0 l′)))
+          ∙ ap bit (sym (any-step p (stands k) ∙ or-none _ (ne-eqb _ _ (λ f. ne (sym f))))) ∙ sym (getD-list 4 k _ 0 l′)))

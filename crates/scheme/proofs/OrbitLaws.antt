@@ -2,17 +2,17 @@
 -- Assumes nothing.
 use Prim.Native.Nat.{ℕ, _+_, _≤_, _<_}
 use mathlib.Core.Path.{_≡_, refl, sym, ap, _∙_}
-use mathlib.Core.Bool.{Bool, true, false, cond}
+use mathlib.Core.Bool.{true, false}
 use mathlib.Core.List.{List}
 use native.Mathlib.Omega.{arith}
-use lib.ListN.{length, set, replicate}
+use lib.ListN.{set, replicate}
 use lib.Dec.{ltb, leb}
 use borrow.Author.Tests.{le-leb, lt-leb}
 use Rattle.base.specs.Below.{all}
 use Rattle.base.specs.Filled.{filled}
 use Rattle.base.proofs.TestLaws.{and-left, and-right, and-of, refuted}
 use Rattle.base.proofs.BelowLaws.{all-at, all-none, all-more, all-ends}
-use Rattle.base.proofs.FilledLaws.{filled-none, filled-more, filled-all, length-filled}
+use Rattle.base.proofs.FilledLaws.{filled-none, filled-more, filled-all}
 use Rattle.base.proofs.AscentLaws.{above, above-step, ascends, descends}
 use Rattle.model.specs.Scheme.{byte, placesOf, orbitForm, upTo, schemeOf}
 

@@ -7,7 +7,6 @@ use mathlib.Core.List.{List}
 use native.Mathlib.Omega.{arith}
 use borrow.Author.Tests.{lt-ltb, le-ltb, ltb-true, ltb-false, le-leb, lt-leb, leb-true}
 use lib.ListN.{length}
-use lib.Dec.{ltb, leb}
 use Rattle.base.specs.Test.{_and_}
 use Rattle.base.proofs.TestLaws.{and-left, and-right, and-of, and-no-left, and-no-right}
 use Rattle.model.specs.Scheme.{byte}

@@ -1,12 +1,12 @@
 -- The parts of a scheme that was read, put together.
 -- Assumes nothing.
-use Prim.Native.Nat.{ℕ, _+_, _*_, _≤_}
+use Prim.Native.Nat.{ℕ}
 use mathlib.Core.Path.{_≡_, refl, sym, _∙_}
 use mathlib.Core.Logic.{inl, inr, ⊎-elim}
 use mathlib.Core.Bool.{Bool, true, false}
 use mathlib.Core.List.{List}
 use native.Mathlib.Omega.{arith}
-use lib.ListN.{length, replicate}
+use lib.ListN.{replicate}
 use Rattle.base.specs.Below.{all}
 use Rattle.base.proofs.TestLaws.{refuted}
 use Rattle.model.specs.Scheme.{Side, left, right, nodesOf, orbitForm, nodeForm, arcsForm, arcsOf, targetsOf, inForm, schemeOf}
@@ -15,7 +15,7 @@ use Rattle.scheme.specs.Arcs.{ArcsPlaced}
 use Rattle.scheme.specs.Reading.{Counted, Held, blank, reading}
 use Rattle.scheme.specs.declared.frame.Layout.{Layout}
 use Rattle.scheme.specs.declared.Reading.{Reading}
-use Rattle.scheme.proofs.FormLaws.{Parts, parts, whole}
+use Rattle.scheme.proofs.FormLaws.{parts, whole}
 
 -- ---- a part that is not in the form
 
@@ -90,11 +90,11 @@ holds b o k l r la lt ra rt = record { orbitIs = o; kindsIs = k; lwordsIs = l; r
 -- ---- the reading
 
 module _ (b : List ℕ) where
-  read-formed : inForm b ≡ true → reading b ≡ record { ok = true; scheme = schemeOf b }
+  pub read-formed : inForm b ≡ true → reading b ≡ record { ok = true; scheme = schemeOf b }
   unfolding reading
   read-formed e = rw e refl
 
-  read-broken : inForm b ≡ false → reading b ≡ record { ok = false; scheme = blank }
+  pub read-broken : inForm b ≡ false → reading b ≡ record { ok = false; scheme = blank }
   unfolding reading
   read-broken e = rw e refl
 

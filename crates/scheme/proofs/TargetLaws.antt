@@ -1,8 +1,8 @@
 -- Targets as the arcs are read: the first arc of a node and dimension gives them.
 -- Assumes nothing.
-use Prim.Native.Nat.{ℕ, _+_, _*_, _/_, _%_, _≤_, _<_}
+use Prim.Native.Nat.{ℕ, _+_, _*_, _/_, _%_, _<_}
 use mathlib.Core.Path.{_≡_, refl, sym, ap, ap₂, _∙_}
-use mathlib.Core.Logic.{⊎-elim, by-cases}
+use mathlib.Core.Logic.{by-cases}
 use mathlib.Core.Bool.{Bool, true, false, cond}
 use mathlib.Core.Option.{Option, none, some, Option·getD}
 use mathlib.Core.List.{List}
@@ -11,14 +11,14 @@ use native.Mathlib.Omega.{arith}
 use lib.ListN.{length, getD, set, replicate, length-set}
 use lib.Seq.{ext-getD, getD-set-same, getD-set-other}
 use lib.Dec.{eqb}
-use borrow.Author.Tests.{eq-eqb, ne-eqb, eqb-true, eqb-false}
+use borrow.Author.Tests.{eq-eqb, ne-eqb, eqb-true}
 use Rattle.base.specs.Test.{_and_, _or_}
 use Rattle.base.specs.First.{first, when, _orElse_}
-use Rattle.base.proofs.TestLaws.{and-left, and-right, and-of, true-or-false, same-test}
+use Rattle.base.proofs.TestLaws.{and-left, and-right, and-of, same-test}
 use Rattle.base.proofs.FirstLaws.{first-step, first-at, when-at}
 use Rattle.base.proofs.ListLaws.{getD-list, length-list}
 use Rattle.base.proofs.FilledLaws.{list-all}
-use Rattle.model.specs.Scheme.{touching, otherEnd, farEnd}
+use Rattle.model.specs.Scheme.{touching, farEnd}
 use Rattle.scheme.specs.Arcs.{aimed, linked, targetsTo}
 
 -- ---- one aim

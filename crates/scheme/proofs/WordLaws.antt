@@ -3,20 +3,19 @@
 use Prim.Native.Nat.{ℕ, _+_, _-_, _*_, _/_, _%_, _≤_, _<_}
 use mathlib.Core.Path.{_≡_, refl, sym, ap, ap₂, _∙_}
 use mathlib.Core.Logic.{_⊎_, inl, inr, ⊎-elim}
-use mathlib.Core.Bool.{Bool, true, false, true≢false, cond}
+use mathlib.Core.Bool.{Bool, true, false, cond}
 use mathlib.Core.List.{List}
 use native.Mathlib.Nat.{eq-or-lt-of-le}
 use native.Mathlib.Omega.{arith}
-use lib.ListN.{length, getD}
-use lib.Dec.{eqb, ltb, leb}
-use borrow.Author.Tests.{eq-eqb, ne-eqb, eqb-true, lt-ltb, le-ltb, ltb-true, ltb-false, lt-leb, le-leb}
+use lib.Dec.{eqb, ltb}
+use borrow.Author.Tests.{eq-eqb, ne-eqb, eqb-true, lt-ltb, le-ltb, ltb-true, ltb-false}
 use Rattle.base.specs.Test.{_and_, _or_, _⇒_}
 use Rattle.base.specs.Below.{all}
 use Rattle.base.specs.Filled.{filled, stored}
-use Rattle.base.proofs.TestLaws.{and-left, and-right, and-of, or-left, or-right, or-cases, true-or-false, refuted, same-test}
+use Rattle.base.proofs.TestLaws.{and-left, and-right, and-of, or-left, or-right, or-rest, true-or-false, same-test}
 use Rattle.base.proofs.BelowLaws.{all-at, all-of}
 use Rattle.base.proofs.FilledLaws.{filled-over, stored-filled}
-use Rattle.model.specs.Scheme.{Side, left, right, onSide, byte, placesOf, nodesOf, nodeAt, kindAt, wordAt, wordForm, wordEmpty, upTo}
+use Rattle.model.specs.Scheme.{Side, left, right, onSide, byte, placesOf, kindAt, wordAt, wordForm, wordEmpty, upTo}
 use Rattle.scheme.specs.Words.{sideOf, wordPlace, row, freshAt, emptyAt, fitsAt}
 
 -- ---- tests of a byte
@@ -141,9 +140,6 @@ module _ (b : List ℕ) (s other kind n places at : ℕ) (w : Placed b s other k
       e ∙ there ∙ same-test
       (λ q. and-of (empty-form b side s q) (word-empty b side s ∙ or-right _ q))
       (λ q. or-rest off (sym (word-empty b side s) ∙ and-right _ _ q))
-    where
-      or-rest : {x y : Bool} → x ≡ false → (x or y) ≡ true → y ≡ true
-      or-rest {x} {y} f q = ⊎-elim (λ v. absurd (true≢false (sym v ∙ f))) (λ v. v) (or-cases x y q)
 
   pub off-value : {l : List ℕ} → l ≡ filled 64 (4 * s) (row b side) 255 → all places (emptyAt b at) ≡ true → l ≡ filled 64 (4 * (s + 1)) (row b side) 255
   unfolding emptyAt

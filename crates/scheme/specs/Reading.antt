@@ -5,7 +5,7 @@ use mathlib.Core.Path.{_≡_}
 use mathlib.Core.Bool.{true, false, cond}
 use mathlib.Core.List.{List}
 use lib.ListN.{replicate}
-use Rattle.model.specs.Scheme.{byte, placesOf, nodesOf, arcCount, left, right, inForm, schemeOf}
+use Rattle.model.specs.Scheme.{inForm, schemeOf}
 use Rattle.model.specs.declared.Scheme.{Scheme}
 use Rattle.scheme.specs.declared.frame.Form.{Form}
 use Rattle.scheme.specs.declared.frame.Form.the-variants.{Laid, Broken}

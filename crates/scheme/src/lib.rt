@@ -1,8 +1,8 @@
 // Reading a scheme's bytes into one value of fixed size.
-pub mod arcs;
+mod arcs;
 pub mod cursor;
-pub mod frame;
-pub mod nodes;
+mod frame;
+mod nodes;
 
 use arcs::read_arcs;
 use cursor::wide;
@@ -13,8 +13,7 @@ use model::Scheme;
 use nodes::read_nodes;
 use nodes::read_orbit;
 ghost use mathlib.Core.Path.{_≡_};
-ghost use lib.ListN.{replicate};
-ghost use Rattle.scheme.specs.Reading.{Counted, Held, Gathered, reading};
+ghost use Rattle.scheme.specs.Reading.{Counted, Held, Gathered, blank, reading};
 
 // What reading a scheme's bytes gives: the scheme, or a blank one beside the refusal.
 pub struct Reading {
@@ -34,8 +33,7 @@ fn gather(
     rarcs: &mut [u8; 192],
     rtargets: &mut [u8; 64],
 ) -> Form
-    requires { ⌜ (now orbit ≡ replicate 4 0) × (now kinds ≡ replicate 16 0) × (now lwords ≡ replicate 64 255) × (now rwords ≡ replicate 64 255) ⌝ }
-    requires { ⌜ (now larcs ≡ replicate 192 0) × (now ltargets ≡ replicate 64 255) × (now rarcs ≡ replicate 192 0) × (now rtargets ≡ replicate 64 255) ⌝ }
+    requires { ⌜ Held blank (now orbit) (now kinds) (now lwords) (now rwords) (now larcs) (now ltargets) (now rarcs) (now rtargets) ⌝ }
     ensures { λ r. ⌜ Gathered (now (bytes .entry)) (now (orbit .exit)) (now (kinds .exit)) (now (lwords .exit)) (now (rwords .exit)) (now (larcs .exit)) (now (ltargets .exit)) (now (rarcs .exit)) (now (rtargets .exit)) r ⌝ }
 {
     let Form::Laid(l) = frame(bytes) else {
@@ -87,8 +85,7 @@ fn settle(
     rarcs: &mut [u8; 192],
     rtargets: &mut [u8; 64],
 ) -> Header
-    requires { ⌜ (now orbit ≡ replicate 4 0) × (now kinds ≡ replicate 16 0) × (now lwords ≡ replicate 64 255) × (now rwords ≡ replicate 64 255) ⌝ }
-    requires { ⌜ (now larcs ≡ replicate 192 0) × (now ltargets ≡ replicate 64 255) × (now rarcs ≡ replicate 192 0) × (now rtargets ≡ replicate 64 255) ⌝ }
+    requires { ⌜ Held blank (now orbit) (now kinds) (now lwords) (now rwords) (now larcs) (now ltargets) (now rarcs) (now rtargets) ⌝ }
     ensures { λ r. ⌜ r .ok ≡ reading (now (bytes .entry)) .ok ⌝ }
     ensures { λ r. ⌜ Counted (reading (now (bytes .entry)) .scheme) (r .n) (r .places) (r .nodes) (r .lcount) (r .rcount) ⌝ }
     ensures { λ r. ⌜ Held (reading (now (bytes .entry)) .scheme) (now (orbit .exit)) (now (kinds .exit)) (now (lwords .exit)) (now (rwords .exit)) (now (larcs .exit)) (now (ltargets .exit)) (now (rarcs .exit)) (now (rtargets .exit)) ⌝ }

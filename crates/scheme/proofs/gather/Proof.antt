@@ -2,12 +2,11 @@
 -- Assumes nothing.
 use mathlib.Core.Path.{_≡_, sym, _∙_}
 use mathlib.Core.Bool.{true}
-use mathlib.Core.List.{List}
 use borrow.Author.Tests.{not-true, not-false}
 use denote.Ref.{now}
 use borrow.Author.Needs.{needs}
 use Rattle.base.specs.Below.{all}
-use Rattle.model.specs.Scheme.{left, right, nodesOf, nodeForm, orbitForm}
+use Rattle.model.specs.Scheme.{left, right, nodesOf, nodeForm}
 use Rattle.scheme.specs.Frame.{LaidOut}
 use Rattle.scheme.proofs.ReadLaws.{no-orbit, no-nodes, no-arcs, placed-left, placed-right, all-formed, counts, holds}
 use Rattle.scheme.proofs.gather.Statement.{statement}

@@ -1,13 +1,13 @@
 -- `scheme::frame::head` meets its contract.
 -- Assumes nothing.
-use Prim.Native.Nat.{ℕ, _+_, _*_, _≤_, _<_}
+use Prim.Native.Nat.{ℕ, _+_, _*_, _<_}
 use mathlib.Core.Path.{_≡_, refl, ap}
 use mathlib.Core.List.{List}
 use native.Mathlib.Omega.{arith}
 use denote.Ref.{now}
 use lib.ListN.{length}
 use borrow.Author.Needs.{needs}
-use Rattle.model.specs.Scheme.{byte, placesOf, nodesOf}
+use Rattle.model.specs.Scheme.{byte, placesOf}
 use Rattle.scheme.specs.Place.{after}
 use Rattle.scheme.proofs.PlaceLaws.{Fitted, stepped, ended, counted, uncounted}
 use Rattle.scheme.proofs.FrameLaws.{two-or-three, no-bytes, low-dimension, high-dimension, no-places, no-nodes}

@@ -1,6 +1,6 @@
 -- `scheme::nodes::read_node` meets its contract.
 -- Assumes nothing.
-use Prim.Native.Nat.{ℕ, _+_, _*_, _≤_, _<_}
+use Prim.Native.Nat.{ℕ, _+_, _*_, _≤_}
 use mathlib.Core.Path.{_≡_, refl, sym, ap, ap₂, _∙_}
 use mathlib.Core.Logic.{inl, inr}
 use mathlib.Core.Bool.{true≢false}
@@ -9,7 +9,7 @@ use borrow.Author.Tests.{not-true, not-false}
 use denote.Ref.{now}
 use lib.ListN.{length}
 use borrow.Author.Needs.{needs}
-use Rattle.model.specs.Scheme.{byte, placesOf, nodesOf, nodeAt, kindAt}
+use Rattle.model.specs.Scheme.{byte, placesOf, kindAt}
 use Rattle.scheme.proofs.FrameLaws.{node-inside}
 use Rattle.scheme.proofs.NodeLaws.{node-low, node-high, node-left, node-right}
 use Rattle.scheme.proofs.nodes.read_node.Statement.{statement}

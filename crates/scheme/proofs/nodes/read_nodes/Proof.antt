@@ -1,6 +1,6 @@
 -- `scheme::nodes::read_nodes` meets its contract. The loop's invariant: the first s nodes are in the form, and are held.
 -- Assumes nothing.
-use Prim.Native.Nat.{_+_, _-_, _*_, _≤_, _<_}
+use Prim.Native.Nat.{_+_, _-_, _*_, _≤_}
 use mathlib.Core.Path.{_≡_, sym, _∙_}
 use mathlib.Core.Bool.{true≢false}
 use native.Mathlib.Omega.{arith}
@@ -9,7 +9,7 @@ use borrow.Author.Tests.{not-true, not-false}
 use denote.Ref.{now}
 use lib.ListN.{length}
 use Rattle.base.proofs.BelowLaws.{all-stops, all-ends}
-use Rattle.model.specs.Scheme.{placesOf, nodesOf, nodeAt}
+use Rattle.model.specs.Scheme.{placesOf, nodesOf}
 use Rattle.scheme.specs.Frame.{LaidOut}
 use Rattle.scheme.proofs.FrameLaws.{node-inside}
 use Rattle.scheme.proofs.NodeLaws.{Passed, passed-none, passed-more, kinds-value, lwords-value, rwords-value}

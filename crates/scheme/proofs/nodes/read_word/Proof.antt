@@ -1,6 +1,6 @@
 -- `scheme::nodes::read_word` meets its contract. The loop's invariant: the first p bytes fit, are marked and are stored.
 -- Assumes nothing.
-use Prim.Native.Nat.{_+_, _-_, _≤_}
+use Prim.Native.Nat.{_-_, _≤_}
 use mathlib.Core.Path.{_≡_, refl, sym, _∙_}
 use mathlib.Core.Bool.{true, true≢false}
 use native.Mathlib.Omega.{arith}
