@@ -32,7 +32,7 @@ blank = record {
 unfoldable pub reading : List ℕ → Reading
 reading b = cond (inForm b) (record { ok = true; scheme = schemeOf b }) (record { ok = false; scheme = blank })
 
--- the arrays of a scheme
+-- arrays that are those of a scheme
 pub record Held (S : Scheme) (orbit kinds lwords rwords larcs ltargets rarcs rtargets : List ℕ) : Type 0 where
   pub orbitIs : orbit ≡ S .orbit
   pub kindsIs : kinds ≡ S .kinds
@@ -43,7 +43,7 @@ pub record Held (S : Scheme) (orbit kinds lwords rwords larcs ltargets rarcs rta
   pub rarcsIs : rarcs ≡ S .rarcs
   pub rtargetsIs : rtargets ≡ S .rtargets
 
--- the numbers of a scheme
+-- numbers that are those of a scheme
 pub record Counted (S : Scheme) (n places nodes lcount rcount : ℕ) : Type 0 where
   pub nIs : n ≡ S .n
   pub placesIs : places ≡ S .places

@@ -8,6 +8,7 @@ use borrow.Author.Needs.{needs}
 use Rattle.base.specs.Below.{all}
 use Rattle.model.specs.Scheme.{left, right, nodesOf, nodeForm}
 use Rattle.scheme.specs.Frame.{LaidOut}
+use Rattle.scheme.specs.Reading.{blank}
 use Rattle.scheme.proofs.ReadLaws.{no-orbit, no-nodes, no-arcs, placed-left, placed-right, all-formed, counts, holds}
 use Rattle.scheme.proofs.gather.Statement.{statement}
 use Rattle.scheme.proofs.gather.Tie as tie
@@ -41,16 +42,18 @@ returns : tie.Need-returns
 returns c = rw (c .enum-told .given .1) at (c .before .before .frame .ensures)
 
 read-orbit-requires : tie.Need-read-orbit-requires
-read-orbit-requires c κs = (laid (c .before), c .before .before .before .before .before .before .pre .0 .0)
+unfolding blank
+read-orbit-requires c κs = (laid (c .before), c .before .before .before .before .before .before .pre .orbitIs)
 
 returns-2 : tie.Need-returns-2
 returns-2 c = no-orbit _ (sym (c .before .read-orbit .ensures .0) ∙ not-true _ (c .if1 .taken))
 
 read-nodes-requires : tie.Need-read-nodes-requires
+unfolding blank
 read-nodes-requires c κs =
     let k = told (c .before .before .before) in
-    let p = k .before .before .before .before .before .pre .0 in
-    (laid k, (p .1, p .2, p .3))
+    let p = k .before .before .before .before .before .pre in
+    (laid k, (p .kindsIs, p .lwordsIs, p .rwordsIs))
 
 returns-3 : tie.Need-returns-3
 returns-3 c = no-nodes _ (sym (c .before .read-nodes .ensures .0) ∙ not-true _ (c .if2 .taken))
@@ -59,11 +62,12 @@ wide-requires : tie.Need-wide-requires
 wide-requires c κs = search needs
 
 read-arcs-requires : tie.Need-read-arcs-requires
+unfolding blank
 read-arcs-requires c κs =
     let e = c .before .before .before .before in
     let k = told (past-orbit e) in
-    let p = k .before .before .before .before .before .pre .1 in
-    (placed-left _ _ (laid k) (nodes e) (e .before .read-nodes .ensures .1 .0 (not-false _ (e .if2 .left))) (c .before .before .wide .ensures .0), (p .0, p .1))
+    let p = k .before .before .before .before .before .pre in
+    (placed-left _ _ (laid k) (nodes e) (e .before .read-nodes .ensures .1 .0 (not-false _ (e .if2 .left))) (c .before .before .wide .ensures .0), (p .larcsIs, p .ltargetsIs))
 
 returns-4 : tie.Need-returns-4
 returns-4 c = no-arcs _ left (sym (c .before .read-arcs .ensures .0) ∙ not-true _ (c .if3 .taken))
@@ -72,11 +76,12 @@ wide-requires-2 : tie.Need-wide-requires-2
 wide-requires-2 c κs = search needs
 
 read-arcs-requires-2 : tie.Need-read-arcs-requires-2
+unfolding blank
 read-arcs-requires-2 c κs =
     let e = past-nodes (c .before .before .before .before) in
     let k = told (past-orbit e) in
-    let p = k .before .before .before .before .before .pre .1 in
-    (placed-right _ _ (laid k) (nodes e) (e .before .read-nodes .ensures .1 .0 (not-false _ (e .if2 .left))) (c .before .before .wide2 .ensures .0), (p .2, p .3))
+    let p = k .before .before .before .before .before .pre in
+    (placed-right _ _ (laid k) (nodes e) (e .before .read-nodes .ensures .1 .0 (not-false _ (e .if2 .left))) (c .before .before .wide2 .ensures .0), (p .rarcsIs, p .rtargetsIs))
 
 returns-5 : tie.Need-returns-5
 returns-5 c = no-arcs _ right (sym (c .before .read-arcs2 .ensures .0) ∙ not-true _ (c .if4 .taken))

@@ -1,6 +1,5 @@
 -- `scheme::settle` meets its contract.
 -- Assumes nothing.
-
 use borrow.Author.Needs.{needs}
 use Rattle.scheme.proofs.ReadLaws.{settled-formed, settled-broken}
 use Rattle.scheme.proofs.settle.Statement.{statement}

@@ -1,6 +1,5 @@
 -- `scheme::arcs::aim` meets its contract.
 -- Assumes nothing.
-
 use borrow.Author.Needs.{needs}
 use Rattle.scheme.proofs.TargetLaws.{aim-taken, aim-left}
 use Rattle.scheme.proofs.arcs.aim.Statement.{statement}

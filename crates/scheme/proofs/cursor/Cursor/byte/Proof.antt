@@ -1,6 +1,5 @@
 -- `scheme::cursor::Cursor::byte` meets its contract.
 -- Assumes nothing.
-
 use borrow.Author.Needs.{needs}
 use Rattle.scheme.proofs.PlaceLaws.{step-byte, step-end}
 use Rattle.scheme.proofs.cursor.Cursor.byte.Statement.{statement}
