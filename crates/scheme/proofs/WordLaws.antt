@@ -78,13 +78,10 @@ one-of-three kind h k = ⊎-elim (λ e. inl (sym e)) (λ l. inr (⊎-elim (λ e.
 -- a side has the kinds but the one it lacks
 pub on-side : {other kind : ℕ} → (other ≡ 3) ⊎ (other ≡ 1) → 1 ≤ kind → kind ≤ 3 → onSide (sideOf other) kind ≡ (eqb kind other ⇒ false)
 unfolding _or_ _⇒_
-on-side {other} {kind} w h k = ⊎-elim (λ e. rw e (lefts kind (one-of-three kind h k))) (λ e. rw e (rights kind (one-of-three kind h k))) w
+on-side {other} {kind} w h k = ⊎-elim (both 1 refl refl) (λ v. ⊎-elim (both 2 refl refl) (both 3 refl refl) v) (one-of-three kind h k)
   where
-    lefts : (kind : ℕ) → (kind ≡ 1) ⊎ ((kind ≡ 2) ⊎ (kind ≡ 3)) → (eqb kind 1 or eqb kind 2) ≡ (eqb kind 3 ⇒ false)
-    lefts kind w = ⊎-elim (λ e. rw e refl) (λ v. ⊎-elim (λ e. rw e refl) (λ e. rw e refl) v) w
-
-    rights : (kind : ℕ) → (kind ≡ 1) ⊎ ((kind ≡ 2) ⊎ (kind ≡ 3)) → (eqb kind 2 or eqb kind 3) ≡ (eqb kind 1 ⇒ false)
-    rights kind w = ⊎-elim (λ e. rw e refl) (λ v. ⊎-elim (λ e. rw e refl) (λ e. rw e refl) v) w
+    both : (x : ℕ) → onSide left x ≡ (eqb x 3 ⇒ false) → onSide right x ≡ (eqb x 1 ⇒ false) → kind ≡ x → onSide (sideOf other) kind ≡ (eqb kind other ⇒ false)
+    both x p q e = rw e (⊎-elim (λ f. rw f p) (λ f. rw f q) w)
 
 -- ---- a word that was read fills the row of its node
 
