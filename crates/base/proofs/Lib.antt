@@ -6,3 +6,5 @@ pub mod ListLaws
 pub mod StepLaws
 pub mod RowLaws
 pub mod BinaryLaws
+pub mod FilledLaws
+pub mod AscentLaws

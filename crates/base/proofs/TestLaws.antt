@@ -1,9 +1,9 @@
 -- Laws of the tests: what a joined test says of its parts.
 -- Assumes nothing.
 use Prim.Native.Nat.{ℕ}
-use mathlib.Core.Path.{_≡_, refl, sym}
-use mathlib.Core.Logic.{_⊎_, inl, inr}
-use mathlib.Core.Bool.{Bool, true, false, cond, false≢true}
+use mathlib.Core.Path.{_≡_, refl, sym, _∙_}
+use mathlib.Core.Logic.{_⊎_, inl, inr, ⊎-elim}
+use mathlib.Core.Bool.{Bool, true, false, cond, false≢true, true≢false}
 use lib.Dec.{eqb}
 use borrow.Author.Tests.{eqb-true, eqb-false, eq-eqb, ne-eqb}
 use Rattle.base.specs.Test.{_and_, _or_, _⇒_}
@@ -89,6 +89,27 @@ eqb-same a b c d f g = go (eqb a b) refl
     go false e = sym (ne-eqb c d (λ q. eqb-false a b e (g q)))
 
 -- a test that cannot hold
-pub refuted : (b : Bool) → (b ≡ true → ⊥) → b ≡ false
-refuted true f = absurd (f refl)
-refuted false f = refl
+pub impossible : (b : Bool) → (b ≡ true → ⊥) → b ≡ false
+impossible true f = absurd (f refl)
+impossible false f = refl
+
+-- ---- tests that fail
+
+pub and-no-left : {a : Bool} (b : Bool) → a ≡ false → (a and b) ≡ false
+unfolding _and_
+and-no-left b e = rw e
+
+pub and-no-right : (a : Bool) {b : Bool} → b ≡ false → (a and b) ≡ false
+unfolding _and_
+and-no-right true e = e
+and-no-right false e = refl
+
+-- a test that would make another true, which is false, is false
+pub refuted : {a b : Bool} → (a ≡ true → b ≡ true) → b ≡ false → a ≡ false
+refuted {a} f e = ⊎-elim (λ w. absurd (true≢false (sym (f w) ∙ e))) (λ w. w) (true-or-false a)
+
+pub or-rest : {a b : Bool} → a ≡ false → (a or b) ≡ true → b ≡ true
+or-rest {a} {b} f e = ⊎-elim (λ w. absurd (true≢false (sym w ∙ f))) (λ w. w) (or-cases a b e)
+
+pub or-none : (a : Bool) {b : Bool} → b ≡ false → (a or b) ≡ a
+or-none a f = same-test _ _ (λ e. ⊎-elim (λ w. w) (λ w. absurd (true≢false (sym w ∙ f))) (or-cases a _ e)) (λ e. or-left _ e)

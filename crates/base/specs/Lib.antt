@@ -5,3 +5,4 @@ pub mod Lists
 pub mod Steps
 pub mod Binary
 pub mod Digits
+pub mod Filled

@@ -16,7 +16,7 @@ use borrow.Author.Tests.{ltb-true, lt-ltb, leb-true, le-leb}
 use Rattle.base.specs.Test.{_and_, bit}
 use Rattle.base.specs.Below.{count}
 use Rattle.base.specs.Binary.{binary}
-use Rattle.base.proofs.TestLaws.{and-left, and-right, and-of, refuted, same-test}
+use Rattle.base.proofs.TestLaws.{and-left, and-right, and-of, impossible, same-test}
 use Rattle.base.proofs.BelowLaws.{count-step, count-gap}
 use Rattle.base.proofs.BinaryLaws.{binary-same, binary-below, binary-more, binary-none, binary-zero, binary-lowest, shifted}
 use Rattle.model.specs.declared.Scheme.{Scheme}
@@ -40,12 +40,12 @@ blank = record { long = length-replicate {A = ℕ} 16 0; zeros = λ w h. getD-re
 pub digits-none : (N : ℕ) (s bits : List ℕ) → Blank bits → Digits (early N s 0) bits
 digits-none N s bits z = record {
   long = z .long;
-  at = λ w h. z .zeros w h ∙ sym (binary-zero 64 _ (λ k l. refuted _ (λ e. let m = early-at N s 0 (64 * w + k) e in omega arith)));
+  at = λ w h. z .zeros w h ∙ sym (binary-zero 64 _ (λ k l. impossible _ (λ e. let m = early-at N s 0 (64 * w + k) e in omega arith)));
 }
 
 module _ (N : ℕ) (s : List ℕ) (size : ℕ) (P : Placed N s size) (r : ℕ) (h : r < size) where
   fresh : early N s r (place N s r) ≡ false
-  fresh = refuted _ (λ e. let m = early-at N s r (place N s r) e in omega (arith, P .back r h))
+  fresh = impossible _ (λ e. let m = early-at N s r (place N s r) e in omega (arith, P .back r h))
 
   here : early N s (r + 1) (place N s r) ≡ true
   here = early-of N s (r + 1) (place N s r) (P .slot r h) (omega (arith, P .back r h)) (omega (arith, P .back r h))
@@ -149,7 +149,7 @@ module _ {N : ℕ} {S : Scheme} {O : ℕ → Bool} {t₀ s₀ : List ℕ} {size 
 
   pub passed-all : rest ≡ 0 → Granting N S O t₀ s₀ size (count (64 * w + 64) O * many) from t s
   passed-all e = same-count 64 (p .few)
-      (λ k l h. refuted _ (λ q. true≢false (sym (and-of (le-leb (p .passed) k l) q) ∙ binary-none 64 _ (sym (p .digits) ∙ e) k h)))
+      (λ k l h. impossible _ (λ q. true≢false (sym (and-of (le-leb (p .passed) k l) q) ∙ binary-none 64 _ (sym (p .digits) ∙ e) k h)))
 
   module _ (some : rest ≡ 0 → ⊥) (j : ℕ) (is : j ≡ trailingZeros 64 rest) where
     lowest-digit : (j < 64) × ((leb (p .passed) j and O (64 * w + j)) ≡ true) × ((i : ℕ) → i < j → (leb (p .passed) i and O (64 * w + i)) ≡ false)
@@ -167,11 +167,11 @@ module _ {N : ℕ} {S : Scheme} {O : ℕ → Bool} {t₀ s₀ : List ℕ} {size 
     late = leb-true (p .passed) j (and-left _ _ (lowest-digit .1))
 
     skipped : (k : ℕ) → p .passed ≤ k → k < j → O (64 * w + k) ≡ false
-    skipped k l h = refuted _ (λ q. true≢false (sym (and-of (le-leb (p .passed) k l) q) ∙ lowest-digit .2 k h))
+    skipped k l h = impossible _ (λ q. true≢false (sym (and-of (le-leb (p .passed) k l) q) ∙ lowest-digit .2 k h))
 
     rest-is : rest ≡ binary 64 (λ k. leb (j + 1) k and O (64 * w + k)) + 2 ^ j
     rest-is = p .digits ∙ binary-more 64 _ _ j in-word
-        (refuted _ (λ e. let l = leb-true (j + 1) j (and-left _ _ e) in omega arith))
+        (impossible _ (λ e. let l = leb-true (j + 1) j (and-left _ _ e) in omega arith))
         (lowest-digit .1)
         (λ k l ne. same-test _ _
         (λ e. by-cases (decLt k j)

@@ -8,7 +8,7 @@ use mathlib.Core.List.{List}
 use native.Mathlib.Omega.{arith}
 use lib.ListN.{getD}
 use Rattle.base.specs.Below.{count}
-use Rattle.base.proofs.TestLaws.{or-left, or-right, true-or-false, refuted}
+use Rattle.base.proofs.TestLaws.{or-left, or-right, true-or-false, impossible}
 use Rattle.base.proofs.BelowLaws.{count-le, count-injective, count-gap}
 use Rattle.base.proofs.BinaryLaws.{binary-same}
 use Rattle.base.proofs.FirstLaws.{nth-at}
@@ -199,5 +199,5 @@ module _ {N : ℕ} {t s : List ℕ} {size : ℕ} {nodes : List ℕ} {many : ℕ}
   pub granted : {x free : ℕ} {t′ s′ cols′ : List ℕ} → Columned N size nodes many cols cols′ → N ≤ x
       → Granting N (R .scheme) (orbitOf R) t s size (count x (orbitOf R) * many) free t′ s′ → Granted (view N t) (R .scheme) (orbitOf R) t s t′ s′ cols′ size
   granted {x} {free} {t′} {s′} {cols′} C h g =
-      let e : count x (orbitOf R) ≡ count N (orbitOf R) = count-gap (orbitOf R) N x h (λ z l k. refuted _ (λ q. let b = in-table z q in omega arith)) in
+      let e : count x (orbitOf R) ≡ count N (orbitOf R) = count-gap (orbitOf R) N x h (λ z l k. impossible _ (λ q. let b = in-table z q in omega arith)) in
       granted-all C (rw e at g)
