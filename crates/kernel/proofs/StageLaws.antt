@@ -1,0 +1,223 @@
+-- The stages of an edit, refusal by refusal.
+-- Assumes nothing.
+use Prim.Native.Nat.{ℕ, suc, _+_, _*_, _-_, _≤_, _<_}
+use mathlib.Core.Path.{_≡_, refl, sym, ap, ap₂, _∙_, subst}
+use mathlib.Core.Logic.{_⊎_, ⊎-elim}
+use mathlib.Core.Bool.{Bool, true, false, not, cond, true≢false}
+use mathlib.Core.Option.{Option, none, some, Option·getD}
+use mathlib.Core.List.{List, [], _∷_}
+use native.Mathlib.Omega.{arith}
+use types.Run.{OneOf}
+use lib.ListN.{length}
+use lib.Dec.{eqb, ltb}
+use borrow.Author.Tests.{eq-eqb, ne-eqb, lt-ltb, le-ltb, not-false}
+use Rattle.base.specs.Test.{_and_}
+use Rattle.base.specs.Below.{count}
+use Rattle.base.specs.First.{when, _orElse_, there}
+use Rattle.base.proofs.TestLaws.{true-or-false, and-of, and-no-left, and-no-right}
+use Rattle.base.proofs.BelowLaws.{count-same, count-not}
+use Rattle.base.proofs.FirstLaws.{some-not-none, when-at, when-none, or-else-cases, or-else-none}
+use Rattle.model.specs.Answer.{number}
+use Rattle.model.specs.Map.{Map, view, live, unused}
+use Rattle.model.specs.WellFormed.{WellFormed, wellFormed}
+use Rattle.model.specs.Scheme.{inForm, schemeOf, orbitDim}
+use Rattle.model.specs.Conditions.{hookFault, incidenceFault, cycleFault, schemeFault, noted}
+use Rattle.model.specs.Accepted.{Accepted}
+use Rattle.model.specs.Calls.{zeros, sizesOk, bytesFault, roomFault, orbitOf, editFault, editAnswer, editTable, editStore}
+use Rattle.model.specs.declared.Scheme.{Scheme}
+use Rattle.model.specs.declared.Answer.{Answer}
+use Rattle.model.specs.declared.Answer.the-variants.{Done, BadCall, BadForm, BadHook, BadIncidence, OtherDimension, BadTable, NoDart}
+use Rattle.model.proofs.AnswerLaws.{answers-of}
+use Rattle.model.proofs.WellFormedLaws.{wellFormed-iff}
+use Rattle.model.proofs.SchemeLaws.{formed}
+use Rattle.model.proofs.AcceptedLaws.{accepted}
+use Rattle.scheme.specs.Reading.{reading, blank}
+use Rattle.scheme.specs.declared.Reading.{Reading}
+use Rattle.edit.specs.Apply.{At, Applied, rewritten}
+use Rattle.table.specs.Words.{Sized}
+use Rattle.kernel.specs.Promises.{MapEdited}
+use Rattle.kernel.specs.Stages.{Judged, dartFault, dartDone, dartTable, Settled, AppliedAt, Staged}
+use Rattle.kernel.specs.declared.stages.Verdict.{Verdict}
+use Rattle.kernel.proofs.RefusalLaws.{cycle-number}
+
+-- ---- the scheme's bytes
+
+module _ (b : List ℕ) (r : Reading) (e : r ≡ reading b) where
+  read-ok : r .ok ≡ inForm b
+  unfolding reading
+  read-ok = ap (λ (x : Reading). x .ok) e ∙ picked (inForm b)
+    where
+      picked : (t : Bool) → (cond {A = Reading} t (record { ok = true; scheme = schemeOf b }) (record { ok = false; scheme = blank })) .ok ≡ t
+      picked true = refl
+      picked false = refl
+
+  pub form-bad : not (r .ok) ≡ true → inForm b ≡ false
+  form-bad h = sym read-ok ∙ not-it (r .ok) h
+    where
+      not-it : (t : Bool) → not t ≡ true → t ≡ false
+      not-it true q = absurd (true≢false (sym q))
+      not-it false q = refl
+
+  pub form-good : not (r .ok) ≡ false → inForm b ≡ true
+  form-good h = sym read-ok ∙ it (r .ok) h
+    where
+      it : (t : Bool) → not t ≡ false → t ≡ true
+      it true q = refl
+      it false q = absurd (true≢false q)
+
+  pub read-scheme : inForm b ≡ true → r .scheme ≡ schemeOf b
+  unfolding reading
+  read-scheme q = ap (λ (x : Reading). x .scheme) e ∙ rw q refl
+
+pub judged-bad : (b : List ℕ) (S : Scheme) → inForm b ≡ false → Judged b (record { answer = BadForm; scheme = S })
+unfolding bytesFault when _orElse_
+judged-bad b S e = record { answer = rw e refl; scheme = λ q. absurd (let z : _≡_ {A = ℕ} 0 2 = ap number (sym q) in omega arith) }
+
+pub judged-good : (b : List ℕ) (S : Scheme) (a : Answer) → inForm b ≡ true → S ≡ schemeOf b → a ≡ Option·getD (schemeFault S) Done
+    → Judged b (record { answer = a; scheme = S })
+unfolding bytesFault when _orElse_
+judged-good b S a e s f = record { answer = f ∙ rw (e, s) refl; scheme = λ q. s }
+
+-- no refusal of the bytes is done
+noted-number : (f : ℕ → Answer) (k : ℕ) → ((x : ℕ) → number (f x) ≡ k) → (o : Option ℕ) (a : Answer) → noted f o ≡ some a → number a ≡ k
+noted-number f k h none a e = absurd (some-not-none e refl)
+noted-number f k h (some x) a e = let q : f x ≡ a = cc in ap number (sym q) ∙ h x
+
+fault-number : (b : List ℕ) (a : Answer) → bytesFault b ≡ some a → number a ≡ 0 → ⊥
+unfolding bytesFault schemeFault
+fault-number b a e z = ⊎-elim
+    (λ w. let q : number a ≡ 2 = ap number (sym (when-at _ w .1)) in omega arith)
+    (λ w. ⊎-elim
+    (λ v. let q = noted-number BadHook 3 (λ x. refl) (hookFault (schemeOf b)) a v in omega arith)
+    (λ v. ⊎-elim
+    (λ u. let q = noted-number BadIncidence 4 (λ x. refl) (incidenceFault (schemeOf b)) a u in omega arith)
+    (λ u. let q = cycle-number (schemeOf b) a (u .1) in omega arith)
+    (or-else-cases _ _ a (v .1)))
+    (or-else-cases _ _ a (w .1)))
+    (or-else-cases _ _ a e)
+
+-- bytes judged done have no fault, and any other answer is their fault
+module _ (b : List ℕ) (v : Verdict) (j : Judged b v) where
+  pub no-fault : v .answer ≡ Done → bytesFault b ≡ none
+  no-fault e = go (bytesFault b) refl
+    where
+      go : (o : Option Answer) → bytesFault b ≡ o → bytesFault b ≡ none
+      go none q = q
+      go (some a) q = absurd (fault-number b a q (ap number (ap (λ (o : Option Answer). Option·getD o Done) (sym q) ∙ sym (j .answer) ∙ e)))
+
+  pub its-fault : (v .answer ≡ Done → ⊥) → bytesFault b ≡ some (v .answer)
+  its-fault n = go (bytesFault b) refl
+    where
+      go : (o : Option Answer) → bytesFault b ≡ o → bytesFault b ≡ some (v .answer)
+      go none q = absurd (n (j .answer ∙ ap (λ (o : Option Answer). Option·getD o Done) q))
+      go (some a) q = q ∙ ap {B = Option Answer} some (sym (j .answer ∙ ap (λ (o : Option Answer). Option·getD o Done) q))
+
+-- ---- the dart
+
+module _ (n N : ℕ) (t : List ℕ) (S : Scheme) (d : ℕ) where
+  pub other-dimension : (x : ℕ) → x ≡ S .n → (x ≡ n → ⊥) → AppliedAt n N t S d OtherDimension t
+  unfolding dartFault when _orElse_ there
+  other-dimension x e h =
+      let q : eqb (S .n) n ≡ false = ne-eqb (S .n) n (λ z. h (e ∙ z)) in
+      record { answer = rw q refl; table = rw q refl }
+
+  module _ (same : S .n ≡ n) where
+    pub bad-table : wellFormed n (view N t) ≡ false → AppliedAt n N t S d BadTable t
+    unfolding dartFault when _orElse_ there
+    bad-table w = let q = eq-eqb (S .n) n same in record { answer = rw (q, w) refl; table = rw (q, w) refl }
+
+    module _ (w : wellFormed n (view N t) ≡ true) where
+      pub dart-out : N ≤ d → AppliedAt n N t S d NoDart t
+      unfolding dartFault when _orElse_ there _and_
+      dart-out h =
+          let q = eq-eqb (S .n) n same in
+          let l = le-ltb d N h in
+          record { answer = rw (q, w, l) refl; table = rw (q, w, l) refl }
+
+      module _ (slot : d < N) where
+        pub dart-dead : (s : ℕ) → s ≡ view N t .state d → (s ≡ 1 → ⊥) → AppliedAt n N t S d NoDart t
+        unfolding dartFault when _orElse_ there _and_
+        dart-dead s e h =
+            let q = eq-eqb (S .n) n same in
+            let l = lt-ltb d N slot in
+            let z : live (view N t) d ≡ false = ne-eqb (view N t .state d) 1 (λ y. h (e ∙ y)) in
+            record { answer = rw (q, w, l, z) refl; table = rw (q, w, l, z) refl }
+
+        module _ (alive : view N t .state d ≡ 1) where
+          pub at-dart : Accepted S → Sized N t → At N t S d
+          at-dart a s = record {
+            accepted = a;
+            sized = s;
+            well = wellFormed-iff (S .n) (view N t) .0 (ap (λ (k : ℕ). wellFormed k (view N t)) same ∙ w);
+            slot = slot;
+            alive = alive;
+          }
+
+          pub applied : (r : Answer) (t′ : List ℕ) → Applied N t S d r t′ → AppliedAt n N t S d r t′
+          unfolding dartFault dartDone dartTable when _orElse_ _and_ rewritten
+          applied r t′ a =
+              let q = eq-eqb (S .n) n same in
+              let l = lt-ltb d N slot in
+              let z : live (view N t) d ≡ true = eq-eqb (view N t .state d) 1 alive in
+              record { answer = a .answer ∙ rw (q, w, l, z) refl; table = a .table ∙ rw (q, w, l, z) refl }
+
+-- in a well-formed table the slots that are not live are unused
+pub unused-left : (n N : ℕ) (t : List ℕ) (k : ℕ) → wellFormed n (view N t) ≡ true → k ≡ count N (live (view N t))
+    → (k ≤ N) × (N - k ≡ count N (unused (view N t)))
+unused-left n N t k w e =
+    let m = view N t in
+    let all = count-not N (live m) in
+    let rest : count N (λ x. not (live m x)) ≡ count N (unused m) = count-same N _ (unused m) (λ x h. either (m .state x) (wellFormed-iff n m .0 w .states x h)) in
+    (omega arith, omega arith)
+  where
+    either : (s : ℕ) → (s ≡ 0) ⊎ (s ≡ 1) → not (eqb s 1) ≡ eqb s 0
+    either s c = ⊎-elim (λ z. rw z refl) (λ z. rw z refl) c
+
+-- ---- all stages
+
+module _ (n N : ℕ) (t b : List ℕ) (d : ℕ) where
+  pub stage-refused : (a : Answer) → bytesFault b ≡ some a → Staged n N t b d a t
+  unfolding _orElse_ there
+  stage-refused a e = record { answer = rw e refl; table = rw e refl }
+
+  pub stage-on : (S : Scheme) (r : Answer) (t′ : List ℕ) → bytesFault b ≡ none → S ≡ schemeOf b → AppliedAt n N t S d r t′ → Staged n N t b d r t′
+  unfolding _orElse_
+  stage-on S r t′ e s a = let z = subst (λ (x : Scheme). AppliedAt n N t x d r t′) s a in record { answer = z .answer ∙ rw e refl; table = z .table ∙ rw e refl }
+
+-- bytes with no fault are an accepted scheme's
+pub no-fault-accepted : (b : List ℕ) (S : Scheme) → bytesFault b ≡ none → S ≡ schemeOf b → Accepted S
+unfolding bytesFault
+no-fault-accepted b S e s =
+    let r = or-else-none _ _ e in
+    let form : inForm b ≡ true = not-false (inForm b) (when-none _ BadForm (r .0)) in
+    subst Accepted (sym s) (accepted (schemeOf b) (formed b form) (r .1))
+
+-- ---- the call
+
+module _ (n N : ℕ) (t store b : List ℕ) (d : ℕ) where
+  abbrev sized : Bool
+  sized = sizesOk n N t and eqb (length store) (16 * N)
+
+  unsized : sized ≡ false → MapEdited n N t store b d BadCall t store
+  unfolding editAnswer editTable editStore editFault when _orElse_ there
+  unsized e = record { answer = answers-of (rw e refl); table = rw e refl; cleared = rw e refl }
+
+  pub edit-bad-sizes : sizesOk n N t ≡ false → MapEdited n N t store b d BadCall t store
+  edit-bad-sizes e = unsized (and-no-left (eqb (length store) (16 * N)) e)
+
+  pub edit-bad-store : (length store ≡ 16 * N → ⊥) → MapEdited n N t store b d BadCall t store
+  edit-bad-store h = unsized (and-no-right (sizesOk n N t) (ne-eqb (length store) (16 * N) h))
+
+  pub edit-staged : sizesOk n N t ≡ true → length store ≡ 16 * N → (r : Answer) (t′ store′ : List ℕ) → Staged n N t b d r t′ → store′ ≡ zeros store
+      → MapEdited n N t store b d r t′ store′
+  unfolding editAnswer editTable editStore editFault orbitOf dartFault dartDone dartTable when _orElse_ there
+  edit-staged e l r t′ store′ s z =
+      let q : sized ≡ true = and-of e (eq-eqb (length store) (16 * N) l) in
+      record { answer = answers-of (s .answer ∙ rw q refl); table = s .table ∙ rw q refl; cleared = z ∙ rw q refl }
+
+-- 0 is none of the numbers 1 to 14, those of the answers that are not done
+pub not-zero : OneOf (1 ∷ 2 ∷ 3 ∷ 4 ∷ 5 ∷ 6 ∷ 7 ∷ 8 ∷ 9 ∷ 10 ∷ 11 ∷ 12 ∷ 13 ∷ 14 ∷ []) 0 → ⊥
+not-zero = ⊎-elim no (⊎-elim no (⊎-elim no (⊎-elim no (⊎-elim no (⊎-elim no (⊎-elim no (⊎-elim no (⊎-elim no (⊎-elim no (⊎-elim no (⊎-elim no (⊎-elim no no))))))))))))
+  where
+    no : {k : ℕ} → _≡_ {A = ℕ} 0 (suc k) → ⊥
+    no e = omega arith

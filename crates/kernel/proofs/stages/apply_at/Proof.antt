@@ -1,0 +1,117 @@
+-- `kernel::stages::apply_at` meets its contract.
+-- Assumes nothing.
+use Prim.Native.Nat.{_-_, _≤_}
+use mathlib.Core.Path.{_≡_, sym, _∙_}
+use mathlib.Core.Bool.{true}
+use denote.Ref.{now}
+use Rattle.base.specs.Below.{count}
+use Rattle.model.specs.Map.{view, live, unused}
+use Rattle.model.specs.WellFormed.{wellFormed}
+use Rattle.table.proofs.SurveyLaws.{survey-live, survey-broken}
+use Rattle.kernel.proofs.StageLaws.{other-dimension, bad-table, dart-out, dart-dead, at-dart, applied, unused-left}
+use borrow.Author.Needs.{needs}
+use Rattle.kernel.proofs.stages.apply_at.Statement.{statement}
+use Rattle.kernel.proofs.stages.apply_at.Tie as tie
+
+-- past the tests of n and of the table
+same : (k : tie.After-known-told) → let a = k .before .before .before .before .before .before .before .before .before .args in a .s .n ≡ a .n
+same k = let e = k .before .before .before .before .before in sym (e .before .wide .ensures) ∙ e .if1 .left
+
+lives : (k : tie.After-known-told) → let a = k .before .before .before .before .before .before .before .before .before .args in
+    (wellFormed (a .n) (view (a .slots) (now (a .table))) ≡ true) × (k .before .found .given .0 .0 ≡ count (a .slots) (live (view (a .slots) (now (a .table)))))
+lives k = survey-live _ _ _ (k .before .before .before .survey .ensures) _ (k .before .found .given .1)
+
+free : (k : tie.After-known-told) → let a = k .before .before .before .before .before .before .before .before .before .args in
+    (k .before .found .given .0 .0 ≤ a .slots) × (a .slots - k .before .found .given .0 .0 ≡ count (a .slots) (unused (view (a .slots) (now (a .table)))))
+free k = let a = k .before .before .before .before .before .before .before .before .before .args in unused-left (a .n) (a .slots) (now (a .table)) _ (lives k .0) (lives k .1)
+
+well : (k : tie.After-known-told) → let a = k .before .before .before .before .before .before .before .before .before .args in wellFormed (a .n) (view (a .slots) (now (a .table))) ≡ true
+well k = lives k .0
+
+wide-requires : tie.Need-wide-requires
+wide-requires c κs = search needs
+
+returns : tie.Need-returns
+returns c = other-dimension _ _ _ _ _ _ (c .before .wide .ensures) (c .if1 .taken)
+
+survey-requires : tie.Need-survey-requires
+survey-requires c κs = search needs
+
+enum-known-found : tie.Need-enum-known-found
+enum-known-found c = search needs
+
+enum-told : tie.Need-enum-told
+enum-told c = search needs
+
+same-length : tie.Need-same-length
+same-length c = search needs
+
+returns-2 : tie.Need-returns-2
+returns-2 c =
+    let f = c .before .before in
+    let e = f .before .before in
+    bad-table _ _ _ _ _ (sym (e .before .wide .ensures) ∙ e .if1 .left) (survey-broken _ _ _ (f .survey .ensures) (c .enum-told .given .1))
+
+same-length-2 : tie.Need-same-length-2
+same-length-2 c = search needs
+
+returns-3 : tie.Need-returns-3
+returns-3 c = dart-out _ _ _ _ _ (same (c .before)) (well (c .before)) (c .if2 .taken)
+
+state-requires : tie.Need-state-requires
+state-requires c κs = search needs
+
+same-length-3 : tie.Need-same-length-3
+same-length-3 c = search needs
+
+returns-4 : tie.Need-returns-4
+returns-4 c =
+    let e = c .before .before .before in
+    dart-dead _ _ _ _ _ (same (e .before)) (well (e .before)) (e .if2 .left) _ (c .before .state .ensures) (c .if3 .taken)
+
+sub-apply : tie.Need-sub-apply
+sub-apply c = free (c .before .before .before .before .before .before) .0
+
+apply-requires : tie.Need-apply-requires
+apply-requires c κs =
+    let d = c .before .before in
+    let e = d .before .before .before in
+    let k = e .before in
+    let p = k .before .before .before .before .before .before .before .before .before .pre in
+    (at-dart _ _ _ _ _ (same k) (well k) (e .if2 .left) (sym (d .before .state .ensures) ∙ d .if3 .left) (p .1 .0) (p .1 .1 .0), (free k .1, p .1 .1 .1))
+
+same-length-4 : tie.Need-same-length-4
+same-length-4 c = search needs
+
+same-length-5 : tie.Need-same-length-5
+same-length-5 c = search needs
+
+returns-5 : tie.Need-returns-5
+returns-5 c =
+    let r = c .before .before .before .before in
+    let d = r .before .before .before in
+    let e = d .before .before .before in
+    let k = e .before in
+    applied _ _ _ _ _ (same k) (well k) (e .if2 .left) (sym (d .before .state .ensures) ∙ d .if3 .left) _ _ (r .apply .ensures)
+
+pub apply-at-spec : {M : Type 1} → statement M
+apply-at-spec =
+    tie.close
+    (tie.spec
+    wide-requires
+    returns
+    survey-requires
+    enum-known-found
+    enum-told
+    same-length
+    returns-2
+    same-length-2
+    returns-3
+    state-requires
+    same-length-3
+    returns-4
+    sub-apply
+    apply-requires
+    same-length-4
+    same-length-5
+    returns-5)

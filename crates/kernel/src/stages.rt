@@ -1,0 +1,96 @@
+// The stages of an edit behind the test of its sizes: refusals 2 to 5, then 6 to 8, then the edit at the dart.
+use model::Answer;
+use model::Scheme;
+use table::Finding;
+use table::words::state;
+ghost use mathlib.Core.Path.{_≡_};
+ghost use mathlib.Core.Logic.{_⊎_};
+ghost use Prim.Native.Nat.{_*_};
+ghost use lib.ListN.{length};
+ghost use Rattle.model.specs.Accepted.{Accepted};
+ghost use Rattle.table.specs.Words.{Sized};
+ghost use Rattle.kernel.specs.Stages.{Judged, AppliedAt, Staged};
+
+// What is known of bytes that were judged: the first of refusals 2 to 5, or done with the scheme.
+pub(crate) struct Verdict {
+    pub(crate) answer: Answer,
+    pub(crate) scheme: Scheme,
+}
+
+// Refusals 2 to 5.
+pub(crate) fn judge(bytes: &[u8]) -> Verdict
+    ensures { λ r. ⌜ Judged (now (bytes .entry)) r ⌝ }
+{
+    let r = scheme::read(bytes);
+    let s = r.scheme;
+    if !r.ok {
+        return Verdict {
+            answer: Answer::BadForm,
+            scheme: s,
+        };
+    }
+    Verdict {
+        answer: conditions::fault(s),
+        scheme: s,
+    }
+}
+
+fn wide(x: u8) -> u32
+    ensures { λ r. ⌜ r ≡ x ⌝ }
+{
+    x as u32
+}
+
+// Refusals 6 to 10, and the edit.
+fn apply_at(
+    n: u32,
+    slots: usize,
+    table: &mut [u32],
+    store: &mut [u32],
+    s: Scheme,
+    dart: usize,
+) -> Answer
+    requires { ⌜ (n ≡ 2) ⊎ (n ≡ 3) ⌝ }
+    requires { ⌜ Accepted s ⌝ }
+    requires { ⌜ Sized slots (now table) ⌝ }
+    requires { ⌜ length (now store) ≡ 16 * slots ⌝ }
+    ensures { λ r. ⌜ AppliedAt n slots (now (table .entry)) s dart r (now (table .exit)) ⌝ }
+{
+    if wide(s.n) != n {
+        return Answer::OtherDimension;
+    }
+    let found = table::survey(n, slots, table);
+    let Finding::Live(live) = found else {
+        return Answer::BadTable;
+    };
+    if slots <= dart {
+        return Answer::NoDart;
+    }
+    if state(slots, table, dart) != 1 {
+        return Answer::NoDart;
+    }
+    edit::apply(slots, table, store, s, slots - live, dart)
+}
+
+// Refusals 2 to 10, and the edit.
+pub(crate) fn staged(
+    n: u32,
+    slots: usize,
+    table: &mut [u32],
+    store: &mut [u32],
+    bytes: &[u8],
+    dart: usize,
+) -> Answer
+    requires { ⌜ (n ≡ 2) ⊎ (n ≡ 3) ⌝ }
+    requires { ⌜ Sized slots (now table) ⌝ }
+    requires { ⌜ length (now store) ≡ 16 * slots ⌝ }
+    ensures { λ r. ⌜ Staged n slots (now (table .entry)) (now (bytes .entry)) dart r (now (table .exit)) ⌝ }
+{
+    let v = judge(bytes);
+    let answer = v.answer;
+    let s = v.scheme;
+    match answer {
+        Answer::Done => apply_at(n, slots, table, store, s, dart),
+        _ => answer,
+    }
+}
