@@ -1,6 +1,7 @@
 #!/usr/bin/env python3
 """The text of a scheme: every fault with the line and column it is promised at, and the way from bytes to text and back."""
 import contextlib
+import functools
 import glob
 import importlib.machinery
 import importlib.util
@@ -76,6 +77,7 @@ BYTE_FAULTS = [
 ]
 
 
+@functools.lru_cache
 def load():
     """The tool as a module: starting it anew for every text would take a minute."""
     sys.dont_write_bytecode = True
