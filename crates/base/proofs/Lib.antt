@@ -1,4 +1,7 @@
 pub mod TestLaws
+pub mod DigitLaws
 pub mod BelowLaws
 pub mod FirstLaws
 pub mod ListLaws
+pub mod StepLaws
+pub mod RowLaws

@@ -55,6 +55,7 @@ module _ {A : Type 0} (k : ℕ) (f : ℕ → List A) (each : (x : ℕ) → lengt
       (below-suc h)
 
 module _ {A : Type 0} where
+  -- what is joined decides the whole
   pub joined-same : (n : ℕ) (f g : ℕ → List A) → ((x : ℕ) → x < n → f x ≡ g x) → joined n f ≡ joined n g
   unfolding joined
   joined-same zero f g h = refl
@@ -76,3 +77,16 @@ module _ {A : Type 0} where
   fill-done l l₀ i a e h k f =
       let same : i ≡ length l₀ = omega arith in
       sym (take-all i l (omega arith)) ∙ f ∙ ap (λ (n : ℕ). replicate n a) same
+
+-- ---- inside a list, no element is a default
+
+module _ {A : Type 0} where
+  pub getD-inside : (l : List A) (i : ℕ) (d e : A) → i < length l → getD l i d ≡ getD l i e
+  getD-inside [] i d e h = absurd (not-suc-le-zero h)
+  getD-inside (a ∷ l) zero d e h = refl
+  getD-inside (a ∷ l) (suc i) d e h = getD-inside l i d e (le-of-suc-le-suc h)
+
+  pub getD-replicate-all : (n i : ℕ) (a : A) → getD (replicate n a) i a ≡ a
+  getD-replicate-all zero i a = refl
+  getD-replicate-all (suc n) zero a = refl
+  getD-replicate-all (suc n) (suc i) a = getD-replicate-all n i a

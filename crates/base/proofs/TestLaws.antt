@@ -1,8 +1,11 @@
 -- Laws of the tests: what a joined test says of its parts.
 -- Assumes nothing.
+use Prim.Native.Nat.{ℕ}
 use mathlib.Core.Path.{_≡_, refl, sym}
 use mathlib.Core.Logic.{_⊎_, inl, inr}
 use mathlib.Core.Bool.{Bool, true, false, cond, false≢true}
+use lib.Dec.{eqb}
+use borrow.Author.Tests.{eqb-true, eqb-false, eq-eqb, ne-eqb}
 use Rattle.base.specs.Test.{_and_, _or_, _⇒_}
 
 pub and-left : (a b : Bool) → (a and b) ≡ true → a ≡ true
@@ -18,6 +21,11 @@ and-right false b e = absurd (false≢true e)
 pub and-of : {a b : Bool} → a ≡ true → b ≡ true → (a and b) ≡ true
 unfolding _and_
 and-of {a} {b} p q = rw (p, q)
+
+pub and-true : (a : Bool) → (a and true) ≡ a
+unfolding _and_
+and-true true = refl
+and-true false = refl
 
 pub or-cases : (a b : Bool) → (a or b) ≡ true → (a ≡ true) ⊎ (b ≡ true)
 unfolding _or_
@@ -61,3 +69,16 @@ and-same false f = refl
 pub cond-same : {A : Type 0} (b : Bool) (x y u v : A) → (b ≡ true → x ≡ u) → (b ≡ false → y ≡ v) → cond b x y ≡ cond b u v
 cond-same true x y u v f g = f refl
 cond-same false x y u v f g = g refl
+
+pub or-false : (a : Bool) → (a or false) ≡ a
+unfolding _or_
+or-false true = refl
+or-false false = refl
+
+-- two equalities of numbers that follow from one another are one test
+pub eqb-same : (a b c d : ℕ) → (a ≡ b → c ≡ d) → (c ≡ d → a ≡ b) → eqb a b ≡ eqb c d
+eqb-same a b c d f g = go (eqb a b) refl
+  where
+    go : (t : Bool) → eqb a b ≡ t → t ≡ eqb c d
+    go true e = sym (eq-eqb c d (f (eqb-true a b e)))
+    go false e = sym (ne-eqb c d (λ q. eqb-false a b e (g q)))

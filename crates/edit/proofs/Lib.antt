@@ -1,2 +1,12 @@
 pub mod StoreLaws
 pub mod WalkLaws
+pub mod LinkLaws
+pub mod WriteLaws
+pub mod EditedLaws
+pub mod ColumnLaws
+pub mod GrantLaws
+pub mod GiveLaws
+pub mod TestLoops
+pub mod PlacedLaws
+pub mod GrownLaws
+pub mod MatchedLaws

@@ -1,16 +1,17 @@
 -- What stands in the store after one word of it was set, after a slot took a place, and after all marks were cleared.
 -- Assumes nothing.
 use Prim.Native.Nat.{ℕ, _+_, _*_, _-_, _≤_, _<_}
-use mathlib.Core.Path.{_≡_, sym, ap, _∙_}
+use mathlib.Core.Path.{_≡_, refl, sym, ap, _∙_}
 use mathlib.Core.Logic.{_≢_, by-cases}
 use mathlib.Core.Bool.{true, false}
 use mathlib.Core.List.{List}
 use native.Mathlib.Decide.{ℕ-discrete, decLt}
 use native.Mathlib.Omega.{arith}
-use lib.Dec.{ltb}
+use lib.Dec.{leb, ltb}
 use lib.ListN.{length, getD, set, drop, replicate, length-set, length-append, length-replicate, length-drop, getD-replicate, List·getD-append}
 use lib.Seq.{getD-set-same, getD-set-other}
 use borrow.Author.Tests.{lt-ltb, le-ltb, le-leb, ltb-true, leb-true}
+use Rattle.base.specs.Test.{_and_}
 use Rattle.base.specs.Below.{count}
 use Rattle.base.proofs.TestLaws.{and-left, and-right, and-of, same-test}
 use Rattle.base.proofs.BelowLaws.{count-same, count-one-more, count-room, count-zero}
@@ -46,6 +47,21 @@ module _ (s : List ℕ) (size x : ℕ) where
   pub among-of : 1 ≤ mark s x → mark s x ≤ size → among s size x ≡ true
   unfolding among
   among-of h k = and-of (lt-ltb 0 (mark s x) h) (le-leb (mark s x) size k)
+
+-- ---- whether a slot stands at one of the first `size` places, test by test
+
+module _ (s : List ℕ) (size x e : ℕ) (q : e ≡ getD s x 0) where
+  pub among-no : e ≡ 0 → false ≡ among s size x
+  unfolding among mark _and_
+  among-no z = rw (← q, le-ltb 0 e (omega arith)) refl
+
+  pub among-up : (e ≡ 0 → ⊥) → leb e size ≡ among s size x
+  unfolding among mark _and_
+  among-up n = rw (← q, lt-ltb 0 e (omega arith)) refl
+
+pub among-same : (s s′ : List ℕ) (size x : ℕ) → mark s x ≡ mark s′ x → among s size x ≡ among s′ size x
+unfolding among
+among-same s s′ size x e = ap (λ (k : ℕ). ltb 0 k and leb k size) e
 
 pub mark-le : (N : ℕ) (s : List ℕ) (end : ℕ) → Taken N s end → (x : ℕ) → x < N → mark s x ≤ end
 mark-le N s end t x l = by-cases (decLt 0 (mark s x)) (λ h. t .found x l h .0) (λ h. omega arith)

@@ -1,3 +1,6 @@
 // Applying a scheme at a dart.
+mod assign;
+mod links;
 mod orbit;
+mod slots;
 mod store;

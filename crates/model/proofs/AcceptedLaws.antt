@@ -50,6 +50,7 @@ module _ (S : Scheme) (f : Formed S) where
   pub kind-cases : (s : ℕ) → s < S .nodes → (deleted S s ≡ true) ⊎ ((preserved S s ≡ true) ⊎ (added S s ≡ true))
   kind-cases s h = let k = f .kinds s h in one-of-three (kind S s) (k .0) (k .1)
 
+  -- a node is on the left, or is added
   pub left-or-added : (s : ℕ) → s < S .nodes → (has S left s ≡ true) ⊎ (added S s ≡ true)
   left-or-added s h = ⊎-elim (λ e. inl (or-left _ e)) (⊎-elim (λ e. inl (or-right _ e)) (λ e. inr e)) (kind-cases s h)
 

@@ -20,7 +20,7 @@ use Rattle.model.specs.Accepted.{Accepted}
 use Rattle.model.specs.declared.Scheme.{Scheme}
 use Rattle.base.proofs.TestLaws.{and-left, and-right, or-cases, or-left, or-right, if-so, true-or-false}
 use Rattle.base.proofs.FirstLaws.{some-not-none}
-use Rattle.model.proofs.ArcLaws.{explicit-end, implicit-from, absent-of, absent-from}
+use Rattle.model.proofs.ArcLaws.{explicit-end, implicit-from, absent-of, absent-from, no-arc}
 use Rattle.model.proofs.CycleLaws.{cycle-at, cycle-of, same-arc, not-absent, not-absent′, pass-i, pass-j, none-i, none-j}
 use Rattle.model.proofs.AcceptedLaws.{kind-cases, left-or-added}
 use Rattle.model.proofs.MatchLaws.{GoodOrbit, arc-of}
@@ -35,7 +35,7 @@ module _ (S : Scheme) (s : ℕ) where
   kind-not : (a b : ℕ) → (a ≡ b → ⊥) → eqb (kind S s) a ≡ true → eqb (kind S s) b ≡ false
   kind-not a b ne e = ne-eqb (kind S s) b (λ q. ne (sym (eqb-true _ _ e) ∙ q))
 
-  right-stays : has S right s ≡ true → deleted S s ≡ false
+  pub right-stays : has S right s ≡ true → deleted S s ≡ false
   right-stays e = ⊎-elim (kind-not 2 1 (λ q. omega arith)) (kind-not 3 1 (λ q. omega arith)) (or-cases _ _ e)
 
   both-preserved : has S left s ≡ true → has S right s ≡ true → preserved S s ≡ true
@@ -44,13 +44,16 @@ module _ (S : Scheme) (s : ℕ) where
       (λ e. e)
       (or-cases _ _ l)
 
-  preserved-left : preserved S s ≡ true → has S left s ≡ true
+  pub preserved-left : preserved S s ≡ true → has S left s ≡ true
   preserved-left e = or-right _ e
 
-  preserved-right : preserved S s ≡ true → has S right s ≡ true
+  pub preserved-right : preserved S s ≡ true → has S right s ≡ true
   preserved-right e = or-left _ e
 
-  preserved-not-added : preserved S s ≡ true → added S s ≡ false
+  pub added-right : added S s ≡ true → has S right s ≡ true
+  added-right e = or-right _ e
+
+  pub preserved-not-added : preserved S s ≡ true → added S s ≡ false
   preserved-not-added e = kind-not 2 3 (λ q. omega arith) e
 
 module _ (m : Map) (S : Scheme) (O : ℕ → Bool) (w : WellFormed (S .n) m) (g : Accepted S) (o : GoodOrbit m S O)
@@ -244,18 +247,10 @@ module _ (m : Map) (S : Scheme) (O : ℕ → Bool) (w : WellFormed (S .n) m) (g 
 
   -- ---- with n = 2, α3 is a loop
 
-  no-third : (s : ℕ) → s < S .nodes → S .n ≡ 2 → (c : Arc) → arcAt S right s 3 ≡ c → arcAt S right s 3 ≡ absent
-  no-third s h n absent a = a
-  no-third s h n (explicit t) a = let x = explicit-end S right (g .sides right) s 3 t a .2 in absurd (omega arith)
-  no-third s h n (implicit p) a =
-      let x = implicit-from S right s 3 p a in
-      let third = x .1 in
-      ⊎-elim (λ z. absurd (omega arith)) (λ z. absurd (omega arith)) (g .sides right .formed .words s p h (x .0))
-
   flat-of : (x : ℕ) → S .n ≡ 2 → Live x → new .link 3 x ≡ x
   flat-of x n (liveOther p h l) = E.link-other m S O (o .slot) kinds A room 3 x p ∙ w .flat n x h l
   flat-of x n (livePair u s e h r q) =
-      let a = no-third s h n (arcAt S right s 3) refl in
+      let a = no-arc S right (g .sides right) s 3 h (omega arith) (omega arith) in
       let k = right-stays S s r in
       ap (new .link 3) q ∙ ⊎-elim
       (λ z. E.link-kept m S O (o .slot) kinds A room u s e h k 3 (preserved-not-added S s z) a

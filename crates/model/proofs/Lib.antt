@@ -12,6 +12,7 @@ pub mod SchemeLaws
 pub mod AcceptedLaws
 pub mod MatchIff
 pub mod MapLaws
+pub mod RankLaws
 pub mod EditLaws
 pub mod KeepLaws
 pub mod CallLaws
@@ -23,3 +24,4 @@ pub mod HoldsLaws
 pub mod UnusedLaws
 pub mod AlikeCalls
 pub mod SequenceLaws
+pub mod RewritingLaws

@@ -1,12 +1,14 @@
 -- What stands in a table after one word of it was put.
 -- Assumes nothing.
 use Prim.Native.Nat.{ℕ, _+_, _*_, _<_}
-use mathlib.Core.Path.{_≡_, _∙_}
+use mathlib.Core.Path.{_≡_, refl, sym, ap, _∙_}
 use mathlib.Core.Logic.{_⊎_, ⊎-elim}
 use mathlib.Core.List.{List}
+use native.Mathlib.Nat.{add-zero, add-assoc}
 use native.Mathlib.Omega.{arith}
-use lib.ListN.{length, length-set}
+use lib.ListN.{length, getD, length-set}
 use lib.Seq.{getD-set-same, getD-set-other}
+use Rattle.model.specs.Map.{view}
 use Rattle.table.specs.Words.{Sized, wordAt, put}
 
 module _ (t : List ℕ) (x c v : ℕ) where
@@ -26,3 +28,18 @@ module _ (t : List ℕ) (x c v : ℕ) where
 
   pub put-sized : (N : ℕ) → Sized N t → Sized N (put t x c v)
   put-sized N s = record { few = s .few; long = length-put ∙ s .long }
+
+-- ---- a word as the view has it
+
+module _ (N : ℕ) (t : List ℕ) (x : ℕ) where
+  pub word-state : wordAt t x 0 ≡ view N t .state x
+  unfolding wordAt
+  word-state = ap (λ (k : ℕ). getD t k 0) (add-zero (6 * x))
+
+  pub word-link : (i : ℕ) → wordAt t x (1 + i) ≡ view N t .link i x
+  unfolding wordAt
+  word-link i = ap (λ (k : ℕ). getD t k 0) (sym (add-assoc (6 * x) 1 i))
+
+  pub word-tag : wordAt t x 5 ≡ view N t .tag x
+  unfolding wordAt
+  word-tag = refl

@@ -1,0 +1,24 @@
+-- Hook, over the lists that a scheme holds: node 0, and the left nodes that are not reached from it.
+-- Assumes nothing.
+use Prim.Native.Nat.{ℕ}
+use mathlib.Core.Bool.{Bool, not, false}
+use mathlib.Core.Option.{Option, none, some}
+use mathlib.Core.List.{List}
+use lib.ListN.{getD}
+use lib.Dec.{eqb}
+use Rattle.base.specs.Test.{_and_}
+use Rattle.base.specs.Below.{all}
+use Rattle.conditions.specs.declared.hook.Found.{Found}
+use Rattle.conditions.specs.declared.hook.Found.the-variants.{Node, Nothing}
+
+-- node 0 is not added, and its word is the orbit type
+unfoldable pub hookedBy : ℕ → List ℕ → List ℕ → List ℕ → Bool
+hookedBy places orbit kinds words = not (eqb (getD kinds 0 0) 3) and all places (λ p. eqb (getD words p 0) (getD orbit p 0))
+
+-- s is not added, and not reached
+unfoldable pub leftOut : List ℕ → List Bool → ℕ → Bool
+leftOut kinds reached s = not (eqb (getD kinds s 0) 3) and not (getD reached s false)
+
+abbrev pub foundOf : Option ℕ → Found
+foundOf none = Nothing
+foundOf (some s) = Node s

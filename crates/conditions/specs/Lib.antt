@@ -1,0 +1,5 @@
+pub mod Arcs
+pub mod Tree
+pub mod Hook
+pub mod Incidence
+pub mod Cycles
