@@ -1,7 +1,8 @@
 /* gmap.h - the map kernel: tables of darts, edited by rule schemes.
  *
- * Link libkernel.a, which tools/archive builds. It calls nothing but memset,
- * memcpy and memmove, allocates nothing, and keeps nothing between calls.
+ * Link libkernel.a, which tools/archive builds. It calls nothing but the memory
+ * functions of C (memset, memcpy, memmove, memcmp), allocates nothing, and keeps
+ * nothing between calls.
  *
  * Every call takes any arguments whatever, tests them, and answers with one
  * 64-bit word that the functions at the end of this file take apart. Of several
