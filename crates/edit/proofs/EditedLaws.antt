@@ -28,7 +28,7 @@ use Rattle.model.proofs.EditLaws as E
 use Rattle.table.specs.Words.{wordAt}
 use Rattle.table.proofs.WordLaws.{word-state, word-link, word-tag}
 use Rattle.edit.specs.Store.{mark, place, next, among}
-use Rattle.edit.specs.Phases.{arcCode}
+use Rattle.conditions.specs.Arcs.{arcCode}
 use Rattle.edit.specs.Links.{orbitFor, relinked, cleared, Turns, Legible, Columns, Codes, Ready, editedBy}
 use Rattle.edit.proofs.WriteLaws.{pairDart, Different, relinked-long, relinked-leaves, relinked-node, relinked-position, relinked-none, cleared-long, cleared-leaves, cleared-sets}
 
@@ -140,8 +140,7 @@ module _ {slots : ℕ} {table store : List ℕ} {size : ℕ} {kinds codes : List
   code-is : (v i : ℕ) → v < S .nodes → i < 4 → getD codes (4 * v + i) 0 ≡ arcCode (arcAt S right v i)
   code-is v i h l =
       let few = R .accepted .formed .nodesFew in
-      let long = R .lettered in
-      getD-inside codes (4 * v + i) 0 255 (omega arith) ∙ R .coded .at v i h l
+      R .coded .at v i h l
 
   pub coding : Codes slots store size codes c cols
   coding = record {

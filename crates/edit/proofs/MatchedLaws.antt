@@ -26,7 +26,8 @@ use Rattle.model.proofs.AcceptedLaws.{small}
 use Rattle.model.proofs.ArcLaws.{explicit-at, explicit-end, implicit-at, implicit-from, far-from, far-to, touches-from, touches-to}
 use Rattle.model.proofs.MatchLaws.{assigns-match}
 use Rattle.edit.specs.Store.{mark, place, next, dartAt}
-use Rattle.edit.specs.Phases.{arcCode, Coded, Assigned}
+use Rattle.conditions.specs.Arcs.{arcCode, Coded}
+use Rattle.edit.specs.Phases.{Assigned}
 use Rattle.edit.specs.Columns.{Ready, matchesAt, Turns, Grown, follows, explicitTest, implicitTest, codeTest, arcTest, arcsTest, Firm, Matched}
 use Rattle.edit.proofs.PlacedLaws.{longer-mark, longer-kept}
 use Rattle.edit.proofs.GrownLaws.{good, orbit-at, orbit-rank, node-below, dart-at, dart-slot, column-inside, images, arc-image, turn-image}
@@ -102,7 +103,7 @@ module _ (N : ℕ) (t s : List ℕ) (size : ℕ) (nodes parents dims : List ℕ)
   abbrev single : SingleSide S left
   single = R .accepted .sides left
 
-  code-at : (j i : ℕ) → j < count → i < 4 → getD codes (4 * node j + i) 255 ≡ arcCode (arcAt S left (node j) i)
+  code-at : (j i : ℕ) → j < count → i < 4 → getD codes (4 * node j + i) 0 ≡ arcCode (arcAt S left (node j) i)
   code-at j i h k = C .at (node j) i (R .rooted .onLeft j h .0) k
 
   -- an implicit arc has a dimension and a position of the scheme
@@ -121,13 +122,12 @@ module _ (N : ℕ) (t s : List ℕ) (size : ℕ) (nodes parents dims : List ℕ)
 
   -- ---- an arc can be tested
 
-  pub firm : length codes ≡ 64 → Firm N t s′ size nodes codes cols count
-  firm long = record {
+  pub firm : Firm N t s′ size nodes codes cols count
+  firm = record {
     sized = R .sized;
     long = G .taken .long;
     few = R .walked .fits;
     entries = R .rooted .few;
-    codesLong = long;
     node = λ j h. node-below N t s size nodes parents dims count R j h;
     column = inside;
     slots = λ j h. record { slot = λ r k. dart-slot N t s size nodes parents dims count R s′ cols count G j r h k .0 };
@@ -140,27 +140,27 @@ module _ (N : ℕ) (t s : List ℕ) (size : ℕ) (nodes parents dims : List ℕ)
           let b = column-inside N t s size nodes parents dims count R s′ cols count G j h in
           omega (arith, b .1, G .taken .fits)
 
-      to : (j i : ℕ) → j < count → i < 4 → (a : Arc) → arcAt S left (node j) i ≡ a → getD codes (4 * node j + i) 255 < 16
-          → getD cols (getD codes (4 * node j + i) 255) 0 + size ≤ 2 * N
+      to : (j i : ℕ) → j < count → i < 4 → (a : Arc) → arcAt S left (node j) i ≡ a → getD codes (4 * node j + i) 0 < 16
+          → getD cols (getD codes (4 * node j + i) 0) 0 + size ≤ 2 * N
       to j i h k absent e c = let q = code-at j i h k ∙ ap arcCode e in absurd (omega arith)
       to j i h k (explicit w) e c =
-          let q : getD codes (4 * node j + i) 255 ≡ w = code-at j i h k ∙ ap arcCode e in
+          let q : getD codes (4 * node j + i) 0 ≡ w = code-at j i h k ∙ ap arcCode e in
           let end = explicit-end S left single (node j) i w e in
           let z = R .rooted .every w (end .0) (end .1) in
           subst (λ (v : ℕ). getD cols v 0 + size ≤ 2 * N) (z .2 ∙ sym q) (inside (z .0) (z .1))
       to j i h k (implicit p) e c = let q = code-at j i h k ∙ ap arcCode e in absurd (omega arith)
 
-      turns : (j i : ℕ) → j < count → i < 4 → (a : Arc) → arcAt S left (node j) i ≡ a → 16 ≤ getD codes (4 * node j + i) 255
-          → (getD codes (4 * node j + i) 255 ≡ 255 → ⊥) → (getD codes (4 * node j + i) 255 < 20) × Turns N s′ (getD codes (4 * node j + i) 255 - 16) size
+      turns : (j i : ℕ) → j < count → i < 4 → (a : Arc) → arcAt S left (node j) i ≡ a → 16 ≤ getD codes (4 * node j + i) 0
+          → (getD codes (4 * node j + i) 0 ≡ 255 → ⊥) → (getD codes (4 * node j + i) 0 < 20) × Turns N s′ (getD codes (4 * node j + i) 0 - 16) size
       turns j i h k absent e c ne = absurd (ne (code-at j i h k ∙ ap arcCode e))
       turns j i h k (explicit w) e c ne =
-          let q : getD codes (4 * node j + i) 255 ≡ w = code-at j i h k ∙ ap arcCode e in
+          let q : getD codes (4 * node j + i) 0 ≡ w = code-at j i h k ∙ ap arcCode e in
           let end = explicit-end S left single (node j) i w e in
           absurd (omega (arith, end .0, R .accepted .formed .nodesFew))
       turns j i h k (implicit p) e c ne =
-          let q : getD codes (4 * node j + i) 255 ≡ 16 + p = code-at j i h k ∙ ap arcCode e in
+          let q : getD codes (4 * node j + i) 0 ≡ 16 + p = code-at j i h k ∙ ap arcCode e in
           let f = implicit-in (node j) i p (R .rooted .onLeft j h .0) k e in
-          let same : getD codes (4 * node j + i) 255 - 16 ≡ p = omega arith in
+          let same : getD codes (4 * node j + i) 0 - 16 ≡ p = omega arith in
           (omega (arith, f .1), record { place = λ r b. rw same (turn r p b (f .0) .0) })
 
   -- ---- where there is a match, the arcs pass their tests

@@ -121,12 +121,10 @@ module _ (m : Map) (s : List ℕ) (size : ℕ) (dims cols : List ℕ) (j i from 
 
 -- v, code and from are what the test of an arc reads
 pub arc-read : (m : Map) (s : List ℕ) (size : ℕ) (nodes dims codes cols : List ℕ) (j i v code from : ℕ) (r : Bool)
-    → v ≡ getD nodes j 0 → code ≡ getD codes (4 * v + i) 0 → from ≡ getD cols v 0 → 4 * v + i < length codes
+    → v ≡ getD nodes j 0 → code ≡ getD codes (4 * v + i) 0 → from ≡ getD cols v 0
     → r ≡ codeTest m s size dims cols j i from code → r ≡ arcTest m s size nodes dims codes cols j i
 unfolding arcTest
-arc-read m s size nodes dims codes cols j i v code from r a b c h e =
-    let d : code ≡ getD codes (4 * v + i) 255 = b ∙ getD-inside codes (4 * v + i) 0 255 h in
-    rw (← a, ← c, ← d) e
+arc-read m s size nodes dims codes cols j i v code from r a b c e = rw (← a, ← c, ← b) e
 
 -- ---- every arc
 
@@ -156,8 +154,8 @@ module _ (N : ℕ) (t s : List ℕ) (size : ℕ) (nodes codes cols : List ℕ) (
   firm-node = rw a (f .node j h)
 
   module _ (code : ℕ) (b : code ≡ getD codes (4 * v + i) 0) where
-    code-is : code ≡ getD codes (4 * getD nodes j 0 + i) 255
-    code-is = b ∙ getD-inside codes (4 * v + i) 0 255 (let n = firm-node in omega (arith, f .codesLong)) ∙ ap (λ (z : ℕ). getD codes (4 * z + i) 255) a
+    code-is : code ≡ getD codes (4 * getD nodes j 0 + i) 0
+    code-is = b ∙ ap (λ (z : ℕ). getD codes (4 * z + i) 0) a
 
     testable : (to : ℕ) → to + size ≤ 2 * N → Testable N t s size i (getD cols v 0) to
     testable to o = record {

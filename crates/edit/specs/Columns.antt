@@ -17,7 +17,8 @@ use Rattle.model.specs.Match.{matches}
 use Rattle.model.specs.declared.Scheme.{Scheme}
 use Rattle.table.specs.Words.{Sized}
 use Rattle.edit.specs.Store.{mark, place, next, dartAt, Taken, Walked, Kept}
-use Rattle.edit.specs.Phases.{Coded, Rooted, Assigned}
+use Rattle.conditions.specs.Arcs.{Coded}
+use Rattle.edit.specs.Phases.{Rooted, Assigned}
 
 -- an accepted scheme with its tree, a table that is well-formed for it, and in the store the orbit of a live dart
 pub record Ready (N : ℕ) (t s : List ℕ) (size : ℕ) (nodes parents dims : List ℕ) (count : ℕ) : Type 0 where
@@ -36,7 +37,6 @@ pub record Ready (N : ℕ) (t s : List ℕ) (size : ℕ) (nodes parents dims : L
 pub record Posed (N : ℕ) (t s : List ℕ) (size : ℕ) (nodes parents dims : List ℕ) (count : ℕ) (codes cols : List ℕ) : Type 0 where
   pub ready : Ready N t s size nodes parents dims count
   pub coded : Coded (ready .scheme) left codes
-  pub codesLong : length codes ≡ 64
   pub colsLong : length cols ≡ 16
 
 -- whether there is a match at the orbit of d
@@ -116,7 +116,7 @@ module _ (m : Map) (s : List ℕ) (size : ℕ) (dims cols : List ℕ) (j i from 
 module _ (m : Map) (s : List ℕ) (size : ℕ) (nodes dims codes cols : List ℕ) where
   -- the arc of entry j at dimension i, if it has one
   unfoldable pub arcTest : ℕ → ℕ → Bool
-  arcTest j i = codeTest m s size dims cols j i (getD cols (getD nodes j 0) 0) (getD codes (4 * getD nodes j 0 + i) 255)
+  arcTest j i = codeTest m s size dims cols j i (getD cols (getD nodes j 0) 0) (getD codes (4 * getD nodes j 0 + i) 0)
 
   -- every arc below a bound, where k stands for entry k / 4 at dimension k % 4
   unfoldable pub arcsTest : ℕ → Bool
@@ -128,15 +128,14 @@ pub record Firm (N : ℕ) (t s : List ℕ) (size : ℕ) (nodes codes cols : List
   pub long : length s ≡ 16 * N
   pub few : size ≤ N
   pub entries : count ≤ 16
-  pub codesLong : length codes ≡ 64
   pub node : (j : ℕ) → j < count → getD nodes j 0 < 16
   pub column : (j : ℕ) → j < count → getD cols (getD nodes j 0) 0 + size ≤ 2 * N
   pub slots : (j : ℕ) → j < count → Slots N s (getD cols (getD nodes j 0) 0) size
-  pub target : (j i : ℕ) → j < count → i < 4 → getD codes (4 * getD nodes j 0 + i) 255 < 16
-      → getD cols (getD codes (4 * getD nodes j 0 + i) 255) 0 + size ≤ 2 * N
-  pub turn : (j i : ℕ) → j < count → i < 4 → 16 ≤ getD codes (4 * getD nodes j 0 + i) 255
-      → (getD codes (4 * getD nodes j 0 + i) 255 ≡ 255 → ⊥) → (getD codes (4 * getD nodes j 0 + i) 255 < 20)
-      × Turns N s (getD codes (4 * getD nodes j 0 + i) 255 - 16) size
+  pub target : (j i : ℕ) → j < count → i < 4 → getD codes (4 * getD nodes j 0 + i) 0 < 16
+      → getD cols (getD codes (4 * getD nodes j 0 + i) 0) 0 + size ≤ 2 * N
+  pub turn : (j i : ℕ) → j < count → i < 4 → 16 ≤ getD codes (4 * getD nodes j 0 + i) 0
+      → (getD codes (4 * getD nodes j 0 + i) 0 ≡ 255 → ⊥) → (getD codes (4 * getD nodes j 0 + i) 0 < 20)
+      × Turns N s (getD codes (4 * getD nodes j 0 + i) 0 - 16) size
 
 -- the answer on the match at the orbit of d, and what the store and the columns hold where there is one
 pub record Matched (S : Scheme) (d N : ℕ) (t s s′ cols : List ℕ) (size : ℕ) (answer : Bool) : Type 0 where

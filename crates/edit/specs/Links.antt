@@ -17,7 +17,8 @@ use Rattle.model.specs.Edit.{addedDarts, edited}
 use Rattle.model.specs.declared.Scheme.{Scheme}
 use Rattle.table.specs.Words.{Sized, put}
 use Rattle.edit.specs.Store.{next, dartAt, Walked}
-use Rattle.edit.specs.Phases.{Coded, Darts, Given}
+use Rattle.conditions.specs.Arcs.{Coded}
+use Rattle.edit.specs.Phases.{Darts, Given}
 
 -- ---- what is written
 
@@ -103,7 +104,6 @@ pub record Ready (slots : ℕ) (table store : List ℕ) (size : ℕ) (kinds code
   pub nodes : c ≡ scheme .nodes
   pub kinded : kinds ≡ scheme .kinds
   pub coded : Coded scheme right codes
-  pub lettered : length codes ≡ 64
 
 -- the map after the edit
 abbrev pub editedBy : {slots : ℕ} {table store : List ℕ} {size : ℕ} {kinds codes : List ℕ} {c : ℕ} {cols : List ℕ}

@@ -22,7 +22,7 @@ arcs-requires c κs =
     let e = c .before .before in
     let k = e .before .before .before in
     let p = k .before .before .before .before .before .pre in
-    firm _ _ _ _ _ _ _ _ (p .ready) _ _ (k .columns .ensures .done (not-false _ (e .if1 .left))) _ (p .coded) (p .codesLong)
+    firm _ _ _ _ _ _ _ _ (p .ready) _ _ (k .columns .ensures .done (not-false _ (e .if1 .left))) _ (p .coded)
 
 same-length-2 : tie.Need-same-length-2
 same-length-2 c = search needs
