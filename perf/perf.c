@@ -125,7 +125,7 @@ static void shuffle(void)              /* slots in no order */
 }
 
 /* ----------------------------------------------------------------- schemes */
-static void text(const char *t)        /* as in fuzz.c's catalogue */
+static void text(const char *t)        /* as in the catalogue of tests/differential/fuzz.c */
 {
     u8 *b = scheme; u32 k = 0; u8 *count;
     *b++ = (u8)(*t++ - '0'); t++;

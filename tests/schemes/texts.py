@@ -23,6 +23,7 @@ FAULTS = [
     ("comments only", "# nothing\n\n", "3:1", "the text ends here, expected a line 'n ..' first"),
     ("a word that starts no line", "n 2\norbits 0\n", "2:1", "found 'orbits', expected a line that starts with n, orbit"),
     ("n is 4", "n 4\n", "1:3", "found '4', expected the dimension of the map, 2 or 3"),
+    ("a digit of another script", "n \u00b2\n", "1:3", "found '\u00b2', expected the dimension of the map, 2 or 3"),
     ("n is missing", "orbit 0\n", "1:1", "found 'orbit', expected a line 'n ..' first"),
     ("n alone", "n\n", "1:2", "found the end of the line, expected the dimension of the map"),
     ("n twice", "n 2\nn 2\n", "2:1", "found a second 'n' line"),
@@ -126,7 +127,7 @@ class Texts(unittest.TestCase):
         self.bytes = os.path.join(folder.name, "a.bytes")
 
     def write(self, text):
-        with open(self.path, "w", encoding="utf-8") as file:
+        with open(self.path, "w", encoding="utf-8", newline="") as file:
             file.write(text)
 
     def test_faults(self):
@@ -174,6 +175,11 @@ class Texts(unittest.TestCase):
         self.write(HEAD)
         done = run("check", self.path, "schemes/split-edge.scheme")
         self.assertEqual((done.returncode, done.stderr), (1, f"{self.path}:5:1: the text ends here, expected a line 'bytes ..' to hold it to\n"))
+
+    def test_texts_from_other_editors(self):
+        for text in ("\ufeff" + HEAD, HEAD.replace("\n", "\r\n"), HEAD.replace(" ", "\t"), HEAD.rstrip("\n"), HEAD + "# \u2028 n 3\n"):
+            self.write(text)
+            self.assertEqual(run("assemble", self.path).stdout, "2 2 0 2 2 2 0 2 255 2 3 255 255 1 2 0 0\n")
 
     def test_command(self):
         done = subprocess.run([TOOL, "assemble", "schemes/split-edge.scheme"], capture_output=True, text=True)
