@@ -1,13 +1,25 @@
 /* gmap.h - the map kernel: tables of darts, edited by rule schemes.
  *
- * Every call takes any arguments whatever and answers with one 64-bit word.
- * A buffer is a pointer and its number of elements; it must be readable (and,
- * where it is not const, writable) over that length, aligned for its type, and
- * overlap no other buffer of the same call. A call keeps nothing between calls,
- * so calls on different buffers may run on different threads.
+ * Link libkernel.a, which tools/archive builds. It calls nothing but the memory
+ * functions of C (memset, memcpy, memmove, memcmp), allocates nothing, and keeps
+ * nothing between calls.
  *
- * The table has 6 words for each of its `slots` slots: state (1 live,
- * 0 unused), the links a0, a1, a2, a3, and the tag. */
+ * Every call takes any arguments whatever, tests them, and answers with one
+ * 64-bit word that the functions at the end of this file take apart. Of several
+ * refusals that apply, the one listed first at the call is given.
+ *
+ * Buffers. A buffer is a pointer and its number of elements (words or bytes as
+ * the pointer's type says). It must be readable over that length and, where it
+ * is not const, writable; aligned for its type; never null, also where its
+ * length is 0; and it must not overlap another buffer of the same call. A call
+ * touches nothing beyond its buffers.
+ *
+ * Threads. Calls on different buffers may run at the same time. Calls that only
+ * read a buffer (const) may share it; a call that writes a buffer needs it alone.
+ *
+ * Stack. A call needs at most GMAP_STACK bytes of stack below its caller's
+ * frame: tests/c/stack.c runs every call on a painted stack, prints how deep
+ * each went, and fails where one goes deeper than that. */
 #ifndef GMAP_H
 #define GMAP_H
 #include <stddef.h>
@@ -17,10 +29,82 @@
 extern "C" {
 #endif
 
-/* ---- the calls */
+/* ---- limits and sizes */
 
-/* Is the table well-formed for dimension n? Answers 0, 1 or 7. */
+enum {
+    GMAP_MAX_SLOTS = 1024,   /* slots of a table: 1 to this */
+    GMAP_RECORD = 6,         /* words of a table for each slot */
+    GMAP_STORE = 16,         /* words of a working store for each slot */
+    GMAP_MAX_SCHEME = 537,   /* bytes of the longest scheme in the form */
+    GMAP_MAX_FILE = 14345,   /* bytes of the longest map file */
+    GMAP_STACK = 4096        /* bytes of stack that a call needs at most */
+};
+
+/* The words of a slot's record. A state is 1 (live) or 0 (unused); the other
+ * words of an unused record may hold anything and are never consulted. */
+enum {
+    GMAP_STATE = 0,
+    GMAP_LINK = 1,           /* the links a0, a1, a2, a3 are words 1, 2, 3, 4 */
+    GMAP_TAG = 5             /* the lot of the sheet; no constraint */
+};
+
+/* ---- the numbers of the answers */
+
+enum {
+    GMAP_DONE = 0,
+    GMAP_BAD_CALL = 1,         /* n, slots or the length of table or store */
+    GMAP_BAD_FORM = 2,         /* scheme: bytes not in the form */
+    GMAP_BAD_HOOK = 3,         /* scheme: gmap_node is 0, or the least node not reached from 0 */
+    GMAP_BAD_INCIDENCE = 4,    /* scheme: arcs at gmap_node */
+    GMAP_BAD_CYCLE = 5,        /* scheme: cycle of gmap_i and gmap_j at gmap_node */
+    GMAP_OTHER_DIMENSION = 6,  /* scheme: made for another n than the table's */
+    GMAP_BAD_TABLE = 7,        /* table not well-formed */
+    GMAP_NO_DART = 8,          /* dart not below slots, or not live */
+    GMAP_NO_MATCH = 9,         /* the scheme's left side is not there at the dart */
+    GMAP_NO_ROOM = 10,         /* too few unused slots before the edit */
+    GMAP_BAD_FILE = 11,        /* file not in its form, or not of this n and slots */
+    GMAP_SHORT_OUTPUT = 12     /* output shorter than the file */
+};
+
+/* ---- the calls
+ *
+ * n is 2 (sheets) or 3 (sheets that enclose volumes); slots is 1 to 1024;
+ * table_len is 6 * slots; store_len is 16 * slots. Anything else is answer 1,
+ * and a call that answers 1 writes nothing at all. */
+
+/* Is the table well-formed for n?
+ * Answers 0, 1, 7. Writes nothing. */
 uint64_t gmap_check_table(uint32_t n, uint32_t slots, const uint32_t *table, size_t table_len);
+
+/* Is the scheme in the form and accepted?
+ * Answers 0, 2, 3, 4, 5. Writes nothing. */
+uint64_t gmap_check_scheme(const uint8_t *scheme, size_t scheme_len);
+
+/* Applies the scheme to the table at a dart.
+ * Answers 0, 1, 2, 3, 4, 5, 6, 7, 8, 9, 10; done carries gmap_orbit, gmap_added
+ * and gmap_deleted.
+ * table: the edited map after 0, which is well-formed again; unchanged after any
+ * refusal. New darts take the lowest unused slots; records of deleted darts
+ * become six zeros.
+ * store: of any content on entry; all zero afterwards, save after 1. */
+uint64_t gmap_edit(uint32_t n, uint32_t slots, uint32_t *table, size_t table_len,
+                   uint32_t *store, size_t store_len,
+                   const uint8_t *scheme, size_t scheme_len, uint32_t dart);
+
+/* Reads a map file into the table.
+ * Answers 0, 1, 11, 7.
+ * table: the file's map after 0, with unused records all zero; all zero after
+ * 11 and 7; unchanged after 1. The old content is never consulted. */
+uint64_t gmap_read(uint32_t n, uint32_t slots, uint32_t *table, size_t table_len,
+                   const uint8_t *file, size_t file_len);
+
+/* Writes the table's map as a file.
+ * Answers 0, 1, 7, 12; done carries gmap_length.
+ * out: the file in its first gmap_length bytes after 0, the rest unchanged; all
+ * unchanged after a refusal. gmap_file_length bytes are enough, and so is
+ * GMAP_MAX_FILE for every map. */
+uint64_t gmap_write(uint32_t n, uint32_t slots, const uint32_t *table, size_t table_len,
+                    uint8_t *out, size_t out_len);
 
 /* ---- the answer word */
 
@@ -44,6 +128,9 @@ static inline uint32_t gmap_deleted(uint64_t answer) { return (uint32_t)(answer 
 
 /* What a write that is done returns: the number of bytes written. */
 static inline uint64_t gmap_length(uint64_t answer) { return answer; }
+
+/* The length of the file of a map with this many live darts, n being 2 or 3. */
+static inline size_t gmap_file_length(uint32_t n, uint32_t live) { return 9 + (size_t)live * (6 + 2 * ((size_t)n + 1)); }
 
 #ifdef __cplusplus
 }

@@ -1,7 +1,8 @@
-/* perf.c - base_* and gmap_* side by side in one process.
+/* perf.c - base_* and gmap_* side by side in one process; perf/run builds and runs it.
  *   perf [REPS]     median times (ns), interleaved base/gmap, and their ratio
- *   perf instr      one call of each under callgrind, for instr.sh
- * State is restored outside the timed part; both use the same buffers. */
+ *   perf instr      one call of each under callgrind, for perf/run --instructions
+ * State is restored outside the timed part; both use the same buffers.  The two
+ * answers of a row must be equal and as wanted, or the run ends there. */
 #define _GNU_SOURCE
 #include "baseline.h"
 #include "gmap.h"
@@ -50,27 +51,28 @@ static void counter_open(void)
 /* ------------------------------------------------------------------- state */
 static u32 table[6 * N + 64], table0[6 * N], store[16 * N + 64];
 static u8 scheme[700], file[16384], out[16384];
-static u32 scheme_len, file_len, out_len, dim, dart, store_len;
-typedef enum { CT, CS, ED, RD, WR } call;
+static u32 scheme_len, file_len, out_len, dim, dart, store_len, slots = N;
+typedef enum { CT, CS, ED, RD, WR, CALLS } call;
+static const char *const call_names[CALLS] = { "check_table", "check_scheme", "edit", "read", "write" };
 
 static PIN u64 base_call(call c)
 {
     switch (c) {
-    case CT: return base_check_table(dim, N, table, 6 * N);
+    case CT: return base_check_table(dim, slots, table, 6 * slots);
     case CS: return base_check_scheme(scheme, scheme_len);
-    case ED: return base_edit(dim, N, table, 6 * N, store, store_len, scheme, scheme_len, dart);
-    case RD: return base_read(dim, N, table, 6 * N, file, file_len);
-    default: return base_write(dim, N, table, 6 * N, out, out_len);
+    case ED: return base_edit(dim, slots, table, 6 * slots, store, store_len, scheme, scheme_len, dart);
+    case RD: return base_read(dim, slots, table, 6 * slots, file, file_len);
+    default: return base_write(dim, slots, table, 6 * slots, out, out_len);
     }
 }
 static PIN u64 gmap_call(call c)
 {
     switch (c) {
-    case CT: return gmap_check_table(dim, N, table, 6 * N);
+    case CT: return gmap_check_table(dim, slots, table, 6 * slots);
     case CS: return gmap_check_scheme(scheme, scheme_len);
-    case ED: return gmap_edit(dim, N, table, 6 * N, store, store_len, scheme, scheme_len, dart);
-    case RD: return gmap_read(dim, N, table, 6 * N, file, file_len);
-    default: return gmap_write(dim, N, table, 6 * N, out, out_len);
+    case ED: return gmap_edit(dim, slots, table, 6 * slots, store, store_len, scheme, scheme_len, dart);
+    case RD: return gmap_read(dim, slots, table, 6 * slots, file, file_len);
+    default: return gmap_write(dim, slots, table, 6 * slots, out, out_len);
     }
 }
 static void restore(call c)
@@ -123,7 +125,7 @@ static void shuffle(void)              /* slots in no order */
 }
 
 /* ----------------------------------------------------------------- schemes */
-static void text(const char *t)        /* as in fuzz.c's catalogue */
+static void text(const char *t)        /* as in the catalogue of tests/differential/fuzz.c */
 {
     u8 *b = scheme; u32 k = 0; u8 *count;
     *b++ = (u8)(*t++ - '0'); t++;
@@ -194,7 +196,8 @@ static void longest_form(void)
 /* ------------------------------------------------------------------ timing */
 static u32 reps = 2001;
 static int instr_mode;
-static double worst; static const char *worst_name; static double product = 1; static u32 rows;
+static struct { double worst, product; const char *name; u32 rows; } summary[CALLS + 1];   /* the last is of all calls */
+static double base_ns, gmap_ns;        /* of the last row */
 
 static double timed(u64 (*f)(call), call c, u32 batch)
 {
@@ -215,14 +218,20 @@ static u64 instructions(u64 (*f)(call), call c)
 #endif
     return v;
 }
+static void note(u32 e, double ratio, const char *name)
+{
+    if (summary[e].rows++ == 0) summary[e].product = 1;
+    summary[e].product *= ratio;
+    if (ratio > summary[e].worst) { summary[e].worst = ratio; summary[e].name = name; }
+}
 static void measure(const char *name, call c, int batched, u64 want)
 {
     static double va[20001], vb[20001];
     restore(c); u64 a = base_call(c);
     restore(c); u64 b = gmap_call(c);
     u64 num = a >> 63 ? a & 255 : 0;
-    if (num != want) { printf("%-46s unexpected answer %016llx\n", name, (unsigned long long)a); exit(2); }
-    if (a != b) { printf("%-46s ANSWERS DIFFER %016llx %016llx\n", name, (unsigned long long)a, (unsigned long long)b); exit(1); }
+    if (num != want) { printf("%-50s unexpected answer %016llx\n", name, (unsigned long long)a); exit(2); }
+    if (a != b) { printf("%-50s ANSWERS DIFFER %016llx %016llx\n", name, (unsigned long long)a, (unsigned long long)b); exit(1); }
 #if defined(HAVE_CALLGRIND)
     if (instr_mode) {                  /* run with --collect-atstart=no */
         char la[100], lb[100];
@@ -247,11 +256,29 @@ static void measure(const char *name, call c, int batched, u64 want)
         }
     }
     double ma = median(va, reps), mb = median(vb, reps), ratio = mb / ma;
-    printf("%-46s %10.1f %10.1f %8.3f", name, ma, mb, ratio);
+    printf("%-50s %10.1f %10.1f %8.3f", name, ma, mb, ratio);
     if (pfd >= 0) printf(" %9llu %9llu", (unsigned long long)instructions(base_call, c), (unsigned long long)instructions(gmap_call, c));
     printf("\n");
-    if (ratio > worst) { worst = ratio; worst_name = name; }
-    product *= ratio; rows++;
+    base_ns = ma; gmap_ns = mb;
+    note(c, ratio, name);
+    note(CALLS, ratio, name);
+}
+/* The number whose rows-th power is the product, without libm. */
+static double geometric_mean(double product, u32 rows)
+{
+    double lo = 0, hi = 1e6;
+    for (u32 e = 0; e < 200; e++) {
+        double mid = (lo + hi) / 2, p = 1;
+        for (u32 q = 0; q < rows && p < 1e250 && p > 1e-250; q++) p *= mid;
+        if (p > product) hi = mid; else lo = mid;
+    }
+    return (lo + hi) / 2;
+}
+static void summarize(void)
+{
+    printf("%-50s %10s %10s\n", "ratio by call", "mean", "worst");
+    for (u32 e = 0; e <= CALLS; e++)
+        printf("%-50s %10.3f %10.3f  (%s)\n", e < CALLS ? call_names[e] : "all", geometric_mean(summary[e].product, summary[e].rows), summary[e].worst, summary[e].name);
 }
 static PIN void floor_memset(void) { memset(store, 0, 64 * N); __asm__ volatile("" : : "r"(store) : "memory"); }
 static PIN void floor_memcpy(void) { memcpy(table, table0, 24 * N); __asm__ volatile("" : : "r"(table) : "memory"); }
@@ -260,9 +287,30 @@ static void floor_of(const char *name, void (*f)(void))
 {
     static double v[2001];
     for (u32 r = 0; r < 2001; r++) { u64 a = now(); for (u32 e = 0; e < 16; e++) f(); u64 b = now(); v[r] = ((double)(b - a) - clock_cost) / 16; }
-    printf("%-46s %10.1f\n", name, median(v, 2001));
+    printf("%-50s %10.1f\n", name, median(v, 2001));
 }
 static void edit(const char *name, u64 want) { measure(name, ED, want != 0, want); }
+
+/* The same edit on tables of 64 to 1,024 slots, live to the given part: how the time grows. */
+static void growth(const char *name, const char *operation, u32 part)
+{
+    static char names[16][64];
+    static u32 used;
+    double base_first = 0, gmap_first = 0;
+    dim = 2; dart = 0;
+    text(operation);
+    for (slots = 64; slots <= N; slots *= 2) {
+        u32 squares = slots / part / 8;
+        char *row = names[used++];
+        snprintf(row, sizeof names[0], "edit n=2 %s of %u slots", name, slots);
+        zero(); torus(squares < 8 ? 1 : squares / 8, squares < 8 ? squares : 8);
+        store_len = 16 * slots;
+        edit(row, 0);
+        if (slots == 64) { base_first = base_ns; gmap_first = gmap_ns; }
+    }
+    slots = N; store_len = 16 * N;
+    if (!instr_mode) printf("%-50s %9.1fx %9.1fx\n", "  1,024 slots against 64 (linear: 16x)", base_ns / base_first, gmap_ns / gmap_first);
+}
 
 int main(int argc, char **argv)
 {
@@ -277,12 +325,12 @@ int main(int argc, char **argv)
     store_len = 16 * N; out_len = 14345;
     if (!instr_mode) {
         printf("N = 1024, %u repetitions, median ns; clock %.0f ns taken off%s\n", reps, clock_cost,
-               pfd >= 0 ? "" : "; no instruction counter here (see instr.sh)");
+               pfd >= 0 ? "" : "; no instruction counter here (perf/run --instructions)");
         zero(); torus(16, 8);
         floor_of("floor: memset of the store (64 KiB)", floor_memset);
         floor_of("floor: memcpy of the table (24 KiB)", floor_memcpy);
         floor_of("floor: memset of the table (24 KiB)", floor_memset_t);
-        printf("%-46s %10s %10s %8s%s\n", "", "base", "gmap", "ratio", pfd >= 0 ? "   i.base    i.gmap" : "");
+        printf("%-50s %10s %10s %8s%s\n", "", "base", "gmap", "ratio", pfd >= 0 ? "   i.base    i.gmap" : "");
     }
     /* tables */
     dim = 2; zero(); torus(16, 8);            measure("check_table n=2 full", CT, 1, 0);
@@ -362,11 +410,8 @@ int main(int argc, char **argv)
         file_len--;                           measure("read refused 11 (a byte short)", RD, 1, 11); file_len++;
         file[14344] = 255;                    measure("read refused 7 (last link)", RD, 1, 7);
     }
-    if (!instr_mode) {
-        printf("worst ratio %.3f (%s)\n", worst, worst_name);
-        double lo = 0, hi = 1e6;              /* geometric mean without libm */
-        for (u32 e = 0; e < 200; e++) { double mid = (lo + hi) / 2, p = 1; for (u32 q = 0; q < rows; q++) { p *= mid; if (p > 1e250 || p < 1e-250) break; } if (p > product) hi = mid; else lo = mid; }
-        printf("geometric mean %.3f over %u rows\n", (lo + hi) / 2, rows);
-    }
+    growth("drop piece, full table", "2;012;D012;;", 1);
+    growth("edge split, half full table", "2;02;P02>_2 A12;;001", 2);
+    if (!instr_mode) summarize();
     return 0;
 }

@@ -1,0 +1,142 @@
+/* controller PART ARCHIVE: a shift at a small cell, as an integrator would write it.
+ *
+ * It reads the part's map file, splits an edge, drops a piece, adds a flange, and writes the archive's map file.
+ * Every answer of the kernel is printed in words; the exit status is 0 only where the archive file was written.
+ *
+ *   tools/archive libkernel.a
+ *   cc -Iinclude examples/controller/controller.c libkernel.a -o controller */
+#include "gmap.h"
+#include "operations.h"
+#include <inttypes.h>
+#include <stdio.h>
+#include <stdlib.h>
+
+/* Every buffer is as large as the largest part needs, so nothing is allocated while the cell runs. */
+static uint32_t table[GMAP_RECORD * GMAP_MAX_SLOTS];
+static uint32_t store[GMAP_STORE * GMAP_MAX_SLOTS];
+static uint8_t file[GMAP_MAX_FILE + 1];
+static uint32_t n, slots;
+
+/* The part's dart that the operator points at for each operation. */
+enum { EDGE = 8, PIECE = 0, FLANGE = 10 };
+
+static const char *words(uint32_t number)
+{
+    switch (number) {
+    case GMAP_DONE: return "done";
+    case GMAP_BAD_CALL: return "the table's dimension or size is not one the kernel takes";
+    case GMAP_BAD_FORM: return "the operation's bytes are damaged";
+    case GMAP_BAD_HOOK: return "the operation does not hang together";
+    case GMAP_BAD_INCIDENCE: return "the operation has too many or too few arcs at a node";
+    case GMAP_BAD_CYCLE: return "the operation would tear the map at a node";
+    case GMAP_OTHER_DIMENSION: return "the operation is for maps of another dimension";
+    case GMAP_BAD_TABLE: return "the map is not well-formed";
+    case GMAP_NO_DART: return "there is no such dart";
+    case GMAP_NO_MATCH: return "the operation does not fit here";
+    case GMAP_NO_ROOM: return "the table has too little room";
+    case GMAP_BAD_FILE: return "the file is damaged, or for another size of table";
+    case GMAP_SHORT_OUTPUT: return "the output is too short for the file";
+    default: return "an answer this program does not know";
+    }
+}
+
+/* Prints an answer, with the node of a refused scheme, and says whether the call was done. */
+static int told(const char *what, uint64_t answer)
+{
+    uint32_t number = gmap_number(answer);
+    if (number == GMAP_DONE) printf("%s: done", what);
+    else printf("%s: refused %" PRIu32 ", %s", what, number, words(number));
+    if (number == GMAP_BAD_HOOK || number == GMAP_BAD_INCIDENCE || number == GMAP_BAD_CYCLE) printf(" (node %" PRIu32 ")", gmap_node(answer));
+    if (number == GMAP_BAD_CYCLE) printf(" (dimensions %" PRIu32 " and %" PRIu32 ")", gmap_i(answer), gmap_j(answer));
+    printf("\n");
+    return number == GMAP_DONE;
+}
+
+/* Applies a stored operation where the operator points. */
+static int apply(const char *what, const uint8_t *scheme, size_t length, uint32_t dart)
+{
+    uint64_t answer = gmap_edit(n, slots, table, GMAP_RECORD * slots, store, GMAP_STORE * slots, scheme, length, dart);
+    if (!told(what, answer)) return 0;
+    printf("  %" PRIu32 " darts matched, %" PRIu32 " added, %" PRIu32 " deleted\n", gmap_orbit(answer), gmap_added(answer), gmap_deleted(answer));
+    return 1;
+}
+
+/* Lists the lots on the part, as the label printer would, each with its number of darts. */
+static void print_lots(void)
+{
+    for (uint32_t x = 0; x < slots; x++) {
+        uint32_t lot = table[GMAP_RECORD * x + GMAP_TAG], darts = 0, first = 1;
+        if (table[GMAP_RECORD * x + GMAP_STATE] != 1) continue;
+        for (uint32_t y = 0; y < slots; y++) {
+            if (table[GMAP_RECORD * y + GMAP_STATE] != 1 || table[GMAP_RECORD * y + GMAP_TAG] != lot) continue;
+            if (y < x) first = 0;
+            darts++;
+        }
+        if (first) printf("  lot %" PRIu32 ": %" PRIu32 " darts\n", lot, darts);
+    }
+}
+
+/* Reads the part; its file says in its first three bytes which table it is for. */
+static int read_part(const char *path)
+{
+    FILE *in = fopen(path, "rb");
+    if (!in) {
+        perror(path);
+        return 0;
+    }
+    size_t length = fread(file, 1, sizeof file, in);
+    fclose(in);
+    if (length < 3) {
+        printf("%s: too short for a map file\n", path);
+        return 0;
+    }
+    n = file[0];
+    slots = file[1] | (uint32_t)file[2] << 8;
+    if (slots > GMAP_MAX_SLOTS) {
+        printf("%s: for a table of %" PRIu32 " slots, and this cell has %d\n", path, slots, GMAP_MAX_SLOTS);
+        return 0;
+    }
+    return told("read the part", gmap_read(n, slots, table, GMAP_RECORD * slots, file, length));
+}
+
+static int write_archive(const char *path)
+{
+    uint64_t answer = gmap_write(n, slots, table, GMAP_RECORD * slots, file, sizeof file);
+    if (!told("write the archive file", answer)) return 0;
+    size_t length = (size_t)gmap_length(answer);
+    printf("  %zu bytes\n", length);
+    FILE *out = fopen(path, "wb");
+    if (!out || fwrite(file, 1, length, out) != length || fclose(out) != 0) {
+        perror(path);
+        return 0;
+    }
+    return 1;
+}
+
+int main(int argc, char **argv)
+{
+    if (argc != 3) {
+        fprintf(stderr, "usage: controller PART ARCHIVE\n");
+        return 2;
+    }
+    if (!read_part(argv[1])) return 1;
+    print_lots();
+
+    /* A read that is done has checked the map; this shows the call for a table that came another way. */
+    if (!told("check the table", gmap_check_table(n, slots, table, GMAP_RECORD * slots))) return 1;
+
+    /* Schemes are tested again by every edit; this finds a damaged one before the operator can pick it. */
+    if (!told("check the stored operation", gmap_check_scheme(add_flange, sizeof add_flange))) return 1;
+
+    if (!apply("split the edge", split_edge, sizeof split_edge, EDGE)) return 1;
+    if (!apply("drop the piece", drop_piece, sizeof drop_piece, PIECE)) return 1;
+    print_lots();
+
+    /* The piece is gone, so pointing at it again is refused, and a refused edit changes no record. */
+    apply("drop it again", drop_piece, sizeof drop_piece, PIECE);
+
+    /* The flange takes slots that the dropped piece left, and the lot of the sheet that it grows on. */
+    if (!apply("add a flange", add_flange, sizeof add_flange, FLANGE)) return 1;
+    print_lots();
+    return write_archive(argv[2]) ? 0 : 1;
+}

@@ -1,0 +1,207 @@
+#!/usr/bin/env python3
+"""The text of a scheme: every fault with the line and column it is promised at, and the way from bytes to text and back."""
+import contextlib
+import functools
+import glob
+import importlib.machinery
+import importlib.util
+import io
+import os
+import random
+import subprocess
+import sys
+import tempfile
+import types
+import unittest
+
+TOOL = "tools/scheme"
+HEAD = "n 2\norbit 0 2\nnode 0 preserved 0 2 -> _ 2\nnode 1 added -> 1 2\n"
+
+# (what is wrong, the text, the line and column, a part of the message)
+FAULTS = [
+    ("an empty text", "", "1:1", "the text ends here, expected a line 'n ..' first"),
+    ("comments only", "# nothing\n\n", "3:1", "the text ends here, expected a line 'n ..' first"),
+    ("a word that starts no line", "n 2\norbits 0\n", "2:1", "found 'orbits', expected a line that starts with n, orbit"),
+    ("n is 4", "n 4\n", "1:3", "found '4', expected the dimension of the map, 2 or 3"),
+    ("a digit of another script", "n \u00b2\n", "1:3", "found '\u00b2', expected the dimension of the map, 2 or 3"),
+    ("n is missing", "orbit 0\n", "1:1", "found 'orbit', expected a line 'n ..' first"),
+    ("n alone", "n\n", "1:2", "found the end of the line, expected the dimension of the map"),
+    ("n twice", "n 2\nn 2\n", "2:1", "found a second 'n' line"),
+    ("two numbers after n", "n 2 3\n", "1:5", "found '3', expected the end of the line"),
+    ("no nodes", "n 2\norbit 0\n", "3:1", "the text ends here, expected a line 'node ..' first"),
+    ("orbit type not ascending", "n 2\norbit 2 0\n", "2:9", "found 0 after 2, expected the orbit type's dimensions ascending"),
+    ("orbit type with 3 where n is 2", "n 2\norbit 0 3\n", "2:9", "found '3', expected a dimension 0, 1 or 2"),
+    ("a huge number", "n 2\norbit 99999999999999999999\n", "2:7", "expected a dimension 0, 1 or 2"),
+    ("a sign that is nowhere used", "n 2\norbit 0; 2\n", "2:8", "found ';', expected a dimension"),
+    ("nodes out of order", "n 2\norbit\nnode 1 added ->\n", "3:6", "found '1', expected node number 0"),
+    ("a kind that there is not", "n 2\norbit\nnode 0 kept ->\n", "3:8", "found 'kept', expected the node's kind"),
+    ("a left word too short", "n 2\norbit 0 2\n  node 0 preserved 0 -> _ 2\n", "3:22", "found '->', expected 2 entries in the left word of node 0"),
+    ("a left word too long", "n 2\norbit 0\nnode 0 preserved 0 2 -> 0\n", "3:20", "found '2', expected '->' and the right word"),
+    ("a right word too short", "n 2\norbit 0 2\nnode 0 preserved 0 2 -> 2\n", "3:26", "found the end of the line, expected 2 entries in the right word"),
+    ("a right word too long", "n 2\norbit 0\nnode 0 preserved 0 -> 0 2 # more\n", "3:25", "found '2', expected the end of the line"),
+    ("a dimension twice in a word", "n 2\norbit 0 2\nnode 0 preserved 0 2 -> 2 2\n", "3:27", "found 2 twice in a word"),
+    ("a left word of an added node", "n 2\norbit 0\nnode 0 preserved 0 -> 0\nnode 1 added 0 -> 0\n", "4:14", "found '0', expected '->', as an added node has no left word"),
+    ("a right word of a deleted node", "n 2\norbit 0\nnode 0 deleted 0 -> _\n", "3:21", "found '_', expected the end of the line, as a deleted node has no right word"),
+    ("seventeen nodes", "n 2\norbit\n" + "".join(f"node {v} added ->\n" for v in range(17)), "19:6", "expected at most 16 nodes"),
+    ("a node after an arc", HEAD + "right 0: 0-1\nnode 2 added -> 1 2\n", "6:1", "found 'node' after 'right', expected the order n, orbit, node"),
+    ("left after right", HEAD + "right 0: 0-1\nleft 1: 0-0\n", "6:1", "found 'left' after 'right'"),
+    ("an arc without its dimension", HEAD + "right 0-1\n", "5:8", "found '-', expected ':' and the arcs"),
+    ("an arc of dimension 3 where n is 2", HEAD + "right 3: 0-1\n", "5:7", "found '3', expected a dimension 0, 1 or 2"),
+    ("no arcs after the colon", HEAD + "right 0:\n", "5:9", "found the end of the line, expected an arc"),
+    ("an arc with one end", HEAD + "right 0: 0\n", "5:11", "found the end of the line, expected '-'"),
+    ("an arc to no node", HEAD + "right 0: 0-2\n", "5:12", "found '2', expected a node number from 0 to 1"),
+    ("the larger node first", HEAD + "right 0: 1-0\n", "5:10", "found 1-0, expected the smaller node first: 0-1"),
+    ("an arc twice", HEAD + "right 0: 0-1\nright 0: 0-1\n", "6:10", "found the right arc 0: 0-1 twice"),
+    ("a left arc at an added node", HEAD + "left 0: 0-1\n", "5:11", "found node 1, which is added, expected a node that is there on the left"),
+    ("a right arc at a deleted node", "n 2\norbit\nnode 0 deleted ->\nright 0: 0-0\n", "4:10", "found node 0, which is deleted, expected a node that is there on the right"),
+    ("a byte over 255", HEAD + "bytes 2 256\n", "5:9", "found '256', expected a byte, 0 to 255"),
+    ("another byte", HEAD + "bytes 2 2 0 2 2 2 0 2 255 1\n", "5:27", "found 1 as byte 10 of the scheme, expected 2"),
+    ("a byte too few", HEAD + "bytes 2 2 0 2 2 2 0 2 255 2 3 255 255 1 2\nbytes 0\n", "6:7", "found 16 bytes up to here, expected 17; the next is 0"),
+    ("a byte too many", HEAD + "bytes 2 2 0 2 2 2 0 2 255 2 3 255 255 1 2\nbytes 0 0 0\n", "6:11", "found a byte more, expected 17 bytes"),
+]
+
+# (what is wrong, the bytes, the byte counted from 1, a part of the message)
+BYTE_FAULTS = [
+    ("nothing", [], 1, "found the end, expected the dimension"),
+    ("n is 4", [4], 1, "found 4, expected the dimension"),
+    ("orbit type too long", [2, 4], 2, "found 4, expected the number of dimensions in the orbit type, 0 to 3"),
+    ("orbit type not ascending", [2, 2, 1, 1], 4, "found 1, expected a dimension of the orbit type"),
+    ("seventeen nodes", [2, 0, 17], 3, "found 17, expected the number of nodes, 1 to 16"),
+    ("kind 4", [2, 0, 1, 4], 4, "found 4, expected the kind of node 0"),
+    ("a dimension twice in a word", [2, 2, 0, 1, 1, 2, 0, 0], 8, "found 0, expected in the left word of node 0 a dimension not yet in it"),
+    ("a right word of a deleted node", [2, 1, 0, 1, 1, 0, 0], 7, "found 0, expected 255, as node 0 is deleted"),
+    ("an added node on the left", [2, 0, 1, 3, 1, 0, 0, 0], 7, "found 0, expected a node that is there on the left"),
+    ("the larger node first", [2, 0, 2, 2, 2, 1, 0, 1, 0], 9, "found 0, expected a node that is there on the left, 1 or more"),
+    ("arcs not ascending", [2, 0, 1, 2, 2, 1, 0, 0, 0, 0, 0], 9, "found the left arc 0 0 0 after 1 0 0, expected ascending arcs"),
+    ("cut short", [2, 0, 1, 2, 0], 6, "found the end, expected the number of right arcs"),
+    ("a byte too many", [2, 0, 1, 2, 0, 0, 9], 7, "found 9, expected the end"),
+]
+
+
+@functools.lru_cache
+def load():
+    """The tool as a module: starting it anew for every text would take a minute."""
+    sys.dont_write_bytecode = True
+    loader = importlib.machinery.SourceFileLoader("scheme", TOOL)
+    tool = importlib.util.module_from_spec(importlib.util.spec_from_loader("scheme", loader))
+    loader.exec_module(tool)
+    return tool
+
+
+def run(*words):
+    """What the tool prints and its exit status for these words."""
+    out, err = io.StringIO(), io.StringIO()
+    with contextlib.redirect_stdout(out), contextlib.redirect_stderr(err):
+        try:
+            status = load().main(list(words))
+        except SystemExit as end:
+            status = end.code
+    return types.SimpleNamespace(returncode=status, stdout=out.getvalue(), stderr=err.getvalue())
+
+
+def in_form(source):
+    """Some bytes in the form."""
+    n = source.choice((2, 3))
+    orbit = [d for d in range(n + 1) if source.random() < 0.5]
+    out = [n, len(orbit), *orbit]
+    kinds = [source.choice((1, 2, 3)) for _ in range(source.randint(1, 16))]
+    out.append(len(kinds))
+    for kind in kinds:
+        out.append(kind)
+        for absent in (3, 1):
+            word = source.sample([*range(n + 1), 255, 255, 255, 255], len(orbit))
+            out += [255] * len(orbit) if kind == absent else word
+    for absent in (3, 1):
+        ends = [v for v, kind in enumerate(kinds) if kind != absent]
+        arcs = {(d, *sorted(source.choices(ends, k=2))) for d in range(n + 1) for _ in range(source.randint(0, 9)) if ends}
+        out.append(len(arcs))
+        out += [byte for arc in sorted(arcs) for byte in arc]
+    return out
+
+
+class Texts(unittest.TestCase):
+    def setUp(self):
+        folder = tempfile.TemporaryDirectory()
+        self.addCleanup(folder.cleanup)
+        self.path = os.path.join(folder.name, "a.scheme")
+        self.bytes = os.path.join(folder.name, "a.bytes")
+
+    def write(self, text):
+        with open(self.path, "w", encoding="utf-8", newline="") as file:
+            file.write(text)
+
+    def test_faults(self):
+        for what, text, place, message in FAULTS:
+            with self.subTest(what):
+                self.write(text)
+                done = run("assemble", self.path)
+                self.assertEqual((done.returncode, done.stdout), (1, ""))
+                self.assertTrue(done.stderr.startswith(f"{self.path}:{place}: "), done.stderr)
+                self.assertIn(message, done.stderr)
+                self.assertEqual(done.stderr.count("\n"), 1, done.stderr)
+
+    def test_faults_of_bytes(self):
+        for what, data, place, message in BYTE_FAULTS:
+            with self.subTest(what):
+                with open(self.bytes, "wb") as file:
+                    file.write(bytes(data))
+                done = run("show", self.bytes)
+                self.assertEqual((done.returncode, done.stdout), (1, ""))
+                self.assertTrue(done.stderr.startswith(f"{self.bytes}:byte {place}: "), done.stderr)
+                self.assertIn(message, done.stderr)
+
+    def test_bytes_to_text_and_back(self):
+        source = random.Random(4711)
+        for _ in range(100):
+            data = in_form(source)
+            with open(self.bytes, "wb") as file:
+                file.write(bytes(data))
+            shown = run("show", self.bytes)
+            self.assertEqual(shown.returncode, 0, shown.stderr)
+            self.write(shown.stdout)
+            self.assertEqual(run("assemble", self.path).stdout.split(), [str(byte) for byte in data])
+
+    def test_the_order_of_arcs_is_free(self):
+        self.write("n 2\norbit\nnode 0 preserved ->\nnode 1 preserved ->\nleft 2: 0-1\nleft 0: 1-1 0-0\nright 0: 1-1 0-0\nright 2: 0-1\n")
+        self.assertEqual(run("assemble", self.path).stdout, "2 0 2 2 2 3 0 0 0 0 1 1 2 0 1 3 0 0 0 0 1 1 2 0 1\n")
+
+    def test_sample_v_as_an_array(self):
+        self.assertEqual(
+            run("assemble", "schemes/split-edge.scheme", "--c").stdout,
+            "static const uint8_t split_edge[20] = { 2, 2, 0, 2, 2, 2, 0, 2, 255, 2, 3, 255, 255, 1, 2, 0, 1, 0, 0, 1 };\n",
+        )
+
+    def test_check_wants_bytes(self):
+        self.write(HEAD)
+        done = run("check", self.path, "schemes/split-edge.scheme")
+        self.assertEqual((done.returncode, done.stderr), (1, f"{self.path}:5:1: the text ends here, expected a line 'bytes ..' to hold it to\n"))
+
+    def test_texts_from_other_editors(self):
+        for text in ("\ufeff" + HEAD, HEAD.replace("\n", "\r\n"), HEAD.replace(" ", "\t"), HEAD.rstrip("\n"), HEAD + "# \u2028 n 3\n"):
+            self.write(text)
+            self.assertEqual(run("assemble", self.path).stdout, "2 2 0 2 2 2 0 2 255 2 3 255 255 1 2 0 0\n")
+
+    def test_command(self):
+        done = subprocess.run([TOOL, "assemble", "schemes/split-edge.scheme"], capture_output=True, text=True)
+        self.assertEqual((done.returncode, done.stdout), (0, "2 2 0 2 2 2 0 2 255 2 3 255 255 1 2 0 1 0 0 1\n"))
+
+    def test_use(self):
+        self.assertEqual(run().returncode, 2)
+        self.assertEqual(run("show").returncode, 2)
+        self.assertEqual(run("assemble", "schemes/split-edge.scheme", "-x").returncode, 2)
+        self.assertEqual(run("help").returncode, 0)
+        missing = run("check", "no/such/file", "schemes/split-edge.scheme")
+        self.assertEqual((missing.returncode, missing.stderr), (1, "no/such/file: No such file or directory\n"))
+        with open(self.path, "wb") as file:
+            file.write(b"n 2\norbit \xff\n")
+        self.assertIn(":2:7: found bytes that are no text", run("check", self.path).stderr)
+
+    def test_every_scheme_has_its_outcome(self):
+        names = [{os.path.splitext(path)[0] for path in glob.glob(f"schemes/*.{kind}")} for kind in ("scheme", "outcome")]
+        self.assertEqual(*names)
+        self.assertGreaterEqual(len(names[0]), 12)
+
+
+if __name__ == "__main__":
+    os.chdir(os.path.join(os.path.dirname(os.path.abspath(__file__)), "..", ".."))
+    sys.exit(unittest.main())
