@@ -27,6 +27,10 @@ unfolding all _and_
 all-of zero p f = refl
 all-of (suc n) p f = rw (all-of n p (λ k h. f k (omega arith))) (f n (omega arith))
 
+-- one number that has not p is enough
+pub all-not : (n : ℕ) (p : ℕ → Bool) (k : ℕ) → k < n → p k ≡ false → false ≡ all n p
+all-not n p k h e = ⊎-elim (λ t. absurd (true≢false (sym (all-at n p t k h) ∙ e))) (λ t. sym t) (true-or-false (all n p))
+
 pub any-at : (n : ℕ) (p : ℕ → Bool) → any n p ≡ true → (k : ℕ) × (k < n) × (p k ≡ true)
 unfolding any
 any-at zero p e = absurd (false≢true e)

@@ -3,12 +3,15 @@
 use Prim.Native.Nat.{ℕ, zero, suc, _+_, _*_, _≤_, _<_}
 use mathlib.Core.Path.{_≡_, refl, sym, ap, ap₂, _∙_, subst}
 use mathlib.Core.Logic.{⊎-elim}
+use mathlib.Core.Bool.{Bool, true, false, cond}
 use mathlib.Core.List.{List, [], _∷_, _++_}
-use native.Mathlib.Nat.{not-suc-le-zero, le-of-suc-le-suc, add-zero, zero-add, suc-add, add-suc, mul-zero, mul-suc, mul-le-mul-left, lt-of-lt-of-le}
+use native.Mathlib.Nat.{not-suc-le-zero, le-of-suc-le-suc, add-zero, zero-add, suc-add, add-suc, mul-zero, mul-one, mul-suc, mul-add, mul-le-mul-left, lt-of-lt-of-le}
 use native.Mathlib.Numerals.{add-one}
 use native.Mathlib.Omega.{arith}
-use lib.ListN.{length, getD, take, set, replicate, length-append, List·getD-append, replicate-append-replicate}
-use lib.Seq.{getD-append-add, take-all, take-suc-set}
+use lib.ListN.{length, getD, take, drop, set, replicate, length-append, List·getD-append, replicate-append-replicate}
+use lib.Seq.{getD-append-add, take-all, take-suc-set, sets, sets-eq}
+use Rattle.base.specs.Test.{bit}
+use Rattle.base.specs.Below.{count}
 use Rattle.base.specs.Lists.{list, listFrom, joined}
 use Rattle.base.proofs.BelowLaws.{below-suc}
 
@@ -71,3 +74,33 @@ module _ {A : Type 0} where
   fill-done l l₀ i a e h k f =
       let same : i ≡ length l₀ = omega arith in
       sym (take-all i l (omega arith)) ∙ f ∙ ap (λ (n : ℕ). replicate n a) same
+
+-- ---- one list after the other, of the numbers that have p
+
+module _ {A : Type 0} where
+  pub joined-same : (n : ℕ) (f g : ℕ → List A) → ((x : ℕ) → x < n → f x ≡ g x) → joined n f ≡ joined n g
+  unfolding joined
+  joined-same zero f g h = refl
+  joined-same (suc n) f g h = ap₂ _++_ (joined-same n f g (λ x l. h x (omega arith))) (h n (omega arith))
+
+module _ {A : Type 0} (w : ℕ) (p : ℕ → Bool) (f : ℕ → List A) (each : (x : ℕ) → length (f x) ≡ w) where
+  length-picked : (x : ℕ) (b : Bool) → length (cond b (f x) []) ≡ w * bit b
+  length-picked x true = each x ∙ sym (mul-one w)
+  length-picked x false = sym (mul-zero w)
+
+  pub length-chosen : (n : ℕ) → length (joined n (λ x. cond (p x) (f x) [])) ≡ w * count n p
+  unfolding joined count
+  length-chosen zero = sym (mul-zero w)
+  length-chosen (suc n) =
+      length-append (joined n (λ x. cond (p x) (f x) [])) (cond (p n) (f n) []) ∙ ap₂ _+_ (length-chosen n) (length-picked n (p n)) ∙ sym (mul-add w (count n p) (bit (p n)))
+
+-- ---- a run of stores
+
+module _ {A : Type 0} where
+  -- one run after the other is one run
+  pub sets-sets : (l : List A) (i : ℕ) (a b : List A) → sets (sets l i a) (i + length a) b ≡ sets l i (a ++ b)
+  sets-sets l i [] b = rw (add-zero i)
+  sets-sets l i (v ∷ a) b = rw (add-suc, ← suc-add) (sets-sets (set l i v) (suc i) a b)
+
+  pub sets-start : (l a : List A) → length a ≤ length l → sets l 0 a ≡ a ++ drop (length a) l
+  sets-start l a h = rw (zero-add (length a)) at (sets-eq a l 0 (rw zero-add h))

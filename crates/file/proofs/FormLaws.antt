@@ -1,0 +1,105 @@
+-- The tests of a file's form: what each says where the code stops, and what they say together.
+-- Assumes nothing.
+use Prim.Native.Nat.{ℕ, zero, suc, _+_, _*_, _≤_, _<_}
+use mathlib.Core.Path.{_≡_, refl, sym, ap, _∙_, subst}
+use mathlib.Core.Logic.{⊎-elim}
+use mathlib.Core.Bool.{Bool, true, false, not, true≢false}
+use mathlib.Core.List.{List}
+use native.Mathlib.Numerals.{add-one}
+use native.Mathlib.Omega.{arith}
+use lib.ListN.{length, getD}
+use lib.Dec.{eqb, ltb}
+use borrow.Author.Tests.{eqb-true, eq-eqb, ne-eqb, ltb-true, lt-ltb, le-ltb, not-true, not-false}
+use Rattle.base.specs.Test.{_and_}
+use Rattle.base.specs.Below.{all}
+use Rattle.base.specs.Digits.{numberAt}
+use Rattle.base.proofs.TestLaws.{and-left, and-right, and-of, true-or-false}
+use Rattle.base.proofs.BelowLaws.{below-suc, all-at, all-of, all-not, all-step}
+use Rattle.model.specs.File.{twoAt, fourAt, fileForm}
+use Rattle.file.specs.Form.{headOk, countsOk, frameOk, framed, slotOf, lowest, slotsOk}
+use Rattle.file.specs.declared.form.Framing.the-variants.{Darts, Broken}
+
+-- ---- two numbers that are to be two others
+
+pub pair-no : (v a n : ℕ) (t : Bool) → v ≡ a → (v ≡ n → ⊥) → false ≡ (eqb a n and t)
+unfolding _and_
+pair-no v a n t e d = rw (← e, ne-eqb v n d)
+
+pub pair-is : (v a n w c k : ℕ) → v ≡ a → v ≡ n → w ≡ c → eqb w k ≡ (eqb a n and eqb c k)
+unfolding _and_
+pair-is v a n w c k e d f = rw (← e, eq-eqb v n d, ← f)
+
+-- ---- the frame
+
+module _ (n N : ℕ) (b : List ℕ) where
+  refuted : {t : Bool} → (frameOk n N b ≡ true → t ≡ true) → t ≡ false → Broken ≡ framed n N b
+  unfolding framed
+  refuted f e = ⊎-elim (λ w. absurd (true≢false (sym (f w) ∙ e))) (λ w. rw w refl) (true-or-false (frameOk n N b))
+
+  pub frame-short : length b < 9 → Broken ≡ framed n N b
+  unfolding frameOk
+  frame-short h = refuted (λ w. and-right _ _ w) (ne-eqb (length b) _ (λ e. omega (arith)))
+
+  pub frame-head : (r : Bool) → r ≡ headOk n N b → not r ≡ true → Broken ≡ framed n N b
+  unfolding frameOk
+  frame-head r e h = refuted (λ w. and-left _ _ (and-left _ _ w)) (sym e ∙ not-true r h)
+
+  module _ (L : ℕ) (e : L ≡ numberAt 2 b 3) where
+    pub frame-size : (length b ≡ 9 + L * (6 + 2 * (n + 1)) → ⊥) → Broken ≡ framed n N b
+    unfolding frameOk
+    frame-size h = refuted (λ w. and-right _ _ w) (rw (← e) (ne-eqb (length b) _ h))
+
+    pub frame-counts : (r : Bool) → r ≡ countsOk b L → not r ≡ true → Broken ≡ framed n N b
+    unfolding frameOk
+    frame-counts r f h = refuted (λ w. and-right _ _ (and-left _ _ w)) (rw (← e) (sym f ∙ not-true r h))
+
+    whole : (r s : Bool) → r ≡ headOk n N b → not r ≡ false → length b ≡ 9 + L * (6 + 2 * (n + 1)) → s ≡ countsOk b L → not s ≡ false → frameOk n N b ≡ true
+    unfolding frameOk
+    whole r s f h z g k = and-of (and-of (sym f ∙ not-false r h) (rw (← e) (sym g ∙ not-false s k))) (rw (← e) (eq-eqb (length b) _ z))
+
+    pub frame-is : (r s : Bool) → r ≡ headOk n N b → not r ≡ false → length b ≡ 9 + L * (6 + 2 * (n + 1)) → s ≡ countsOk b L → not s ≡ false
+        → Darts L ≡ framed n N b
+    unfolding framed
+    frame-is r s f h z g k = rw (whole r s f h z g k, e) refl
+
+-- ---- the slots
+
+module _ (N : ℕ) (b : List ℕ) where
+  -- where the slots below k ascend, each is below the least that may follow
+  below-lowest : (k : ℕ) → slotsOk N b k ≡ true → (o : ℕ) → o < k → slotOf b o < lowest b k
+  unfolding slotsOk lowest
+  below-lowest zero t o h = absurd (omega arith)
+  below-lowest (suc k) t o h =
+      ⊎-elim
+      (λ e. rw e (omega arith))
+      (λ l. let r : slotOf b o < slotOf b k = ltb-true _ _ (all-at k _ (and-right _ _ (all-at (suc k) _ t k (omega arith))) o l) in omega arith)
+      (below-suc h)
+
+  not-back : (k L : ℕ) → k < L → slotOf b k < lowest b k → slotsOk N b L ≡ true → ⊥
+  unfolding slotsOk lowest
+  not-back zero L h l t = absurd (omega arith)
+  not-back (suc j) L h l t =
+      let r : slotOf b j < slotOf b (suc j) = ltb-true _ _ (all-at (suc j) _ (and-right _ _ (all-at L _ t (suc j) h)) j (omega arith)) in
+      absurd (omega arith)
+
+  module _ (k x : ℕ) (e : x ≡ slotOf b k) where
+    pub slots-out : (L : ℕ) → k < L → N ≤ x → false ≡ slotsOk N b L
+    unfolding slotsOk _and_
+    slots-out L h l = all-not L _ k h (rw (← e, le-ltb x N l) refl)
+
+    pub slots-back : (L : ℕ) → k < L → x < lowest b k → false ≡ slotsOk N b L
+    slots-back L h l = ⊎-elim (λ t. absurd (not-back k L h (rw (← e) l) t)) (λ t. sym t) (true-or-false (slotsOk N b L))
+
+    pub slots-more : slotsOk N b k ≡ true → lowest b k ≤ x → x < N → slotsOk N b (k + 1) ≡ true
+    unfolding slotsOk
+    slots-more t l h = all-step k _ ∙ and-of t (and-of (rw (← e) (lt-ltb x N h)) (all-of k _ (λ o g. lt-ltb (slotOf b o) (slotOf b k) (rw (← e) (omega (arith, below-lowest k t o g))))))
+
+module _ (b : List ℕ) where
+  -- the slot that is read at the k-th place
+  pub here : (k at x : ℕ) → at ≡ 5 + 2 * k → x ≡ numberAt 2 b at → x ≡ slotOf b k
+  unfolding slotOf
+  here k at x e f = f ∙ ap (numberAt 2 b) e
+
+  pub lowest-more : (k x : ℕ) → x ≡ slotOf b k → x + 1 ≡ lowest b (k + 1)
+  unfolding lowest
+  lowest-more k x e = rw (add-one k, ← e) refl

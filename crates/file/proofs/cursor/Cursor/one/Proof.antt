@@ -1,0 +1,24 @@
+-- `file::cursor::Cursor::one` meets its contract.
+-- Assumes nothing.
+use native.Mathlib.Omega.{arith}
+use borrow.Author.Needs.{needs}
+use Rattle.file.proofs.PlaceLaws.{taken-one}
+use Rattle.file.proofs.cursor.Cursor.one.Statement.{statement}
+use Rattle.file.proofs.cursor.Cursor.one.Tie as tie
+
+shared-slice-read-wide : tie.Need-shared-slice-read-wide
+shared-slice-read-wide c = search needs
+
+wide-requires : tie.Need-wide-requires
+wide-requires c κs = search needs
+
+add-t7 : tie.Need-add-t7
+add-t7 c = search needs
+
+returns : tie.Need-returns
+returns c =
+    let a = c .before .before .before .args in
+    taken-one _ (a .self .at) _ (c .wide .ensures) (rw (c .wide .ensures) (omega (arith, c .before .shared-slice-known2 .given (a .self .at))))
+
+pub one-spec : {M : Type 1} → statement M
+one-spec = tie.close (tie.spec shared-slice-read-wide wide-requires add-t7 returns)

@@ -1,0 +1,88 @@
+-- `file::sections::section` meets its contract. The loop's invariant: what the section has of the live darts below x is put.
+-- Assumes nothing.
+use Prim.Native.Nat.{_-_, _≤_}
+use mathlib.Core.Path.{_≡_, refl, sym, _∙_}
+use mathlib.Core.Logic.{⊎-elim}
+use native.Mathlib.Omega.{arith}
+use lib.ListN.{length}
+use denote.Ref.{now}
+use borrow.Author.Needs.{needs}
+use Rattle.model.specs.Map.{view}
+use Rattle.file.specs.Places.{Put}
+use Rattle.file.specs.Sections.{dartsBytes}
+use Rattle.file.proofs.PlaceLaws.{put-length, put-room}
+use Rattle.file.proofs.SectionLaws.{darts-none, darts-dead, darts-live, darts-room, darts-all, few-live}
+use Rattle.file.proofs.sections.section.Statement.{statement}
+use Rattle.file.proofs.sections.section.Tie as tie
+
+abbrev Inv-loop : tie.InvT-loop
+Inv-loop part n slots table live out₀ at₀ x₀ out at x =
+    (x ≤ slots) × Put out₀ (at₀ .at) (dartsBytes n (view slots table) part x) out (at .at)
+
+abbrev μ-loop : tie.MeasureT-loop
+μ-loop part n slots table live out₀ at₀ x₀ out at x = slots - x
+
+cast-put-two : tie.Need-cast-put-two Inv-loop μ-loop
+cast-put-two c =
+    let a = c .before .before .before in
+    omega (arith, few-live (a .args .n) (view (a .args .slots) (now (a .args .table))) _ (a .pre .1 .1 .0))
+
+put-two-requires : tie.Need-put-two-requires Inv-loop μ-loop
+put-two-requires c κs = omega arith
+
+loop-holds : tie.Need-loop-holds Inv-loop μ-loop
+loop-holds c = (omega arith, darts-none _ _ _ _ _)
+
+state-requires : tie.Need-state-requires Inv-loop μ-loop
+state-requires c κs = search needs
+
+dart-requires : tie.Need-dart-requires Inv-loop μ-loop
+dart-requires c κs =
+    let s = c .before .before in
+    let l = s .before .before in
+    let put = l .before .before .before in
+    let a = put .before .before .before .before in
+    (a .pre .0, (a .pre .1 .0, (s .before .loop-test .taken, darts-room _ _ _ _ _ _ _ _ (l .loop .inv .1) _ (s .state .ensures) (c .before .if1 .taken)
+    (s .before .loop-test .taken) _ (a .pre .1 .1 .0) (put-room 2 _ _ _ _ _ (put .put-two .ensures) _ (omega arith)))))
+
+add-x : tie.Need-add-x Inv-loop μ-loop
+add-x c = omega arith
+
+loop-less : tie.Need-loop-less Inv-loop μ-loop
+loop-less c = omega arith
+
+loop-again : tie.Need-loop-again Inv-loop μ-loop
+loop-again c =
+    let s = c .before in
+    let inv = s .before .before .loop .inv in
+    ⊎-elim
+    (λ w. (omega arith, rw (w .5, w .6) (darts-live _ _ _ _ _ _ _ _ (inv .1) _ (s .state .ensures) (w .0 .taken) _ _ (w .2 .ensures))))
+    (λ w. (omega arith, rw (w .1, w .2) (darts-dead _ _ _ _ _ _ _ _ (inv .1) _ (s .state .ensures) (w .0 .left))))
+    (c .if1 .came)
+
+same-length : tie.Need-same-length Inv-loop μ-loop
+same-length c = let l = c .before in put-length _ _ _ _ _ (l .loop .inv .1) ∙ put-length _ _ _ _ _ (l .before .before .before .put-two .ensures)
+
+returns : tie.Need-returns Inv-loop μ-loop
+returns c =
+    let l = c .before in
+    let put = l .before .before .before in
+    let a = put .before .before .before .before in
+    darts-all _ _ _ _ _ _ _ _ _ _ _ (a .pre .1 .1 .0) (omega arith) (put .put-two .ensures) (l .loop .inv .1)
+
+pub section-spec : {M : Type 1} → statement M
+section-spec =
+    tie.close
+    (tie.spec
+    Inv-loop
+    μ-loop
+    cast-put-two
+    put-two-requires
+    loop-holds
+    state-requires
+    dart-requires
+    add-x
+    loop-less
+    loop-again
+    same-length
+    returns)

@@ -1,0 +1,75 @@
+-- `file::write` meets its contract.
+-- Assumes nothing.
+use Prim.Native.Nat.{ℕ, _<_}
+use mathlib.Core.Path.{_≡_}
+use mathlib.Core.Logic.{_⊎_, inl, inr}
+use mathlib.Core.List.{_++_}
+use native.Mathlib.Omega.{arith}
+use denote.Ref.{now}
+use borrow.Author.Needs.{needs}
+use Rattle.model.specs.Map.{view}
+use Rattle.file.specs.Places.{Put}
+use Rattle.file.specs.Sections.{headBytes, sectionBytes}
+use Rattle.file.specs.declared.sections.Part.the-variants.{Slots, Tags}
+use Rattle.file.proofs.PlaceLaws.{put-then}
+use Rattle.file.proofs.SectionLaws.{length-file, room-slots, room-tags, room-links, file-put}
+use Rattle.file.proofs.write.Statement.{statement}
+use Rattle.file.proofs.write.Tie as tie
+
+-- after the head, the slots, the tags
+headed : (c : tie.After-head) → let a = c .before .before .before .before .args in
+    Put (now (a .out)) 0 (headBytes (a .n) (a .slots)) (c .head .last .1 .1 .0) (c .head .result .at)
+headed c = c .head .ensures
+
+slotted : (c : tie.After-section) → let a = c .before .before .before .before .before .before .before .before .args in let m = view (a .slots) (now (a .table)) in
+    Put (now (a .out)) 0 (headBytes (a .n) (a .slots) ++ sectionBytes (a .n) m Slots) (c .section .last .1 .1 .1 .1 .1 .0) (c .section .result .at)
+slotted c = put-then _ _ _ _ _ _ _ _ (headed (c .before .before .before .before)) (c .section .ensures)
+
+tagged : (c : tie.After-section2) → let a = c .before .before .before .before .before .before .before .before .before .before .before .before .args in let m = view (a .slots) (now (a .table)) in
+    Put (now (a .out)) 0 (headBytes (a .n) (a .slots) ++ sectionBytes (a .n) m Slots ++ sectionBytes (a .n) m Tags) (c .section2 .last .1 .1 .1 .1 .1 .0) (c .section2 .result .at)
+tagged c = put-then _ _ _ _ _ _ _ _ (slotted (c .before .before .before .before)) (c .section2 .ensures)
+
+small : {n : ℕ} → (n ≡ 2) ⊎ (n ≡ 3) → n < 256
+small (inl e) = omega arith
+small (inr e) = omega arith
+
+head-requires : tie.Need-head-requires
+head-requires c κs =
+    let a = c .before .before .before in
+    let s = a .pre .1 .0 in
+    (s .few, omega (arith, a .pre .1 .1 .1, length-file (a .args .n) (view (a .args .slots) (now (a .args .table))) (small (a .pre .0))))
+
+section-requires : tie.Need-section-requires
+section-requires c κs =
+    let a = c .before .before .before .before .before .before .before .pre in
+    (a .0, (a .1 .0, (a .1 .1 .0, room-slots _ _ (small (a .0)) _ (a .1 .1 .0) _ (a .1 .1 .1) _ _ (headed (c .before .before .before)))))
+
+section-requires-2 : tie.Need-section-requires-2
+section-requires-2 c κs =
+    let a = c .before .before .before .before .before .before .before .before .before .before .before .pre in
+    (a .0, (a .1 .0, (a .1 .1 .0, room-tags _ _ (small (a .0)) _ (a .1 .1 .0) _ (a .1 .1 .1) _ _ (slotted (c .before .before .before)))))
+
+section-requires-3 : tie.Need-section-requires-3
+section-requires-3 c κs =
+    let a = c .before .before .before .before .before .before .before .before .before .before .before .before .before .before .before .pre in
+    (a .0, (a .1 .0, (a .1 .1 .0, room-links _ _ (small (a .0)) _ (a .1 .1 .0) _ (a .1 .1 .1) _ _ (tagged (c .before .before .before)))))
+
+same-length : tie.Need-same-length
+same-length c = search needs
+
+returns : tie.Need-returns
+returns c =
+    let e = c .before .before in
+    let a = e .before .before .before .before .before .before .before .before .before .before .before .before .before .before .before .before .pre in
+    file-put _ _ (small (a .0)) _ (a .1 .1 .0) _ (a .1 .1 .1) _ _ (put-then _ _ _ _ _ _ _ _ (tagged (e .before .before .before .before)) (e .section3 .ensures))
+
+pub write-spec : {M : Type 1} → statement M
+write-spec =
+    tie.close
+    (tie.spec
+    head-requires
+    section-requires
+    section-requires-2
+    section-requires-3
+    same-length
+    returns)

@@ -1,0 +1,94 @@
+// A place in the bytes of a file, which goes in and comes back by value, and the numbers read and put there.
+ghost use mathlib.Core.Path.{_≡_};
+ghost use Prim.Native.Nat.{_+_, _≤_};
+ghost use lib.ListN.{length};
+ghost use Rattle.base.specs.Digits.{bytesOf};
+ghost use Rattle.file.specs.Places.{Taken, Put};
+
+pub struct Cursor {
+    pub at: usize,
+}
+
+// A number that was read, and the place after it.
+pub struct Number {
+    pub value: u32,
+    pub next: Cursor,
+}
+
+fn wide(b: u8) -> u32
+    ensures { λ r. ⌜ r ≡ b ⌝ }
+{
+    b as u32
+}
+
+impl Cursor {
+    // The number in one byte.
+    pub fn one(self, b: &[u8]) -> Number
+        requires { ⌜ self .at + 1 ≤ length (now b) ⌝ }
+        ensures { λ r. ⌜ Taken 1 (now (b .entry)) (self .at) r ⌝ }
+    {
+        let at = self.at;
+        Number {
+            value: wide(b[at]),
+            next: Cursor { at: at + 1 },
+        }
+    }
+
+    // The number in two bytes.
+    pub fn two(self, b: &[u8]) -> Number
+        requires { ⌜ self .at + 2 ≤ length (now b) ⌝ }
+        ensures { λ r. ⌜ Taken 2 (now (b .entry)) (self .at) r ⌝ }
+    {
+        let low = self.one(b);
+        let next = low.next;
+        let high = next.one(b);
+        let end = high.next;
+        Number {
+            value: low.value + 256 * high.value,
+            next: end,
+        }
+    }
+
+    // The number in four bytes.
+    pub fn four(self, b: &[u8]) -> Number
+        requires { ⌜ self .at + 4 ≤ length (now b) ⌝ }
+        ensures { λ r. ⌜ Taken 4 (now (b .entry)) (self .at) r ⌝ }
+    {
+        let low = self.two(b);
+        let next = low.next;
+        let high = next.two(b);
+        let end = high.next;
+        Number {
+            value: low.value + 65536 * high.value,
+            next: end,
+        }
+    }
+
+    // The lowest byte of v.
+    pub fn put_one(self, out: &mut [u8], v: u32) -> Cursor
+        requires { ⌜ self .at + 1 ≤ length (now out) ⌝ }
+        ensures { λ r. ⌜ Put (now (out .entry)) (self .at) (bytesOf 1 v) (now (out .exit)) (r .at) ⌝ }
+    {
+        let at = self.at;
+        out[at] = (v % 256) as u8;
+        Cursor { at: at + 1 }
+    }
+
+    // The lowest two bytes of v.
+    pub fn put_two(self, out: &mut [u8], v: u32) -> Cursor
+        requires { ⌜ self .at + 2 ≤ length (now out) ⌝ }
+        ensures { λ r. ⌜ Put (now (out .entry)) (self .at) (bytesOf 2 v) (now (out .exit)) (r .at) ⌝ }
+    {
+        let next = self.put_one(out, v);
+        next.put_one(out, v / 256)
+    }
+
+    // The four bytes of v.
+    pub fn put_four(self, out: &mut [u8], v: u32) -> Cursor
+        requires { ⌜ self .at + 4 ≤ length (now out) ⌝ }
+        ensures { λ r. ⌜ Put (now (out .entry)) (self .at) (bytesOf 4 v) (now (out .exit)) (r .at) ⌝ }
+    {
+        let next = self.put_two(out, v);
+        next.put_two(out, v / 65536)
+    }
+}

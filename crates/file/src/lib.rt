@@ -1,0 +1,30 @@
+// The map file: writing a map, and loading a file into a table. Whether the loaded map is well-formed is not asked here.
+mod cursor;
+mod form;
+mod sections;
+
+use sections::head;
+use sections::section;
+use sections::Part;
+ghost use mathlib.Core.Path.{_≡_};
+ghost use mathlib.Core.Logic.{_⊎_};
+ghost use mathlib.Core.List.{_++_};
+ghost use Prim.Native.Nat.{_≤_};
+ghost use lib.ListN.{length, drop};
+ghost use Rattle.model.specs.Map.{view};
+ghost use Rattle.model.specs.File.{liveDarts, file};
+ghost use Rattle.table.specs.Words.{Sized};
+
+// The file of a map with `live` live darts, at the start of `out`.
+pub fn write(n: u32, slots: usize, table: &[u32], live: usize, out: &mut [u8])
+    requires { ⌜ (n ≡ 2) ⊎ (n ≡ 3) ⌝ }
+    requires { ⌜ Sized slots (now table) ⌝ }
+    requires { ⌜ live ≡ liveDarts n (view slots (now table)) ⌝ }
+    requires { ⌜ length (file n (view slots (now table))) ≤ length (now out) ⌝ }
+    ensures { λ _. ⌜ now (out .exit) ≡ file n (view slots (now (table .entry))) ++ drop (length (file n (view slots (now (table .entry))))) (now (out .entry)) ⌝ }
+{
+    let a = head(n, slots, out);
+    let b = section(Part::Slots, n, slots, table, live, out, a);
+    let c = section(Part::Tags, n, slots, table, live, out, b);
+    let _end = section(Part::Links, n, slots, table, live, out, c);
+}
