@@ -1,11 +1,11 @@
 // The map file: writing a map, and loading a file into a table. Whether the loaded map is well-formed is not asked here.
-mod cursor;
+pub mod cursor;
 mod form;
 mod sections;
 
+use sections::Part;
 use sections::head;
 use sections::section;
-use sections::Part;
 ghost use mathlib.Core.Path.{_≡_};
 ghost use mathlib.Core.Logic.{_⊎_};
 ghost use mathlib.Core.List.{_++_};

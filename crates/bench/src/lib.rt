@@ -1,0 +1,3 @@
+// The bench program on slices: what it prints for what stands on its standard input.
+mod answer;
+mod writer;
