@@ -1,3 +1,4 @@
 pub mod DecimalLaws
 pub mod WriterLaws
 pub mod LineLaws
+pub mod FramingLaws

@@ -1,3 +1,4 @@
 // The bench program on slices: what it prints for what stands on its standard input.
 mod answer;
+mod framing;
 mod writer;

@@ -33,12 +33,16 @@ fn counts(b: &[u8], darts: usize) -> bool
     requires { ⌜ (darts < 65536) × (9 + 6 * darts ≤ length (now b)) ⌝ }
     ensures { λ r. ⌜ r ≡ countsOk (now (b .entry)) darts ⌝ }
 {
-    let tags = Cursor { at: 5 + 2 * darts };
+    let tags = Cursor {
+        at: 5 + 2 * darts,
+    };
     let first = tags.two(b);
     if first.value as usize != darts {
         return false;
     }
-    let links = Cursor { at: 7 + 6 * darts };
+    let links = Cursor {
+        at: 7 + 6 * darts,
+    };
     let second = links.two(b);
     second.value as usize == darts
 }

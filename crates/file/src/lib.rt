@@ -3,9 +3,9 @@ pub mod cursor;
 mod form;
 mod sections;
 
-use sections::Part;
 use sections::head;
 use sections::section;
+use sections::Part;
 ghost use mathlib.Core.Path.{_≡_};
 ghost use mathlib.Core.Logic.{_⊎_};
 ghost use mathlib.Core.List.{_++_};
