@@ -13,7 +13,9 @@ use Rattle.base.specs.Digits.{numberAt}
 use Rattle.base.proofs.TestLaws.{and-left, and-right, and-of, true-or-false}
 use Rattle.model.specs.File.{twoAt}
 use Rattle.model.specs.Bench.{mapLength, schemeLength, dartCount, framed}
-use Rattle.bench.specs.Input.{countAt, Laid}
+use Rattle.bench.specs.Input.{countAt, Laid, FramingOf}
+use Rattle.bench.specs.declared.framing.Framing.{Framing}
+use Rattle.bench.specs.declared.framing.Framing.the-variants.{Framed, Fault}
 use Rattle.bench.specs.declared.framing.Layout.{Layout}
 
 pub count-of : (b : List ℕ) (at v : ℕ) → v ≡ numberAt 2 b at → v ≡ countAt b at
@@ -54,3 +56,11 @@ module _ (b : List ℕ) (l : Layout) (k : Laid b l) where
       let s = scheme-length b (l .map) (l .scheme) (l .darts) (k .map) (k .scheme) (k .darts) in
       let d = dart-count b (l .map) (l .scheme) (l .darts) (k .map) (k .scheme) (k .darts) in
       rw (d, s, m) (and-of (and-of (and-of (le-leb _ _ (k .mapFits)) (le-leb _ _ (k .schemeFits))) (le-leb _ _ (k .dartsFit))) (eq-eqb _ _ (k .size)))
+
+-- ---- what the framing was found to be
+
+pub fault-of : (b : List ℕ) (f : Framing) → f ≡ Fault → FramingOf b f → framed b ≡ false
+fault-of b f e x = subst (FramingOf b) e x
+
+pub laid-of : (b : List ℕ) (f : Framing) (l : Layout) → f ≡ Framed l → FramingOf b f → Laid b l
+laid-of b f l e x = subst (FramingOf b) e x

@@ -1,2 +1,2 @@
 pub mod Input
-pub mod Output
+pub mod Session

@@ -1,4 +1,4 @@
-// The bench program on slices: what it prints for what stands on its standard input.
+// The bench program on slices: the framing of its input, and the lines of its output.
 mod answer;
 mod framing;
 mod writer;

@@ -68,7 +68,7 @@ unfolding _orElse_
 or-none none = refl
 or-none (some x) = refl
 
-cycle-number : (S : Scheme) (a : Answer) → cycleFault S ≡ some a → number a ≡ 5
+pub cycle-number : (S : Scheme) (a : Answer) → cycleFault S ≡ some a → number a ≡ 5
 unfolding cycleFault
 cycle-number S a e =
     let at-node = first-at _ _ a e in

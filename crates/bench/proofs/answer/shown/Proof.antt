@@ -1,17 +1,17 @@
-use mathlib.Core.Path.{_≡_, refl}
+-- `bench::answer::shown` meets its contract: each variant shows what `shown` says.
+-- Assumes nothing.
 use Prim.Native.Nat.{ℕ}
 use mathlib.Core.List.{List, [], _∷_}
-use types.Run.{OneOf, miss}
+use mathlib.Core.Path.{_≡_, refl}
+use borrow.Author.Needs.{needs}
 use denote.Enum.Declared.{tagOf}
+use types.Run.{OneOf, miss}
 use Rattle.model.proofs.Answer.{the-type}
 use Rattle.model.specs.Bench.{shown}
-use Rattle.model.specs.declared.Answer.{Answer}
 use Rattle.model.specs.declared.Answer.the-variants.{Done, Edited, Written, BadCall, BadForm, BadHook, BadIncidence, BadCycle, OtherDimension, BadTable, NoDart, NoMatch, NoRoom, BadFile, ShortOutput}
-use borrow.Author.Needs.{needs}
+use Rattle.model.specs.declared.Answer.{Answer}
 use Rattle.bench.proofs.answer.shown.Statement.{statement}
 use Rattle.bench.proofs.answer.shown.Tie as tie
-use Rattle.bench.proofs.answer.shown.Reads as reads
-use Rattle.bench.proofs.answer.shown.Lts as lts
 
 -- the places of the variants that show nothing
 abbrev others : List ℕ
@@ -34,23 +34,18 @@ none-shown NoRoom h = (refl, refl, refl)
 none-shown BadFile h = (refl, refl, refl)
 none-shown ShortOutput h = (refl, refl, refl)
 
--- src/answer.rt:45:13
 enum-known-a : tie.Need-enum-known-a
 enum-known-a c = search needs
 
--- src/answer.rt:53:25
 enum-known-a-2 : tie.Need-enum-known-a-2
 enum-known-a-2 c = search needs
 
--- src/answer.rt:40:1
 returns : tie.Need-returns
 returns c = rw (c .before .a .given .1) (refl, refl, refl)
 
--- src/answer.rt:40:1
 returns-2 : tie.Need-returns-2
 returns-2 c = rw (c .before .a2 .given .1) (refl, refl, refl)
 
--- src/answer.rt:40:1
 returns-3 : tie.Need-returns-3
 returns-3 c = none-shown (c .before .args .a) (c .match .keys3)
 

@@ -1,17 +1,16 @@
+-- `bench::framing::frame` meets its contract: each fault breaks a limit or the length.
+-- Assumes nothing.
 use Prim.Native.Nat.{ℕ, _+_, _*_, _≤_}
-use mathlib.Core.Path.{_≡_, refl}
 use mathlib.Core.Bool.{false}
+use mathlib.Core.Path.{_≡_, refl}
 use native.Mathlib.Omega.{arith}
 use lib.ListN.{length}
+use borrow.Author.Needs.{needs}
 use denote.Ref.{now}
 use Rattle.model.specs.Bench.{framed}
 use Rattle.bench.proofs.FramingLaws.{count-of, fault}
-use borrow.Author.Needs.{needs}
 use Rattle.bench.proofs.framing.frame.Statement.{statement}
 use Rattle.bench.proofs.framing.frame.Tie as tie
-use Rattle.bench.proofs.framing.frame.Reads as reads
-use Rattle.bench.proofs.framing.frame.Lts as lts
-use Rattle.file.proofs.cursor.Cursor.two.Reads as two-reads
 
 -- the three counts are read, and one of them, or the length, is wrong
 ended : (c : tie.After-two3) → let second = c .before .before .before in let first = second .before .before .before in

@@ -1,18 +1,20 @@
+-- `bench::writer::decimal` meets its contract. The measure is the number itself, of which each call drops the last digit.
+-- Assumes nothing.
 use Prim.Native.Nat.{ℕ, _+_, _≤_, _<_}
+use native.Mathlib.Omega.{arith}
 use lib.ListN.{length, length-set}
-use denote.Ref.{now}
+use borrow.Author.Needs.{needs}
 use borrow.Fn.Kinds.{In}
 use borrow.Fn.PlainCycle.{Measures, is, falls, and}
-use Rattle.bench.proofs.writer.decimal.Reads as decimal
-use Rattle.bench.proofs.writer.decimal.Kinds as decimal-kinds
-use Rattle.bench.proofs.writer.+decimal.Lts-decimal as decimal-lts
-use Rattle.bench.proofs.writer.digit.Reads as digit-reads
-use Rattle.bench.proofs.writer.+decimal.{statement}
-use Rattle.bench.proofs.writer.+decimal.Tie.{close}
-use native.Mathlib.Omega.{arith}
-use borrow.Author.Needs.{needs}
+use denote.Ref.{now}
 use Rattle.bench.proofs.DecimalLaws.{decimal-some}
 use Rattle.bench.proofs.WriterLaws.{tens-room, last-room, put-last, put-only}
+use Rattle.bench.proofs.writer.+decimal.Lts-decimal as decimal-lts
+use Rattle.bench.proofs.writer.+decimal.{statement}
+use Rattle.bench.proofs.writer.decimal.Kinds as decimal-kinds
+use Rattle.bench.proofs.writer.decimal.Reads as decimal
+use Rattle.bench.proofs.writer.digit.Reads as digit-reads
+use Rattle.bench.proofs.writer.+decimal.Tie.{close}
 
 abbrev μ-decimal : Measures 1 decimal-kinds.ps ℕ
 μ-decimal κs a = a .1 .1 .0
@@ -23,7 +25,6 @@ decimal-at t = and 1 decimal-kinds.ps (is 1 decimal-kinds.ps μ-decimal t) decim
 abbrev decimal-below : ℕ → In 1 decimal-kinds.ps
 decimal-below t = and 1 decimal-kinds.ps (falls 1 decimal-kinds.ps _<_ μ-decimal t) decimal.Pre
 
--- src/writer.rt:36:19
 decimal-digit-requires : (t : ℕ) → decimal-lts.Need-digit-requires (
   digit-reads.Asked,
   digit-reads.Learnt,
@@ -32,7 +33,6 @@ decimal-digit-requires : (t : ℕ) → decimal-lts.Need-digit-requires (
 ) (decimal-at t) decimal.Post
 decimal-digit-requires t c κs = tt
 
--- src/writer.rt:36:9
 decimal-slice-write-out : (t : ℕ) → decimal-lts.Need-slice-write-out (
   digit-reads.Asked,
   digit-reads.Learnt,
@@ -41,7 +41,6 @@ decimal-slice-write-out : (t : ℕ) → decimal-lts.Need-slice-write-out (
 ) (decimal-at t) decimal.Post
 decimal-slice-write-out t c = let s = c .before .before .before in omega (arith, s .pre .1, decimal-some (s .args .v))
 
--- src/writer.rt:37:16
 decimal-add-result : (t : ℕ) → decimal-lts.Need-add-result (
   digit-reads.Asked,
   digit-reads.Learnt,
@@ -50,7 +49,6 @@ decimal-add-result : (t : ℕ) → decimal-lts.Need-add-result (
 ) (decimal-at t) decimal.Post
 decimal-add-result t c = let s = c .before .before .before in omega (arith, s .pre .1, decimal-some (s .args .v))
 
--- src/writer.rt:37:9
 decimal-same-length : (t : ℕ) → decimal-lts.Need-same-length (
   digit-reads.Asked,
   digit-reads.Learnt,
@@ -59,7 +57,6 @@ decimal-same-length : (t : ℕ) → decimal-lts.Need-same-length (
 ) (decimal-at t) decimal.Post
 decimal-same-length t c = search needs
 
--- src/writer.rt:37:9
 decimal-returns : (t : ℕ) → decimal-lts.Need-returns (
   digit-reads.Asked,
   digit-reads.Learnt,
@@ -68,7 +65,6 @@ decimal-returns : (t : ℕ) → decimal-lts.Need-returns (
 ) (decimal-at t) decimal.Post
 decimal-returns t c = put-only _ _ _ _ (c .before .if1 .taken) (c .digit .ensures)
 
--- src/writer.rt:39:9
 decimal-decimal-requires : (t : ℕ) → decimal-lts.Need-decimal-requires (
   digit-reads.Asked,
   digit-reads.Learnt,
@@ -77,7 +73,6 @@ decimal-decimal-requires : (t : ℕ) → decimal-lts.Need-decimal-requires (
 ) (decimal-at t) decimal.Post
 decimal-decimal-requires t c κs = let s = c .before .before .before in (omega (arith, s .pre .0), tens-room (now (s .args .out)) _ _ (c .before .if1 .left) (s .fits .v .fits) (s .pre .1))
 
--- src/writer.rt:40:17
 decimal-digit-requires-2 : (t : ℕ) → decimal-lts.Need-digit-requires-2 (
   digit-reads.Asked,
   digit-reads.Learnt,
@@ -95,7 +90,6 @@ behind t c =
     let s = i .before .before in
     last-room _ _ _ (i .if1 .left) (s .fits .v .fits) _ _ (d .decimal .ensures) (s .pre .1)
 
--- src/writer.rt:40:5
 decimal-slice-write-out-2 : (t : ℕ) → decimal-lts.Need-slice-write-out-2 (
   digit-reads.Asked,
   digit-reads.Learnt,
@@ -104,7 +98,6 @@ decimal-slice-write-out-2 : (t : ℕ) → decimal-lts.Need-slice-write-out-2 (
 ) (decimal-at t) decimal.Post
 decimal-slice-write-out-2 t c = omega (arith, behind t c)
 
--- src/writer.rt:41:5
 decimal-add-result-2 : (t : ℕ) → decimal-lts.Need-add-result-2 (
   digit-reads.Asked,
   digit-reads.Learnt,
@@ -113,7 +106,6 @@ decimal-add-result-2 : (t : ℕ) → decimal-lts.Need-add-result-2 (
 ) (decimal-at t) decimal.Post
 decimal-add-result-2 t c = omega (arith, behind t c, c .before .before .before .decimal .kept .0)
 
--- src/writer.rt:31:1
 decimal-same-length-2 : (t : ℕ) → decimal-lts.Need-same-length-2 (
   digit-reads.Asked,
   digit-reads.Learnt,
@@ -122,7 +114,6 @@ decimal-same-length-2 : (t : ℕ) → decimal-lts.Need-same-length-2 (
 ) (decimal-at t) decimal.Post
 decimal-same-length-2 t c = simp length-set (c .before .before .before .decimal .kept .0)
 
--- src/writer.rt:31:1
 decimal-returns-2 : (t : ℕ) → decimal-lts.Need-returns-2 (
   digit-reads.Asked,
   digit-reads.Learnt,

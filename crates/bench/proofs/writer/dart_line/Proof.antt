@@ -1,56 +1,44 @@
+-- `bench::writer::dart_line` meets its contract: its six parts are the line.
+-- Assumes nothing.
 use Prim.Native.Nat.{ℕ, _+_}
 use mathlib.Core.Path.{_≡_}
 use native.Mathlib.Omega.{arith}
 use lib.ListN.{length}
+use borrow.Author.Needs.{needs}
 use Rattle.model.specs.Answer.{number}
 use Rattle.model.specs.Bench.{shown, dartLine}
 use Rattle.model.specs.declared.Answer.{Answer}
-use Rattle.bench.specs.declared.answer.Values.{Values}
 use Rattle.bench.proofs.LineLaws.{digits, dart-length, dart-put}
-use borrow.Author.Needs.{needs}
+use Rattle.bench.specs.declared.answer.Values.{Values}
 use Rattle.bench.proofs.writer.dart_line.Statement.{statement}
 use Rattle.bench.proofs.writer.dart_line.Tie as tie
-use Rattle.bench.proofs.writer.dart_line.Reads as reads
-use Rattle.bench.proofs.writer.dart_line.Lts as lts
-use Rattle.bench.proofs.answer.number.Reads as number-reads
-use Rattle.bench.proofs.answer.shown.Reads as shown-reads
-use Rattle.bench.proofs.writer.decimal.Reads as decimal-reads
-use Rattle.bench.proofs.writer.field.Reads as field-reads
-use Rattle.bench.proofs.writer.text.Reads as text-reads
 
 -- the length of the line, by the numbers that were asked for
 whole : (d : ℕ) (a : Answer) (k : ℕ) (v : Values) → k ≡ number a → (v .orbit ≡ shown a 0) × (v .added ≡ shown a 1) × (v .deleted ≡ shown a 2)
     → length (dartLine d a) ≡ digits d + digits k + digits (v .orbit) + digits (v .added) + digits (v .deleted) + 5
 whole d a k v x y = rw (x, y .0, y .1, y .2) (dart-length d a)
 
--- src/writer.rt:57:9
 shown-requires : tie.Need-shown-requires
 shown-requires c κs = search needs
 
--- src/writer.rt:58:9
 decimal-requires : tie.Need-decimal-requires
 decimal-requires c κs = let s = c .before .before .before in omega (arith, s .pre, dart-length (s .args .dart) (s .args .a))
 
--- src/writer.rt:59:36
 slice-aggregate-field : tie.Need-slice-aggregate-field
 slice-aggregate-field c = search needs
 
--- src/writer.rt:59:42
 number-requires : tie.Need-number-requires
 number-requires c κs = search needs
 
--- src/writer.rt:59:9
 field-requires : tie.Need-field-requires
 field-requires c κs =
     let d = c .before .before .before .before .before in
     let s = d .before .before .before .before in
     omega (arith, s .pre, d .decimal .ensures .after, d .decimal .kept .0, whole (s .args .dart) (s .args .a) (c .number .result) (d .before .before .shown .result) (c .number .ensures) (d .before .before .shown .ensures))
 
--- src/writer.rt:60:36
 slice-aggregate-field-2 : tie.Need-slice-aggregate-field-2
 slice-aggregate-field-2 c = search needs
 
--- src/writer.rt:60:9
 field-requires-2 : tie.Need-field-requires-2
 field-requires-2 c κs =
     let f = c .before .before .before .before in
@@ -59,11 +47,9 @@ field-requires-2 c κs =
     let e = whole (s .args .dart) (s .args .a) (f .before .number .result) (d .before .before .shown .result) (f .before .number .ensures) (d .before .before .shown .ensures) in
     omega (arith, s .pre, e, f .field .ensures .after, f .field .kept .0, d .decimal .ensures .after, d .decimal .kept .0)
 
--- src/writer.rt:61:36
 slice-aggregate-field-3 : tie.Need-slice-aggregate-field-3
 slice-aggregate-field-3 c = search needs
 
--- src/writer.rt:61:9
 field-requires-3 : tie.Need-field-requires-3
 field-requires-3 c κs =
     let g = c .before .before .before .before in
@@ -73,11 +59,9 @@ field-requires-3 c κs =
     let e = whole (s .args .dart) (s .args .a) (f .before .number .result) (d .before .before .shown .result) (f .before .number .ensures) (d .before .before .shown .ensures) in
     omega (arith, s .pre, e, g .field2 .ensures .after, g .field2 .kept .0, f .field .ensures .after, f .field .kept .0, d .decimal .ensures .after, d .decimal .kept .0)
 
--- src/writer.rt:62:36
 slice-aggregate-field-4 : tie.Need-slice-aggregate-field-4
 slice-aggregate-field-4 c = search needs
 
--- src/writer.rt:62:9
 field-requires-4 : tie.Need-field-requires-4
 field-requires-4 c κs =
     let h = c .before .before .before .before in
@@ -88,11 +72,9 @@ field-requires-4 c κs =
     let e = whole (s .args .dart) (s .args .a) (f .before .number .result) (d .before .before .shown .result) (f .before .number .ensures) (d .before .before .shown .ensures) in
     omega (arith, s .pre, e, h .field3 .ensures .after, h .field3 .kept .0, g .field2 .ensures .after, g .field2 .kept .0, f .field .ensures .after, f .field .kept .0, d .decimal .ensures .after, d .decimal .kept .0)
 
--- src/writer.rt:63:22
 slice-aggregate-text : tie.Need-slice-aggregate-text
 slice-aggregate-text c = search needs
 
--- src/writer.rt:63:5
 text-requires : tie.Need-text-requires
 text-requires c κs =
     let i = c .before .before .before .before in
@@ -104,11 +86,9 @@ text-requires c κs =
     let e = whole (s .args .dart) (s .args .a) (f .before .number .result) (d .before .before .shown .result) (f .before .number .ensures) (d .before .before .shown .ensures) in
     omega (arith, s .pre, e, i .field4 .ensures .after, i .field4 .kept .0, h .field3 .ensures .after, h .field3 .kept .0, g .field2 .ensures .after, g .field2 .kept .0, f .field .ensures .after, f .field .kept .0, d .decimal .ensures .after, d .decimal .kept .0)
 
--- src/writer.rt:53:1
 same-length : tie.Need-same-length
 same-length c = search needs
 
--- src/writer.rt:53:1
 returns : tie.Need-returns
 returns c =
     let i = c .before .before .before .before .before .before .before in
