@@ -2,10 +2,10 @@
 -- Assumes nothing.
 use Prim.Native.Nat.{ℕ, _+_, _*_, _≤_, _<_}
 use mathlib.Core.Path.{_≡_, refl, sym, ap, ap₂, _∙_}
-use mathlib.Core.Bool.{Bool, true, false, cond, not}
+use mathlib.Core.Bool.{Bool, true, false, cond}
 use mathlib.Core.List.{List, _++_}
 use native.Mathlib.Omega.{arith}
-use lib.ListN.{length, drop}
+use lib.ListN.{length}
 use lib.Dec.{eqb, leb}
 use borrow.Author.Tests.{le-leb, lt-leb, eq-eqb, ne-eqb}
 use Rattle.base.specs.Test.{_and_, _or_}
@@ -16,8 +16,7 @@ use Rattle.base.proofs.ListLaws.{sets-start}
 use Rattle.model.specs.Answer.{number}
 use Rattle.model.specs.Map.{view, live, unused}
 use Rattle.model.specs.Calls.{sizesOk, readFault, readAnswer}
-use Rattle.model.specs.Bench.{refusedLine, lastLine, dartLine, mapLength, dartCount, framed, mapSlots, mapAnswer, tableAfter, runLines, printed}
-use Rattle.model.specs.declared.Answer.{Answer}
+use Rattle.model.specs.Bench.{refusedLine, lastLine, mapLength, framed, mapSlots, mapAnswer, tableAfter, runLines, printed}
 use Rattle.model.specs.declared.Answer.the-variants.{BadCall}
 use Rattle.file.specs.Places.{Put}
 use Rattle.file.proofs.PlaceLaws.{put-then}

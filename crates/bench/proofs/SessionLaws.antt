@@ -3,13 +3,13 @@
 use Prim.Native.Nat.{ℕ, _+_, _*_, _-_, _≤_, _<_}
 use mathlib.Core.Path.{_≡_, refl, sym, ap, ap₂, _∙_}
 use mathlib.Core.Bool.{Bool, true, false, cond}
-use mathlib.Core.List.{List, [], _++_}
+use mathlib.Core.List.{List}
 use native.Mathlib.Numerals.{add-one}
 use native.Mathlib.Omega.{arith}
 use lib.Dec.{eqb}
 use lib.ListN.{length, getD, take, drop, replicate, length-replicate, replicate-append-replicate}
 use lib.Seq.{getD-take, getD-drop, take-at}
-use Rattle.base.specs.Test.{_and_, bit}
+use Rattle.base.specs.Test.{_and_}
 use Rattle.base.specs.Below.{count}
 use Rattle.base.specs.Digits.{numberAt}
 use Rattle.base.specs.Lists.{joined}
@@ -21,12 +21,12 @@ use Rattle.model.specs.Bench.{mapLength, schemeLength, dartLine, dartAt, answer
 use Rattle.model.specs.declared.Answer.{Answer}
 use Rattle.model.proofs.AnswerLaws.{answers-same}
 use Rattle.file.specs.Places.{Put}
-use Rattle.file.proofs.PlaceLaws.{put-then, put-length}
+use Rattle.file.proofs.PlaceLaws.{put-then}
 use Rattle.kernel.specs.Promises.{FileRead, MapEdited}
 use Rattle.bench.specs.Input.{countAt, Laid}
 use Rattle.bench.specs.Session.{Asked, Stands, dartLines}
 use Rattle.bench.specs.declared.framing.Layout.{Layout}
-use Rattle.bench.proofs.FramingLaws.{count-of, map-length, scheme-length, dart-count}
+use Rattle.bench.proofs.FramingLaws.{count-of, map-length, scheme-length}
 use Rattle.bench.proofs.ShortLaws.{line-short}
 
 -- ---- the parts of the input

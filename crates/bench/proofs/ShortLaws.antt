@@ -1,32 +1,30 @@
 -- No line is long: the numbers of an edit's answer are small.
 -- Assumes nothing.
-use Prim.Native.Nat.{ℕ, _+_, _*_, _≤_, _<_}
+use Prim.Native.Nat.{ℕ, _*_, _≤_, _<_}
 use mathlib.Core.Path.{_≡_, refl, sym, ap, _∙_, subst}
-use mathlib.Core.Logic.{_⊎_, inl, inr, ⊎-elim}
-use mathlib.Core.Bool.{Bool, true, false, cond, not}
+use mathlib.Core.Logic.{_⊎_, ⊎-elim}
+use mathlib.Core.Bool.{Bool}
 use mathlib.Core.Option.{Option, none, some, Option·getD}
 use mathlib.Core.List.{List}
-use native.Mathlib.Nat.{mul-le-mul-left, mul-le-mul-right}
+use native.Mathlib.Nat.{mul-le-mul-left}
 use native.Mathlib.Omega.{arith}
 use lib.ListN.{length}
-use lib.Dec.{eqb}
-use borrow.Author.Tests.{leb-true, eqb-true, ne-eqb, eq-eqb, eqb-false}
-use Rattle.base.specs.Test.{_and_}
+use borrow.Author.Tests.{leb-true, ne-eqb}
 use Rattle.base.specs.First.{when, _orElse_}
 use Rattle.base.specs.Below.{count}
-use Rattle.base.proofs.TestLaws.{and-left, and-right, true-or-false}
+use Rattle.base.proofs.TestLaws.{and-left, and-right}
 use Rattle.base.proofs.BelowLaws.{count-le}
 use Rattle.base.proofs.FirstLaws.{or-else-cases, when-at}
-use Rattle.model.specs.Answer.{number, values}
+use Rattle.model.specs.Answer.{number}
 use Rattle.model.specs.Map.{view, unused}
-use Rattle.model.specs.Scheme.{schemeOf, nodesOf, added, deleted}
-use Rattle.model.specs.Conditions.{schemeFault, noted, hookFault, incidenceFault, cycleFault}
+use Rattle.model.specs.Scheme.{schemeOf, nodesOf, deleted}
+use Rattle.model.specs.Conditions.{schemeFault, noted, hookFault, incidenceFault}
 use Rattle.model.specs.Edit.{orbitSize, addedDarts, deletedDarts}
-use Rattle.model.specs.Calls.{sizesOk, bytesFault, roomFault, orbitOf, editFault, editAnswer}
-use Rattle.model.specs.Bench.{decimal, shown, dartLine, lastLine, refusedLine}
+use Rattle.model.specs.Calls.{bytesFault, roomFault, orbitOf, editFault, editAnswer}
+use Rattle.model.specs.Bench.{shown, dartLine, lastLine, refusedLine}
 use Rattle.model.specs.declared.Answer.{Answer}
 use Rattle.model.specs.declared.Answer.the-variants.{Done, Edited, Written, BadCall, BadForm, BadHook, BadIncidence, BadCycle, OtherDimension, BadTable, NoDart, NoMatch, NoRoom, BadFile, ShortOutput}
-use Rattle.model.proofs.CallLaws.{Granted, granted}
+use Rattle.model.proofs.CallLaws.{granted}
 use Rattle.model.proofs.SchemeLaws.{nodes-few}
 use Rattle.kernel.proofs.RefusalLaws.{cycle-number}
 use Rattle.bench.proofs.DecimalLaws.{decimal-short}

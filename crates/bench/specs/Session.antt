@@ -12,7 +12,7 @@ use Rattle.file.specs.Places.{Put}
 abbrev pub longest : ℕ
 longest = 23574
 
--- n and N are those of the map file, which has them
+-- n and N are those of the map file, and the kernel takes so many slots
 pub record Asked (b : List ℕ) (n N : ℕ) : Type 0 where
   pub dimension : n ≡ mapDimension b
   pub slots : N ≡ mapSlots b
@@ -33,7 +33,7 @@ pub record Printed (b out : List ℕ) (r : ℕ) (out′ : List ℕ) : Type 0 whe
   pub output : out′ ≡ printed b ++ drop r out
   pub few : r ≤ longest
 
--- the same, byte by byte
+-- the same as a run of stores
 pub record Wrote (b out : List ℕ) (r : ℕ) (out′ : List ℕ) : Type 0 where
   pub bytes : Put out 0 (printed b) out′ r
   pub short : r ≤ longest
