@@ -14,9 +14,6 @@ ghost use Prim.Native.Nat.{_≤_};
 ghost use lib.ListN.{length};
 ghost use Rattle.bench.specs.Session.{longest, Printed};
 
-// No output is longer: 1,024 lines of at most 23 bytes each, and a last one of at most 22.
-pub const OUTPUT: usize = 23574;
-
 // The words of a table and of a store for 1,024 slots.
 const TABLE: usize = 6144;
 

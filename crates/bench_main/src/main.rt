@@ -1,5 +1,5 @@
 // The bench program: standard input goes to `bench::run`, and what it prints to standard output.
-// The buffer is longer than any input in its framing, so that a longer input keeps a fault of its length.
+// Both buffers are longer than the longest input and output, so a longer input is read as too long, and is a framing fault.
 fn main() {
     let mut input = io::large_buffer();
     let mut out = io::large_buffer();

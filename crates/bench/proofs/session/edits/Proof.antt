@@ -1,11 +1,10 @@
 -- `bench::session::edits` meets its contract. The loop's invariant: the first k darts are edited, and their lines printed.
 -- Assumes nothing.
-use Prim.Native.Nat.{_+_, _*_, _-_, _≤_, _<_}
-use mathlib.Core.Path.{_≡_, refl, sym, ap, _∙_}
+use Prim.Native.Nat.{_*_, _-_, _≤_, _<_}
+use mathlib.Core.Path.{_≡_, refl, _∙_}
 use native.Mathlib.Omega.{arith}
 use lib.ListN.{length}
 use borrow.Author.Needs.{needs}
-use denote.Ref.{now}
 use Rattle.bench.proofs.SessionLaws.{Going, going-none, going-more, line-room}
 use Rattle.bench.proofs.session.edits.Statement.{statement}
 use Rattle.bench.proofs.session.edits.Tie as tie
