@@ -2,7 +2,6 @@
 mod answer;
 mod framing;
 mod session;
-mod temporary;
 mod writer;
 
 use file::cursor::Cursor;

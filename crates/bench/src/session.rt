@@ -1,7 +1,6 @@
 // A session on a map: it is read, edited at each dart in turn, and counted.
 use crate::answer::number;
 use crate::framing::Layout;
-use crate::temporary;
 use crate::writer::dart_line;
 use crate::writer::last_line;
 use crate::writer::refused_line;
@@ -35,7 +34,7 @@ fn load(input: &[u8], layout: Layout, n: u32, slots: u32, table: &mut [u32]) -> 
     ensures { λ r. ⌜ (r ≡ mapAnswer (now (input .entry))) × (now (table .exit) ≡ tableAfter (now (input .entry)) 0) ⌝ }
 {
     let end = 2 + layout.map;
-    temporary::read(n, slots, table, &input[2..end])
+    kernel::read(n, slots, table, &input[2..end])
 }
 
 // Edits the map at a dart.
@@ -55,7 +54,7 @@ fn edit(
 {
     let start = 4 + layout.map;
     let end = start + layout.scheme;
-    temporary::edit(n, slots, table, store, &input[start..end], dart)
+    kernel::edit(n, slots, table, store, &input[start..end], dart)
 }
 
 // Edits at each dart in turn, and prints a line for each.
