@@ -3,15 +3,15 @@
 use Prim.Native.Nat.{ℕ, zero, suc, _+_, _≤_, _<_}
 use mathlib.Core.Path.{_≡_, refl, sym, ap, ap₂, _∙_, subst}
 use mathlib.Core.Logic.{_⊎_, inl, inr, ⊎-elim}
-use mathlib.Core.Bool.{Bool, true, false, false≢true, true≢false}
-use native.Mathlib.Nat.{not-suc-le-zero, le-of-suc-le-suc, eq-or-lt-of-le, eq-zero-or-pos, lt-of-not-le}
+use mathlib.Core.Bool.{Bool, true, false, not, false≢true, true≢false}
+use native.Mathlib.Nat.{not-suc-le-zero, le-of-suc-le-suc, eq-or-lt-of-le, eq-zero-or-pos, lt-of-not-le, add-zero}
 use native.Mathlib.Numerals.{add-one}
 use native.Mathlib.Omega.{arith}
 use lib.Dec.{leb, ltb}
 use borrow.Author.Tests.{leb-true, leb-false, ltb-true, ltb-false}
 use Rattle.base.specs.Test.{_and_, _or_, bit}
 use Rattle.base.specs.Below.{all, any, count}
-use Rattle.base.proofs.TestLaws.{and-left, and-right, or-cases, or-left, or-right, true-or-false}
+use Rattle.base.proofs.TestLaws.{and-left, and-right, and-of, or-cases, or-left, or-right, true-or-false}
 
 pub below-suc : {k n : ℕ} → k < suc n → (k ≡ n) ⊎ (k < n)
 below-suc h = eq-or-lt-of-le (le-of-suc-le-suc h)
@@ -27,9 +27,10 @@ unfolding all _and_
 all-of zero p f = refl
 all-of (suc n) p f = rw (all-of n p (λ k h. f k (omega arith))) (f n (omega arith))
 
--- one number that has not p is enough
-pub all-not : (n : ℕ) (p : ℕ → Bool) (k : ℕ) → k < n → p k ≡ false → false ≡ all n p
-all-not n p k h e = ⊎-elim (λ t. absurd (true≢false (sym (all-at n p t k h) ∙ e))) (λ t. sym t) (true-or-false (all n p))
+pub all-same : (n : ℕ) (p q : ℕ → Bool) → ((k : ℕ) → k < n → p k ≡ q k) → all n p ≡ all n q
+unfolding all
+all-same zero p q f = refl
+all-same (suc n) p q f = ap₂ _and_ (all-same n p q (λ k h. f k (omega arith))) (f n (omega arith))
 
 pub any-at : (n : ℕ) (p : ℕ → Bool) → any n p ≡ true → (k : ℕ) × (k < n) × (p k ≡ true)
 unfolding any
@@ -132,8 +133,18 @@ count-zero (suc n) p f = ap₂ (λ (a : ℕ) (b : Bool). a + bit b) (count-zero 
 pub count-some : (n : ℕ) (p : ℕ → Bool) (k : ℕ) → k < n → p k ≡ true → 1 ≤ count n p
 count-some n p k h e = ⊎-elim (λ z. absurd (true≢false (sym e ∙ count-none n p z k h))) (λ l. l) (eq-zero-or-pos (count n p))
 
+-- those that have p and those that have not are all
+pub count-not : (n : ℕ) (p : ℕ → Bool) → count n (λ k. not (p k)) + count n p ≡ n
+unfolding count
+count-not zero p = refl
+count-not (suc n) p = go (p n) (count-not n p)
+  where
+    go : (b : Bool) → count n (λ k. not (p k)) + count n p ≡ n → count n (λ k. not (p k)) + bit (not b) + (count n p + bit b) ≡ suc n
+    go true h = omega arith
+    go false h = omega arith
+
 -- tests that agree are counted equally often
-pub count-same : (n : ℕ) (p q : ℕ → Bool) → ((k : ℕ) → k < n → q k ≡ p k) → count n q ≡ count n p
+pub count-same : (n : ℕ) (p q : ℕ → Bool) → ((k : ℕ) → k < n → p k ≡ q k) → count n p ≡ count n q
 unfolding count
 count-same zero p q f = refl
 count-same (suc n) p q f = ap₂ (λ (a : ℕ) (b : Bool). a + bit b) (count-same n p q (λ k h. f k (omega arith))) (f n (omega arith))
@@ -144,7 +155,7 @@ pub count-one-more : (n : ℕ) (p q : ℕ → Bool) (k : ℕ) → k < n → p k 
 unfolding count
 count-one-more zero p q k h e g f = absurd (not-suc-le-zero h)
 count-one-more (suc n) p q k h e g f = ⊎-elim
-    (λ w. here (p n) (q n) (ap p (sym w) ∙ e) (ap q (sym w) ∙ g) (count-same n p q (λ j l. f j (omega arith) (λ u. absurd (omega arith)))))
+    (λ w. here (p n) (q n) (ap p (sym w) ∙ e) (ap q (sym w) ∙ g) (count-same n q p (λ j l. f j (omega arith) (λ u. absurd (omega arith)))))
     (λ w. past (p n) (q n) (f n (omega arith) (λ u. absurd (omega arith))) (count-one-more n p q k w e g (λ j l. f j (omega arith))))
     (below-suc h)
   where
@@ -160,6 +171,9 @@ count-room n p k h e = lt-of-not-le (λ l. true≢false (sym (count-full n p l k
 
 -- ---- a loop's step: the numbers below i + 1 are those below i, and i
 
+pub below-step : {k i : ℕ} → k < i + 1 → (k ≡ i) ⊎ (k < i)
+below-step {k} {i} h = below-suc (subst (λ (n : ℕ). k < n) (add-one i) h)
+
 pub all-step : (i : ℕ) (p : ℕ → Bool) → all (i + 1) p ≡ (all i p and p i)
 unfolding all
 all-step i p = rw add-one refl
@@ -171,6 +185,10 @@ any-step i p = rw add-one refl
 pub count-step : (i : ℕ) (p : ℕ → Bool) → count (i + 1) p ≡ count i p + bit (p i)
 unfolding count
 count-step i p = rw add-one refl
+
+-- one that fails is enough
+pub all-not : (n : ℕ) (p : ℕ → Bool) (k : ℕ) → k < n → p k ≡ false → all n p ≡ false
+all-not n p k h e = ⊎-elim (λ a. absurd (true≢false (sym (all-at n p a k h) ∙ e))) (λ a. a) (true-or-false (all n p))
 
 -- ---- as many below
 
@@ -209,3 +227,47 @@ count-reaches p (suc n) k h = go (p n) refl h (count-reaches p n k)
         one : (b : Bool) → k < count n p + bit b → count n p ≤ k → (b ≡ true) × (count n p ≡ k)
         one true u v = (refl, omega arith)
         one false u v = absurd (omega arith)
+
+-- no fewer are counted below a greater bound
+pub count-up : (p : ℕ → Bool) (j k : ℕ) → j ≤ k → count j p ≤ count k p
+unfolding count
+count-up p zero zero h = omega arith
+count-up p (suc j) zero h = absurd (not-suc-le-zero h)
+count-up p j (suc k) h = ⊎-elim
+    (λ w. subst (λ (z : ℕ). count z p ≤ count k p + bit (p k)) (sym w) (omega arith))
+    (λ (w : j < suc k). let r = count-up p j k (le-of-suc-le-suc w) in omega arith)
+    (eq-or-lt-of-le h)
+
+-- where fewer are counted, the bound is lower
+pub count-under : (p : ℕ → Bool) (j k : ℕ) → count j p < count k p → j < k
+count-under p j k h = ⊎-elim
+    (λ t. let r = count-up p k j (leb-true k j t) in absurd (omega arith))
+    (λ t. leb-false k j t)
+    (true-or-false (leb k j))
+
+-- as many are counted below two bounds between which none has p
+pub count-gap : (p : ℕ → Bool) (j k : ℕ) → j ≤ k → ((z : ℕ) → j ≤ z → z < k → p z ≡ false) → count k p ≡ count j p
+unfolding count
+count-gap p zero zero h f = refl
+count-gap p (suc j) zero h f = absurd (not-suc-le-zero h)
+count-gap p j (suc k) h f = ⊎-elim
+    (λ w. ap (λ (z : ℕ). count z p) (sym w))
+    (λ (w : j < suc k). let l = le-of-suc-le-suc w in
+    ap₂ (λ (a : ℕ) (b : Bool). a + bit b) (count-gap p j k l (λ z g i. f z g (omega arith))) (f k l (omega arith)) ∙ add-zero (count j p))
+    (eq-or-lt-of-le h)
+
+-- ---- a loop that tests each number in turn, and stops at the first that fails
+
+module _ (p : ℕ → Bool) where
+  pub all-none : all 0 p ≡ true
+  unfolding all
+  all-none = refl
+
+  pub all-more : (i : ℕ) → all i p ≡ true → p i ≡ true → all (i + 1) p ≡ true
+  all-more i e f = all-step i p ∙ and-of e f
+
+  pub all-stops : (i n : ℕ) → i < n → p i ≡ false → false ≡ all n p
+  all-stops i n h e = sym (all-not n p i h e)
+
+  pub all-ends : (i n : ℕ) → all i p ≡ true → i ≤ n → n ≤ i → true ≡ all n p
+  all-ends i n e h k = let same : i ≡ n = omega arith in sym (rw same at e)

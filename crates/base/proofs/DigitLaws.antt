@@ -1,9 +1,9 @@
 -- Laws of numbers in bytes, over the width: what is put together is taken apart, and the other way round.
 -- Assumes nothing.
 use Prim.Native.Nat.{ℕ, zero, suc, _+_, _*_, _/_, _%_, _^_, _≤_, _<_}
-use mathlib.Core.Path.{_≡_, refl, sym, ap, ap₂, _∙_, subst}
-use mathlib.Core.List.{List, [], _∷_, _++_}
-use native.Mathlib.Nat.{zero-add, suc-add, add-zero, pow-zero, pow-suc, pow-succ', one-mul, mul-assoc, div-div-eq-div-mul, div-one, div-lt-iff-lt-mul}
+use mathlib.Core.Path.{_≡_, refl, ap, _∙_}
+use mathlib.Core.List.{List, _∷_, _++_}
+use native.Mathlib.Nat.{zero-add, suc-add, add-zero, pow-zero, pow-suc, pow-succ', mul-assoc, div-div-eq-div-mul, div-one, div-lt-iff-lt-mul}
 use native.Mathlib.Numerals.{add-one}
 use native.Mathlib.Omega.{arith}
 use lib.ListN.{length, getD, take, drop}

@@ -4,15 +4,17 @@ use Prim.Native.Nat.{ℕ, zero, suc, _+_, _<_}
 use mathlib.Core.Path.{_≡_, refl, sym, ap, ap₂, _∙_}
 use mathlib.Core.Logic.{_⊎_, inl, inr, ⊎-elim}
 use mathlib.Core.Bool.{Bool, true, false, false≢true, true≢false}
-use mathlib.Core.Option.{Option, none, some}
+use mathlib.Core.Option.{Option, none, some, Option·getD}
 use native.Mathlib.Nat.{not-suc-le-zero}
 use native.Mathlib.Numerals.{add-one}
 use native.Mathlib.Omega.{arith}
+use lib.Dec.{eqb}
 use borrow.Author.Tests.{eqb-true, eq-eqb}
+use Rattle.base.specs.Test.{_and_}
 use Rattle.base.specs.Below.{count}
 use Rattle.base.specs.First.{when, _orElse_, there, first, least, nth}
 use Rattle.base.proofs.TestLaws.{and-left, and-right, and-of}
-use Rattle.base.proofs.BelowLaws.{below-suc, count-reaches}
+use Rattle.base.proofs.BelowLaws.{below-suc, count-same, count-injective, count-reaches}
 
 module _ {A : Type 0} where
   pub or-else-cases : (o r : Option A) (a : A) → o orElse r ≡ some a → (o ≡ some a) ⊎ ((o ≡ none) × (r ≡ some a))
@@ -51,6 +53,27 @@ module _ {A : Type 0} where
   unfolding _orElse_
   or-else-none none r e = (refl, e)
   or-else-none (some b) r e = absurd (some-not-none {o = some b} {a = b} refl e)
+
+  -- what comes second is asked only where the first is not there
+  pub or-else-same : {o u : Option A} (r v : Option A) → o ≡ u → (o ≡ none → r ≡ v) → o orElse r ≡ u orElse v
+  unfolding _orElse_
+  or-else-same {o} {u} r v e f = go o f ∙ ap (λ (z : Option A). z orElse v) e
+    where
+      go : (o : Option A) → (o ≡ none → r ≡ v) → o orElse r ≡ o orElse v
+      go none f = f refl
+      go (some a) f = refl
+
+  pub getD-same : {o u : Option A} (a b : A) → o ≡ u → (o ≡ none → a ≡ b) → Option·getD o a ≡ Option·getD u b
+  getD-same {o} {u} a b e f = go o f ∙ ap (λ (z : Option A). Option·getD z b) e
+    where
+      go : (o : Option A) → (o ≡ none → a ≡ b) → Option·getD o a ≡ Option·getD o b
+      go none f = f refl
+      go (some c) f = refl
+
+  pub or-else-last : (o : Option A) → o orElse none ≡ o
+  unfolding _orElse_
+  or-else-last none = refl
+  or-else-last (some a) = refl
 
   -- where `first` gives nothing, no number does
   pub first-none : (n : ℕ) (f : ℕ → Option A) → first n f ≡ none → (k : ℕ) → k < n → f k ≡ none
@@ -121,10 +144,37 @@ unfolding least when
 least-only n p k h e only =
     first-only n (λ x. when (p x) x) k k h (rw e refl) (λ j b l q. let w = when-at (p j) q in sym (w .1) ∙ only j l (w .0))
 
+pub least-same : (n : ℕ) (p q : ℕ → Bool) → ((k : ℕ) → k < n → p k ≡ q k) → least n p ≡ least n q
+unfolding least
+least-same n p q f = first-same n (λ x. when (p x) x) (λ x. when (q x) x) (λ k h. ap (λ (b : Bool). when b k) (f k h))
+
 module _ {A : Type 0} where
   pub first-step : (i : ℕ) (f : ℕ → Option A) → first (i + 1) f ≡ first i f orElse f i
   unfolding first
   first-step i f = rw add-one refl
+
+-- ---- a search that counts up: what it knows while it finds nothing, and what it has found where it stops
+
+module _ {A : Type 0} where
+  pub first-more : (k : ℕ) (f : ℕ → Option A) → first k f ≡ none → f k ≡ none → first (k + 1) f ≡ none
+  unfolding _orElse_
+  first-more k f e h = first-step k f ∙ rw e h
+
+  pub first-hit : (n : ℕ) (f : ℕ → Option A) (k : ℕ) (a : A) → k < n → first k f ≡ none → f k ≡ some a → first n f ≡ some a
+  unfolding first _orElse_
+  first-hit zero f k a h e q = absurd (not-suc-le-zero h)
+  first-hit (suc n) f k a h e q = ⊎-elim
+      (λ w. let z : first n f ≡ none = ap (λ (y : ℕ). first y f) (sym w) ∙ e in rw z (ap f (sym w) ∙ q))
+      (λ w. let z : first n f ≡ some a = first-hit n f k a w e q in rw z)
+      (below-suc h)
+
+pub least-more : (k : ℕ) (p : ℕ → Bool) → least k p ≡ none → p k ≡ false → least (k + 1) p ≡ none
+unfolding least when
+least-more k p e f = first-more k (λ x. when (p x) x) e (rw f)
+
+pub least-hit : (n : ℕ) (p : ℕ → Bool) (k : ℕ) → k < n → least k p ≡ none → p k ≡ true → least n p ≡ some k
+unfolding least when
+least-hit n p k h e f = first-hit n (λ x. when (p x) x) k k h e (rw f)
 
 -- ---- the k-th lowest
 
@@ -139,3 +189,12 @@ unfolding nth least when
 nth-found n p k h =
     let r = count-reaches p n k h in
     first-of n _ (r .0) (r .0) (r .1) (ap (λ (b : Bool). when b (r .0)) (and-of (r .2) (eq-eqb _ _ (r .3))))
+
+pub nth-same : (n : ℕ) (p q : ℕ → Bool) (k : ℕ) → ((x : ℕ) → x < n → p x ≡ q x) → nth n p k ≡ nth n q k
+unfolding nth least
+nth-same n p q k f = first-same n _ _ (λ x h. ap₂ (λ (a : Bool) (c : ℕ). when (a and eqb c k) x) (f x h) (count-same x p q (λ y l. f y (omega arith))))
+
+pub nth-is : (n : ℕ) (p : ℕ → Bool) (k x : ℕ) → x < n → p x ≡ true → count x p ≡ k → nth n p k ≡ some x
+unfolding nth
+nth-is n p k x h e c = least-only n _ x h (and-of e (eq-eqb _ _ c))
+    (λ j l q. count-injective p j x (and-left _ _ q) e (eqb-true _ _ (and-right _ _ q) ∙ sym c))

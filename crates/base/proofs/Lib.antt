@@ -1,5 +1,10 @@
 pub mod TestLaws
+pub mod DigitLaws
 pub mod BelowLaws
 pub mod FirstLaws
 pub mod ListLaws
-pub mod DigitLaws
+pub mod StepLaws
+pub mod RowLaws
+pub mod BinaryLaws
+pub mod FilledLaws
+pub mod AscentLaws

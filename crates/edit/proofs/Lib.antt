@@ -1,2 +1,15 @@
 pub mod StoreLaws
 pub mod WalkLaws
+pub mod LinkLaws
+pub mod WriteLaws
+pub mod EditedLaws
+pub mod ColumnLaws
+pub mod GrantLaws
+pub mod BlockLaws
+pub mod GiveLaws
+pub mod ArcTestLaws
+pub mod PlacedLaws
+pub mod GrownLaws
+pub mod MatchedLaws
+pub mod RootedLaws
+pub mod ApplyLaws

@@ -1,16 +1,17 @@
 -- What stands in the store after one word of it was set, after a slot took a place, and after all marks were cleared.
 -- Assumes nothing.
 use Prim.Native.Nat.{ℕ, _+_, _*_, _-_, _≤_, _<_}
-use mathlib.Core.Path.{_≡_, sym, ap, _∙_}
+use mathlib.Core.Path.{_≡_, refl, sym, ap, _∙_}
 use mathlib.Core.Logic.{_≢_, by-cases}
 use mathlib.Core.Bool.{true, false}
 use mathlib.Core.List.{List}
 use native.Mathlib.Decide.{ℕ-discrete, decLt}
 use native.Mathlib.Omega.{arith}
-use lib.Dec.{ltb}
+use lib.Dec.{leb, ltb}
 use lib.ListN.{length, getD, set, drop, replicate, length-set, length-append, length-replicate, length-drop, getD-replicate, List·getD-append}
 use lib.Seq.{getD-set-same, getD-set-other}
 use borrow.Author.Tests.{lt-ltb, le-ltb, le-leb, ltb-true, leb-true}
+use Rattle.base.specs.Test.{_and_}
 use Rattle.base.specs.Below.{count}
 use Rattle.base.proofs.TestLaws.{and-left, and-right, and-of, same-test}
 use Rattle.base.proofs.BelowLaws.{count-same, count-one-more, count-room, count-zero}
@@ -47,6 +48,21 @@ module _ (s : List ℕ) (size x : ℕ) where
   unfolding among
   among-of h k = and-of (lt-ltb 0 (mark s x) h) (le-leb (mark s x) size k)
 
+-- ---- whether a slot stands at one of the first `size` places, test by test
+
+module _ (s : List ℕ) (size x e : ℕ) (q : e ≡ getD s x 0) where
+  pub among-no : e ≡ 0 → false ≡ among s size x
+  unfolding among mark _and_
+  among-no z = rw (← q, le-ltb 0 e (omega arith)) refl
+
+  pub among-up : (e ≡ 0 → ⊥) → leb e size ≡ among s size x
+  unfolding among mark _and_
+  among-up n = rw (← q, lt-ltb 0 e (omega arith)) refl
+
+pub among-same : (s s′ : List ℕ) (size x : ℕ) → mark s x ≡ mark s′ x → among s size x ≡ among s′ size x
+unfolding among
+among-same s s′ size x e = ap (λ (k : ℕ). ltb 0 k and leb k size) e
+
 pub mark-le : (N : ℕ) (s : List ℕ) (end : ℕ) → Taken N s end → (x : ℕ) → x < N → mark s x ≤ end
 mark-le N s end t x l = by-cases (decLt 0 (mark s x)) (λ h. t .found x l h .0) (λ h. omega arith)
 
@@ -79,7 +95,7 @@ module _ (N : ℕ) (s : List ℕ) (i v : ℕ) (behind : 2 * N ≤ i) where
             let mx : mark (set s i v) x ≡ mark s x = mark-set-behind x h in
             let f = t .found x h (omega arith) in
             (omega (arith, f .0), ap (λ (z : ℕ). place N (set s i v) (z - 1)) mx ∙ at (mark s x - 1) (omega (arith, f .0)) ∙ f .1);
-        total = count-same N (marked s) (marked (set s i v)) (λ x h. ap (ltb 0) (mark-set-behind x h)) ∙ t .total;
+        total = count-same N (marked (set s i v)) (marked s) (λ x h. ap (ltb 0) (mark-set-behind x h)) ∙ t .total;
       }
 
 -- ---- a place more

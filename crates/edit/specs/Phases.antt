@@ -2,28 +2,17 @@
 -- Assumes nothing.
 use Prim.Native.Nat.{ℕ, _+_, _*_, _≤_, _<_}
 use mathlib.Core.Path.{_≡_}
-use mathlib.Core.Logic.{_⊎_}
 use mathlib.Core.Bool.{Bool, true}
 use mathlib.Core.List.{List}
 use lib.ListN.{length, getD}
 use Rattle.model.specs.Map.{Map}
-use Rattle.model.specs.Scheme.{Side, left, has, added}
-use Rattle.model.specs.Conditions.{Arc, absent, explicit, implicit, arcAt}
+use Rattle.model.specs.Scheme.{left, has, added}
+use Rattle.model.specs.Conditions.{explicit, arcAt}
 use Rattle.model.specs.Match.{image}
 use Rattle.model.specs.Edit.{dartOf}
 use Rattle.model.specs.declared.Scheme.{Scheme}
 use Rattle.table.specs.Words.{wordAt}
 use Rattle.edit.specs.Store.{place, dartAt}
-
--- an arc as one byte: the node of an explicit one, 16 + the position of an implicit one, 255 for none
-abbrev pub arcCode : Arc → ℕ
-arcCode absent = 255
-arcCode (explicit t) = t
-arcCode (implicit p) = 16 + p
-
--- the arcs of a side: the code of node s at dimension i stands at 4 × s + i
-pub record Coded (S : Scheme) (side : Side) (codes : List ℕ) : Type 0 where
-  pub at : (s i : ℕ) → s < S .nodes → i < 4 → getD codes (4 * s + i) 255 ≡ arcCode (arcAt S side s i)
 
 -- a tree of left arcs over all left nodes: entry k is a node that an arc joins to the node of an earlier entry
 pub record Rooted (S : Scheme) (size : ℕ) (node parent dim : List ℕ) : Type 0 where

@@ -1,8 +1,8 @@
 -- The tests of a file's form: what each says where the code stops, and what they say together.
 -- Assumes nothing.
 use Prim.Native.Nat.{ℕ, zero, suc, _+_, _*_, _≤_, _<_}
-use mathlib.Core.Path.{_≡_, refl, sym, ap, _∙_, subst}
-use mathlib.Core.Logic.{⊎-elim}
+use mathlib.Core.Path.{_≡_, refl, sym, ap, ap₂, _∙_}
+use mathlib.Core.Logic.{_⊎_, inl, inr, ⊎-elim}
 use mathlib.Core.Bool.{Bool, true, false, not, true≢false}
 use mathlib.Core.List.{List}
 use native.Mathlib.Numerals.{add-one}
@@ -13,11 +13,17 @@ use borrow.Author.Tests.{eqb-true, eq-eqb, ne-eqb, ltb-true, lt-ltb, le-ltb, not
 use Rattle.base.specs.Test.{_and_}
 use Rattle.base.specs.Below.{all}
 use Rattle.base.specs.Digits.{numberAt}
-use Rattle.base.proofs.TestLaws.{and-left, and-right, and-of, true-or-false}
-use Rattle.base.proofs.BelowLaws.{below-suc, all-at, all-of, all-not, all-step}
+use Rattle.base.proofs.DigitLaws.{number-join}
+use Rattle.base.proofs.TestLaws.{and-left, and-right, and-of, and-assoc, true-or-false}
+use Rattle.base.proofs.BelowLaws.{below-suc, all-at, all-of, all-stops, all-step}
 use Rattle.model.specs.File.{twoAt, fourAt, fileForm}
 use Rattle.file.specs.Form.{headOk, countsOk, frameOk, framed, slotOf, lowest, slotsOk}
+use Rattle.file.specs.Records.{Formed}
 use Rattle.file.specs.declared.form.Framing.the-variants.{Darts, Broken}
+
+pub three-le : {n : ℕ} → (n ≡ 2) ⊎ (n ≡ 3) → n ≤ 3
+three-le (inl e) = omega arith
+three-le (inr e) = omega arith
 
 -- ---- two numbers that are to be two others
 
@@ -35,6 +41,10 @@ module _ (n N : ℕ) (b : List ℕ) where
   refuted : {t : Bool} → (frameOk n N b ≡ true → t ≡ true) → t ≡ false → Broken ≡ framed n N b
   unfolding framed
   refuted f e = ⊎-elim (λ w. absurd (true≢false (sym (f w) ∙ e))) (λ w. rw w refl) (true-or-false (frameOk n N b))
+
+  pub frame-length : frameOk n N b ≡ true → length b ≡ 9 + numberAt 2 b 3 * (6 + 2 * (n + 1))
+  unfolding frameOk
+  frame-length t = eqb-true _ _ (and-right _ _ t)
 
   pub frame-short : length b < 9 → Broken ≡ framed n N b
   unfolding frameOk
@@ -85,7 +95,7 @@ module _ (N : ℕ) (b : List ℕ) where
   module _ (k x : ℕ) (e : x ≡ slotOf b k) where
     pub slots-out : (L : ℕ) → k < L → N ≤ x → false ≡ slotsOk N b L
     unfolding slotsOk _and_
-    slots-out L h l = all-not L _ k h (rw (← e, le-ltb x N l) refl)
+    slots-out L h l = all-stops _ k L h (rw (← e, le-ltb x N l) refl)
 
     pub slots-back : (L : ℕ) → k < L → x < lowest b k → false ≡ slotsOk N b L
     slots-back L h l = ⊎-elim (λ t. absurd (not-back k L h (rw (← e) l) t)) (λ t. sym t) (true-or-false (slotsOk N b L))
@@ -103,3 +113,35 @@ module _ (b : List ℕ) where
   pub lowest-more : (k x : ℕ) → x ≡ slotOf b k → x + 1 ≡ lowest b (k + 1)
   unfolding lowest
   lowest-more k x e = rw (add-one k, ← e) refl
+
+-- ---- the model's form
+
+-- the model's numbers are those of the general form
+module _ (n N : ℕ) (b : List ℕ) where
+  pub two-at : (at : ℕ) → numberAt 2 b at ≡ twoAt n N b at
+  unfolding numberAt
+  two-at at = omega arith
+
+  pub four-at : (at : ℕ) → numberAt 4 b at ≡ fourAt n N b at
+  four-at at = number-join 2 2 b at ∙ ap₂ (λ (l h : ℕ). l + 65536 * h) (two-at at) (two-at (at + 2))
+
+  one-at : numberAt 1 b 0 ≡ getD b 0 0
+  unfolding numberAt
+  one-at = omega arith
+
+  pub form-is : fileForm n N b ≡ (frameOk n N b and slotsOk N b (numberAt 2 b 3))
+  unfolding fileForm frameOk headOk countsOk slotsOk slotOf
+  form-is =
+      ap₂ (λ (g : ℕ) (f : ℕ → ℕ). eqb g n and eqb (f 1) N and eqb (f (5 + 2 * f 3)) (f 3) and eqb (f (7 + 6 * f 3)) (f 3)
+      and eqb (length b) (9 + f 3 * (6 + 2 * (n + 1))) and all (f 3) (λ k. ltb (f (5 + 2 * k)) N and all k (λ o. ltb (f (5 + 2 * o)) (f (5 + 2 * k)))))
+      (sym one-at) (λ i at. sym (two-at at) i)
+      ∙ ap (λ (t : Bool). t and eqb (length b) (9 + numberAt 2 b 3 * (6 + 2 * (n + 1))) and slotsOk N b (numberAt 2 b 3)) (and-assoc _ _ _)
+
+  module _ (t : (frameOk n N b and slotsOk N b (numberAt 2 b 3)) ≡ true) where
+    pub formed : Formed n N b
+    unfolding slotsOk
+    formed = record {
+      size = frame-length n N b (and-left _ _ t);
+      below = λ k h. ltb-true _ _ (and-left _ _ (all-at (numberAt 2 b 3) _ (and-right _ _ t) k h));
+      ascends = λ j k l h. ltb-true _ _ (all-at k _ (and-right _ _ (all-at (numberAt 2 b 3) _ (and-right _ _ t) k h)) j l);
+    }

@@ -7,7 +7,7 @@ use native.Mathlib.Nat.{mul-le-mul-left}
 use native.Mathlib.Omega.{arith}
 use lib.ListN.{length, getD, set, length-append}
 use lib.Pow.{pow-add}
-use lib.Seq.{sets, length-sets}
+use lib.Seq.{length-sets}
 use Rattle.base.specs.Digits.{bytesOf, numberAt}
 use Rattle.base.proofs.DigitLaws.{length-bytes, number-join, bytes-join}
 use Rattle.base.proofs.ListLaws.{sets-sets}

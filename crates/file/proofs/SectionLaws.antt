@@ -122,6 +122,17 @@ length-section n m part = ap (λ (k : ℕ). suc (suc k)) (length-chosen (partSiz
 
 -- ---- a file
 
+-- what stands before a section, and what after it
+unfoldable pub fileBefore : ℕ → Map → Part → List ℕ
+fileBefore n m Slots = headBytes n (m .slots)
+fileBefore n m Tags = headBytes n (m .slots) ++ sectionBytes n m Slots
+fileBefore n m Links = headBytes n (m .slots) ++ sectionBytes n m Slots ++ sectionBytes n m Tags
+
+unfoldable pub fileAfter : ℕ → Map → Part → List ℕ
+fileAfter n m Slots = sectionBytes n m Tags ++ sectionBytes n m Links
+fileAfter n m Tags = sectionBytes n m Links
+fileAfter n m Links = []
+
 pub four-bytes : (v : ℕ) → fourBytes v ≡ bytesOf 4 v
 unfolding bytesOf
 four-bytes v =
@@ -144,25 +155,22 @@ module _ (n : ℕ) (m : Map) (h : n < 256) where
   length-file =
       rw (file-parts, length-append, length-append, length-append, length-section, length-section, length-section) (omega arith)
 
+  -- a file about one of its sections
+  pub file-split : (part : Part) → file n m ≡ fileBefore n m part ++ sectionBytes n m part ++ fileAfter n m part
+  unfolding fileBefore fileAfter
+  file-split Slots = file-parts ∙ append-assoc (headBytes n (m .slots) ++ sectionBytes n m Slots) _ _
+  file-split Tags = file-parts
+  file-split Links = file-parts ∙ sym (append-nil _)
+
   -- there is room for a section after what stands before it
-  pub section-room : (a : List ℕ) (part : Part) (r l : List ℕ) (l' : List ℕ) (p k : ℕ) → file n m ≡ a ++ sectionBytes n m part ++ r → k ≡ liveDarts n m
-      → length (file n m) ≤ length l → Put l 0 a l' p → p + 2 + partSize n part * k ≤ length l'
-  section-room a part r l l' p k e f fits x =
-      let len : length (file n m) ≡ length a + (2 + partSize n part * k) + length r = rw (e, f, length-append, length-append, length-section) in
-      rw (put-length l 0 a l' p x, x .after) (omega arith)
+  pub section-room : (part : Part) (k : ℕ) → k ≡ liveDarts n m → (l : List ℕ) → length (file n m) ≤ length l
+      → (l' : List ℕ) (p : ℕ) → Put l 0 (fileBefore n m part) l' p → p + 2 + partSize n part * k ≤ length l'
+  section-room part k f l fits l' p x =
+      let len : length (file n m) ≡ length (fileBefore n m part) + (2 + partSize n part * k) + length (fileAfter n m part)
+      = rw (file-split part, f, length-append, length-append, length-section) in
+      rw (put-length l 0 _ l' p x, x .after) (omega arith)
 
-  module _ (k : ℕ) (e : k ≡ liveDarts n m) (l : List ℕ) (fits : length (file n m) ≤ length l) where
-    pub room-slots : (l' : List ℕ) (p : ℕ) → Put l 0 (headBytes n (m .slots)) l' p → p + 2 + partSize n Slots * k ≤ length l'
-    room-slots l' p x = section-room _ Slots (sectionBytes n m Tags ++ sectionBytes n m Links) l l' p k
-        (file-parts ∙ append-assoc (headBytes n (m .slots) ++ sectionBytes n m Slots) _ _) e fits x
-
-    pub room-tags : (l' : List ℕ) (p : ℕ) → Put l 0 (headBytes n (m .slots) ++ sectionBytes n m Slots) l' p → p + 2 + partSize n Tags * k ≤ length l'
-    room-tags l' p x = section-room _ Tags _ l l' p k file-parts e fits x
-
-    pub room-links : (l' : List ℕ) (p : ℕ) → Put l 0 (headBytes n (m .slots) ++ sectionBytes n m Slots ++ sectionBytes n m Tags) l' p
-        → p + 2 + partSize n Links * k ≤ length l'
-    room-links l' p x = section-room _ Links [] l l' p k (file-parts ∙ sym (append-nil _)) e fits x
-
+  module _ (l : List ℕ) (fits : length (file n m) ≤ length l) where
     pub file-put : (l' : List ℕ) (p : ℕ) → Put l 0 (headBytes n (m .slots) ++ sectionBytes n m Slots ++ sectionBytes n m Tags ++ sectionBytes n m Links) l' p
         → l' ≡ file n m ++ drop (length (file n m)) l
     file-put l' p x = x .bytes ∙ ap (sets l 0) (sym file-parts) ∙ sets-start l (file n m) fits

@@ -1,3 +1,4 @@
 pub mod Places
 pub mod Sections
 pub mod Form
+pub mod Records

@@ -1,9 +1,7 @@
 // Whether bytes are a file for n and a number of slots: the frame, and that the slots ascend.
 use crate::cursor::Cursor;
 ghost use mathlib.Core.Path.{_≡_};
-ghost use mathlib.Core.Logic.{_⊎_};
-ghost use mathlib.Core.Bool.{true};
-ghost use Prim.Native.Nat.{_+_, _*_, _≤_, _<_};
+ghost use Prim.Native.Nat.{_+_, _*_, _≤_};
 ghost use lib.ListN.{length};
 ghost use Rattle.file.specs.Form.{headOk, countsOk, framed, slotsOk};
 
@@ -30,19 +28,15 @@ fn head(n: u32, slots: usize, b: &[u8]) -> bool
 
 // The tags and the links are as many as the slots.
 fn counts(b: &[u8], darts: usize) -> bool
-    requires { ⌜ (darts < 65536) × (9 + 6 * darts ≤ length (now b)) ⌝ }
+    requires { ⌜ 9 + 6 * darts ≤ length (now b) ⌝ }
     ensures { λ r. ⌜ r ≡ countsOk (now (b .entry)) darts ⌝ }
 {
-    let tags = Cursor {
-        at: 5 + 2 * darts,
-    };
+    let tags = Cursor { at: 5 + 2 * darts };
     let first = tags.two(b);
     if first.value as usize != darts {
         return false;
     }
-    let links = Cursor {
-        at: 7 + 6 * darts,
-    };
+    let links = Cursor { at: 7 + 6 * darts };
     let second = links.two(b);
     second.value as usize == darts
 }
@@ -71,7 +65,7 @@ pub fn frame(n: u32, slots: usize, b: &[u8]) -> Framing
 
 // Each slot is below the number of slots, and above the slot before it.
 pub fn ascending(slots: usize, b: &[u8], darts: usize) -> bool
-    requires { ⌜ (darts < 65536) × (5 + 2 * darts ≤ length (now b)) ⌝ }
+    requires { ⌜ 5 + 2 * darts ≤ length (now b) ⌝ }
     ensures { λ r. ⌜ r ≡ slotsOk slots (now (b .entry)) darts ⌝ }
 {
     let mut from = Cursor { at: 5 };

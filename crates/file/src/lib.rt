@@ -1,19 +1,46 @@
 // The map file: writing a map, and loading a file into a table. Whether the loaded map is well-formed is not asked here.
 pub mod cursor;
 mod form;
+mod records;
 mod sections;
 
+use form::Framing;
+use form::ascending;
+use form::frame;
+use records::fill;
+use sections::Part;
 use sections::head;
 use sections::section;
-use sections::Part;
+use table::words::clear;
 ghost use mathlib.Core.Path.{_≡_};
 ghost use mathlib.Core.Logic.{_⊎_};
 ghost use mathlib.Core.List.{_++_};
 ghost use Prim.Native.Nat.{_≤_};
 ghost use lib.ListN.{length, drop};
 ghost use Rattle.model.specs.Map.{view};
-ghost use Rattle.model.specs.File.{liveDarts, file};
+ghost use Rattle.model.specs.File.{liveDarts, file, fileForm};
 ghost use Rattle.table.specs.Words.{Sized};
+ghost use Rattle.file.specs.Records.{loaded};
+
+// The darts of a file in a table, all other records zero; or a table of zeros, where the bytes are no file for n and the number of slots.
+pub fn load(n: u32, slots: usize, table: &mut [u32], bytes: &[u8]) -> bool
+    requires { ⌜ (n ≡ 2) ⊎ (n ≡ 3) ⌝ }
+    requires { ⌜ Sized slots (now table) ⌝ }
+    ensures { λ r. ⌜ (r ≡ fileForm n slots (now (bytes .entry))) × (now (table .exit) ≡ loaded n slots (now (table .entry)) (now (bytes .entry))) ⌝ }
+{
+    clear(table);
+    let found = frame(n, slots, bytes);
+    match found {
+        Framing::Darts(darts) => {
+            if !ascending(slots, bytes, darts) {
+                return false;
+            }
+            fill(n, slots, table, bytes, darts);
+            true
+        }
+        Framing::Broken => false,
+    }
+}
 
 // The file of a map with `live` live darts, at the start of `out`.
 pub fn write(n: u32, slots: usize, table: &[u32], live: usize, out: &mut [u8])

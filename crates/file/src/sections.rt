@@ -46,7 +46,15 @@ fn links(n: u32, slots: usize, table: &[u32], x: usize, out: &mut [u8], from: Cu
 }
 
 // What a section has of x.
-fn dart(part: Part, n: u32, slots: usize, table: &[u32], x: usize, out: &mut [u8], from: Cursor) -> Cursor
+fn dart(
+    part: Part,
+    n: u32,
+    slots: usize,
+    table: &[u32],
+    x: usize,
+    out: &mut [u8],
+    from: Cursor,
+) -> Cursor
     requires { ⌜ (n ≡ 2) ⊎ (n ≡ 3) ⌝ }
     requires { ⌜ Sized slots (now table) ⌝ }
     requires { ⌜ (x < slots) × (from .at + partSize n part ≤ length (now out)) ⌝ }
@@ -70,7 +78,15 @@ pub fn head(n: u32, slots: usize, out: &mut [u8]) -> Cursor
 }
 
 // A section of a map with `live` live darts.
-pub fn section(part: Part, n: u32, slots: usize, table: &[u32], live: usize, out: &mut [u8], from: Cursor) -> Cursor
+pub fn section(
+    part: Part,
+    n: u32,
+    slots: usize,
+    table: &[u32],
+    live: usize,
+    out: &mut [u8],
+    from: Cursor,
+) -> Cursor
     requires { ⌜ (n ≡ 2) ⊎ (n ≡ 3) ⌝ }
     requires { ⌜ Sized slots (now table) ⌝ }
     requires { ⌜ live ≡ liveDarts n (view slots (now table)) ⌝ }

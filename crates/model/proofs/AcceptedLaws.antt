@@ -10,7 +10,7 @@ use lib.Dec.{eqb, leb}
 use borrow.Author.Tests.{eqb-true, eqb-false, eq-eqb, leb-true, le-leb, not-false}
 use Rattle.base.specs.Test.{_and_, _⇒_}
 use Rattle.base.specs.First.{when, _orElse_, there}
-use Rattle.base.proofs.TestLaws.{and-left, and-right, and-of, if-so, if-of, true-or-false}
+use Rattle.base.proofs.TestLaws.{and-left, and-right, and-of, or-left, or-right, if-so, if-of, true-or-false}
 use Rattle.base.proofs.BelowLaws.{all-at, all-of}
 use Rattle.base.proofs.FirstLaws.{some-not-none, when-none, or-else-none, first-none, first-none-of, least-none, least-none-of}
 use Rattle.model.specs.Scheme.{Side, left, right, kind, orbitDim, word, has, deleted, preserved, added}
@@ -49,6 +49,10 @@ module _ (S : Scheme) (f : Formed S) where
 
   pub kind-cases : (s : ℕ) → s < S .nodes → (deleted S s ≡ true) ⊎ ((preserved S s ≡ true) ⊎ (added S s ≡ true))
   kind-cases s h = let k = f .kinds s h in one-of-three (kind S s) (k .0) (k .1)
+
+  -- a node is on the left, or is added
+  pub left-or-added : (s : ℕ) → s < S .nodes → (has S left s ≡ true) ⊎ (added S s ≡ true)
+  left-or-added s h = ⊎-elim (λ e. inl (or-left _ e)) (⊎-elim (λ e. inl (or-right _ e)) (λ e. inr e)) (kind-cases s h)
 
   module _ (r : schemeFault S ≡ none) where
     no-hook : hookFault S ≡ none

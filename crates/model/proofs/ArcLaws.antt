@@ -11,7 +11,7 @@ use borrow.Author.Tests.{eqb-true, eq-eqb}
 use Rattle.base.specs.Below.{count}
 use Rattle.base.specs.First.{first, least, when, there}
 use Rattle.model.specs.Scheme.{Side, left, right, farEnd, orbitDim, word, arcs, arcPart, has, deleted, preserved, added}
-use Rattle.model.specs.Conditions.{absent, explicit, implicit, arcOf, arcAt, arcsOfDim, touches, far, reads, pathTo, cycleOk}
+use Rattle.model.specs.Conditions.{Arc, absent, explicit, implicit, arcOf, arcAt, arcsOfDim, touches, far, reads, pathTo, cycleOk}
 use Rattle.model.specs.Accepted.{SingleSide}
 use Rattle.model.specs.declared.Scheme.{Scheme}
 use Rattle.base.proofs.TestLaws.{and-left, and-right, and-of, or-cases, or-left, or-right, true-or-false}
@@ -118,3 +118,15 @@ module _ (S : Scheme) (side : Side) where
         let back = explicit-at (arcPart S side a 1) (arcPart S side a 0) a (n .0) (f .1) (g .formed .dims a (f .1)) (touches-from a) ∙ ap explicit (far-from a ∙ to) in
         (subst (λ (z : ℕ). z < S .nodes) from (n .0), ap (has S side) (sym from) ∙ n .1, d, ap₂ (arcAt S side) (sym from) (sym dim) ∙ back))
         (or-cases _ _ (and-right _ _ (f .2)))
+
+    -- no node has an arc of a dimension above n
+    pub no-arc : (s i : ℕ) → s < S .nodes → S .n < i → i < 255 → arcAt S side s i ≡ absent
+    no-arc s i h n l = go (arcAt S side s i) refl
+      where
+        go : (c : Arc) → arcAt S side s i ≡ c → arcAt S side s i ≡ absent
+        go absent a = a
+        go (explicit t) a = let x = explicit-end s i t a .2 in absurd (omega arith)
+        go (implicit p) a =
+            let x = implicit-from s i p a in
+            let word-i = x .1 in
+            ⊎-elim (λ z. absurd (omega arith)) (λ z. absurd (omega arith)) (g .formed .words s p h (x .0))

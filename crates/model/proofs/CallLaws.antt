@@ -1,16 +1,14 @@
 -- An edit that is not refused leaves a well-formed table, and any other leaves the table as it was.
 -- Assumes nothing.
 use Prim.Native.Nat.{ℕ, _≤_, _<_}
-use mathlib.Core.Path.{_≡_, sym, ap, _∙_, subst}
-use mathlib.Core.Logic.{inl, inr, ⊎-elim}
+use mathlib.Core.Path.{_≡_, sym, ap, _∙_}
 use mathlib.Core.Bool.{Bool, true, not, cond}
 use mathlib.Core.Option.{none, some}
 use mathlib.Core.List.{List}
-use native.Mathlib.Omega.{arith}
 use borrow.Author.Tests.{eqb-true, ltb-true, ltb-false, not-false}
 use Rattle.base.specs.Below.{count}
 use Rattle.base.specs.First.{when}
-use Rattle.model.specs.Map.{Map, view, words, unused}
+use Rattle.model.specs.Map.{view, words, unused}
 use Rattle.model.specs.WellFormed.{WellFormed, wellFormed}
 use Rattle.model.specs.Scheme.{inForm, schemeOf}
 use Rattle.model.specs.Conditions.{schemeFault}
@@ -21,51 +19,14 @@ use Rattle.model.specs.declared.Answer.{Answer}
 use Rattle.base.proofs.TestLaws.{and-left, and-right}
 use Rattle.base.proofs.FirstLaws.{or-else-none, when-none, there-none, there-of}
 use Rattle.model.proofs.WellFormedLaws.{wellFormed-iff}
-use Rattle.model.proofs.MapLaws.{state-words, link-words}
+use Rattle.model.proofs.AlikeLaws.{words-well}
 use Rattle.model.proofs.SchemeLaws.{formed}
 use Rattle.model.proofs.AcceptedLaws.{small, accepted}
 use Rattle.model.proofs.MatchLaws.{match-assigns}
 use Rattle.model.proofs.MatchIff.{good-orbit}
 use Rattle.model.proofs.KeepLaws.{edit-keeps}
 
--- ---- the table of a well-formed map is well-formed
-
-module _ (n : ℕ) (m : Map) (small : n ≤ 3) (w : WellFormed n m) where
-  abbrev back-map : Map
-  back-map = view (m .slots) (words m)
-
-  alive-in : (x : ℕ) → x < m .slots → back-map .state x ≡ 1 → m .state x ≡ 1
-  alive-in x h l = sym (state-words m x h) ∙ l
-
-  same : (x : ℕ) → x < m .slots → (i : ℕ) → i ≤ n → back-map .link i x ≡ m .link i x
-  same x h i k = link-words m x h i (omega arith)
-
-  same-twice : (x : ℕ) → x < m .slots → m .state x ≡ 1 → (i j : ℕ) → i ≤ n → j ≤ n → back-map .link j (back-map .link i x) ≡ m .link j (m .link i x)
-  same-twice x h l i j k r = ap (back-map .link j) (same x h i k) ∙ same (m .link i x) (w .below x h l i k) j r
-
-  pub words-well : WellFormed n back-map
-  words-well = record {
-    states = λ x h. ⊎-elim (λ e. inl (state-words m x h ∙ e)) (λ e. inr (state-words m x h ∙ e)) (w .states x h);
-    below = λ x h l i k. subst (λ (z : ℕ). z < m .slots) (sym (same x h i k)) (w .below x h (alive-in x h l) i k);
-    alive = λ x h l i k.
-        let a = alive-in x h l in
-        ap (back-map .state) (same x h i k) ∙ state-words m (m .link i x) (w .below x h a i k) ∙ w .alive x h a i k;
-    back = λ x h l i k. same-twice x h (alive-in x h l) i i k k ∙ w .back x h (alive-in x h l) i k;
-    flat = λ two x h l. link-words m x h 3 (omega arith) ∙ w .flat two x h (alive-in x h l);
-    square = λ x h l i j ij jn.
-        let a = alive-in x h l in
-        let k : i ≤ n = omega arith in
-        let y = m .link i x in
-        let yh = w .below x h a i k in
-        let yl = w .alive x h a i k in
-        ap (λ (z : ℕ). back-map .link j (back-map .link i z)) (same-twice x h a i j k jn)
-        ∙ same-twice (m .link j y) (w .below y yh yl j jn) (w .alive y yh yl j jn) i j k jn
-        ∙ w .square x h a i j ij jn;
-  }
-
--- ---- an edit
-
-passed : (t : Bool) (a : Answer) → when (not t) a ≡ none → t ≡ true
+pub passed : (t : Bool) (a : Answer) → when (not t) a ≡ none → t ≡ true
 passed t a e = not-false t (when-none (not t) a e)
 
 -- what has been tested of an edit that is not refused

@@ -1,67 +1,35 @@
 -- The darts of an accepted edit's pairs are slots, all different; so a slot's pair is found, and is the only one.
 -- Assumes nothing.
-use Prim.Native.Nat.{ℕ, _+_, _*_, _/_, _≤_, _<_}
+use Prim.Native.Nat.{ℕ, _≤_, _<_}
 use mathlib.Core.Path.{_≡_, refl, sym, ap, ap₂, _∙_, subst}
 use mathlib.Core.Logic.{_⊎_, ⊎-elim}
 use mathlib.Core.Bool.{Bool, true, false, cond}
 use mathlib.Core.Option.{Option, none, some, Option·getD}
-use native.Mathlib.Nat.{suc-mul, mul-le-mul-right, mul-add-div-right, div-eq-of-lt, add-zero, add-left-cancel}
+use native.Mathlib.Nat.{lt-of-lt-of-le}
 use native.Mathlib.Omega.{arith}
 use lib.Dec.{eqb}
-use borrow.Author.Tests.{eqb-true, eq-eqb, ne-eqb}
+use borrow.Author.Tests.{eqb-true, eq-eqb}
 use Rattle.base.specs.Test.{_and_}
 use Rattle.base.specs.Below.{count}
 use Rattle.base.specs.First.{nth, first, when}
 use Rattle.model.specs.Map.{Map, unused}
-use Rattle.model.specs.Scheme.{left, right, kind, orbitDim, has, added, deleted}
+use Rattle.model.specs.Scheme.{left, right, orbitDim, has, added, deleted}
 use Rattle.model.specs.Conditions.{absent, explicit, implicit, arcAt}
 use Rattle.model.specs.Match.{image, Assignment}
-use Rattle.model.specs.Edit.{Pair, orbitSize, addedDarts, rank, freeSlot, dartOf, pairOf, newLink, newWord, edited}
+use Rattle.model.specs.Edit.{Pair, addedDarts, rank, freeSlot, dartOf, pairOf, newLink, newWord, edited}
 use Rattle.model.specs.declared.Scheme.{Scheme}
-use Rattle.base.proofs.TestLaws.{and-left, and-right, and-of, or-cases, true-or-false}
-use Rattle.base.proofs.BelowLaws.{count-lt, count-injective}
+use Rattle.base.proofs.TestLaws.{and-left, and-right, and-of, true-or-false}
 use Rattle.base.proofs.FirstLaws.{when-at, first-at, first-only, first-none-of, nth-at, nth-found}
-
--- digits: a quotient and a rest below A are found again in q * A + r
-digits : (A q r v t : ℕ) → r < A → t < A → q * A + r ≡ v * A + t → (q ≡ v) × (r ≡ t)
-digits A q r v t h l e = (same, add-left-cancel (q * A) (e ∙ ap (λ (z : ℕ). z * A + t) (sym same)))
-  where
-    back : (q r : ℕ) → r < A → (q * A + r) / A ≡ q
-    back q r h = mul-add-div-right (omega arith) q r ∙ ap (λ (z : ℕ). q + z) (div-eq-of-lt h) ∙ add-zero q
-
-    same : q ≡ v
-    same = sym (back q r h) ∙ ap (λ (z : ℕ). z / A) e ∙ back v t l
+use Rattle.model.proofs.RankLaws.{rank-low, rank-once, dart-left}
 
 abbrev pair : ℕ → ℕ → Pair
 pair u s = record { dart = u; node = s }
 
-left-not-added : (S : Scheme) (s : ℕ) → has S left s ≡ true → added S s ≡ false
-left-not-added S s e = ⊎-elim
-    (λ q. let k = eqb-true (kind S s) 1 q in ne-eqb (kind S s) 3 (λ z. omega arith))
-    (λ q. let k = eqb-true (kind S s) 2 q in ne-eqb (kind S s) 3 (λ z. omega arith))
-    (or-cases _ _ e)
-
 module _ (m : Map) (S : Scheme) (O : ℕ → Bool) (slot : (u : ℕ) → O u ≡ true → u < m .slots)
     (kinds : (s : ℕ) → s < S .nodes → (has S left s ≡ true) ⊎ (added S s ≡ true))
     (A : Assignment m S O (image m S)) (room : addedDarts m S O ≤ count (m .slots) (unused m)) where
-  below-added : (s : ℕ) → s < S .nodes → added S s ≡ true → count s (added S) < count (S .nodes) (added S)
-  below-added s h e = count-lt (added S) s (S .nodes) h e
-
   pub rank-below : (u s : ℕ) → O u ≡ true → s < S .nodes → added S s ≡ true → rank m S O u s < count (m .slots) (unused m)
-  unfolding rank addedDarts orbitSize
-  rank-below u s e h a =
-      let cs = below-added s h a in
-      let more = mul-le-mul-right (count (S .nodes) (added S)) (count-lt O u (m .slots) (slot u e) e) in
-      let next = suc-mul (count u O) (count (S .nodes) (added S)) in
-      let r = room in
-      omega arith
-
-  rank-injective : (u s v t : ℕ) → O u ≡ true → O v ≡ true → s < S .nodes → t < S .nodes → added S s ≡ true → added S t ≡ true
-      → rank m S O u s ≡ rank m S O v t → (u ≡ v) × (s ≡ t)
-  unfolding rank
-  rank-injective u s v t e f h l a b q =
-      let d = digits (count (S .nodes) (added S)) _ _ _ _ (below-added s h a) (below-added t l b) q in
-      (count-injective O u v e f (d .0), count-injective (added S) s t a b (d .1))
+  rank-below u s e h a = lt-of-lt-of-le (rank-low m S O slot u s e h a) room
 
   -- the slot of an added pair is below N, was unused, and has the pair's rank
   pub free-at : (u s : ℕ) → O u ≡ true → s < S .nodes → added S s ≡ true
@@ -76,8 +44,7 @@ module _ (m : Map) (S : Scheme) (O : ℕ → Bool) (slot : (u : ℕ) → O u ≡
 
   -- the dart of a left pair is its image
   pub dart-image : (u s : ℕ) → has S left s ≡ true → dartOf m S O u s ≡ image m S u s
-  unfolding dartOf
-  dart-image u s l = ap (λ (b : Bool). cond b (freeSlot m S O (rank m S O u s)) (image m S u s)) (left-not-added S s l)
+  dart-image = dart-left m S O
 
   pub left-alive : (u s : ℕ) → O u ≡ true → s < S .nodes → has S left s ≡ true → m .state (dartOf m S O u s) ≡ 1
   left-alive u s e h l = ap (m .state) (dart-image u s l) ∙ A .darts u (slot u e) e s h l .1
@@ -97,7 +64,7 @@ module _ (m : Map) (S : Scheme) (O : ℕ → Bool) (slot : (u : ℕ) → O u ≡
       (kinds t l))
       (λ a. ⊎-elim
       (λ b. absurd (apart (left-alive v t f l b) (ap (m .state) (sym q) ∙ free-at u s e h a .1)))
-      (λ b. rank-injective u s v t e f h l a b (sym (free-at u s e h a .2) ∙ ap (λ (x : ℕ). count x (unused m)) q ∙ free-at v t f l b .2))
+      (λ b. rank-once m S O u s v t e f h l a b (sym (free-at u s e h a .2) ∙ ap (λ (x : ℕ). count x (unused m)) q ∙ free-at v t f l b .2))
       (kinds t l))
       (kinds s h)
     where
@@ -153,10 +120,22 @@ module _ (m : Map) (S : Scheme) (O : ℕ → Bool) (slot : (u : ℕ) → O u ≡
   unfolding edited newWord
   link-other i x e = rw e refl
 
+  pub tag-other : (x : ℕ) → pairOf m S O x ≡ none → edited m S O .tag x ≡ m .tag x
+  unfolding edited newWord
+  tag-other x e = rw e refl
+
   module _ (u s : ℕ) (e : O u ≡ true) (h : s < S .nodes) where
     pub state-deleted : deleted S s ≡ true → edited m S O .state (dartOf m S O u s) ≡ 0
     unfolding edited newWord
     state-deleted d = rw (pair-of u s e h, d) refl
+
+    pub link-deleted : (i : ℕ) → deleted S s ≡ true → edited m S O .link i (dartOf m S O u s) ≡ 0
+    unfolding edited newWord
+    link-deleted i d = rw (pair-of u s e h, d) refl
+
+    pub tag-deleted : deleted S s ≡ true → edited m S O .tag (dartOf m S O u s) ≡ 0
+    unfolding edited newWord
+    tag-deleted d = rw (pair-of u s e h, d) refl
 
     module _ (k : deleted S s ≡ false) where
       pub state-pair : edited m S O .state (dartOf m S O u s) ≡ 1
@@ -186,3 +165,11 @@ module _ (m : Map) (S : Scheme) (O : ℕ → Bool) (slot : (u : ℕ) → O u ≡
       pub link-own : (i : ℕ) → added S s ≡ true → arcAt S right s i ≡ absent → edited m S O .link i (dartOf m S O u s) ≡ dartOf m S O u s
       unfolding newLink
       link-own i n a = link-pair i ∙ rw (a, n) refl
+
+      pub tag-new : added S s ≡ true → edited m S O .tag (dartOf m S O u s) ≡ m .tag u
+      unfolding edited newWord
+      tag-new n = rw (pair-of u s e h, k, n) refl
+
+      pub tag-kept : added S s ≡ false → edited m S O .tag (dartOf m S O u s) ≡ m .tag (dartOf m S O u s)
+      unfolding edited newWord
+      tag-kept n = rw (pair-of u s e h, k, n) refl

@@ -20,9 +20,9 @@ use Rattle.model.specs.Accepted.{Accepted}
 use Rattle.model.specs.declared.Scheme.{Scheme}
 use Rattle.base.proofs.TestLaws.{and-left, and-right, or-cases, or-left, or-right, if-so, true-or-false}
 use Rattle.base.proofs.FirstLaws.{some-not-none}
-use Rattle.model.proofs.ArcLaws.{explicit-end, implicit-from, absent-of, absent-from}
+use Rattle.model.proofs.ArcLaws.{explicit-end, implicit-from, absent-of, absent-from, no-arc}
 use Rattle.model.proofs.CycleLaws.{cycle-at, cycle-of, same-arc, not-absent, not-absent′, pass-i, pass-j, none-i, none-j}
-use Rattle.model.proofs.AcceptedLaws.{kind-cases}
+use Rattle.model.proofs.AcceptedLaws.{kind-cases, left-or-added}
 use Rattle.model.proofs.MatchLaws.{GoodOrbit, arc-of}
 use Rattle.model.proofs.EditLaws as E
 
@@ -35,7 +35,7 @@ module _ (S : Scheme) (s : ℕ) where
   kind-not : (a b : ℕ) → (a ≡ b → ⊥) → eqb (kind S s) a ≡ true → eqb (kind S s) b ≡ false
   kind-not a b ne e = ne-eqb (kind S s) b (λ q. ne (sym (eqb-true _ _ e) ∙ q))
 
-  right-stays : has S right s ≡ true → deleted S s ≡ false
+  pub right-stays : has S right s ≡ true → deleted S s ≡ false
   right-stays e = ⊎-elim (kind-not 2 1 (λ q. omega arith)) (kind-not 3 1 (λ q. omega arith)) (or-cases _ _ e)
 
   both-preserved : has S left s ≡ true → has S right s ≡ true → preserved S s ≡ true
@@ -44,19 +44,22 @@ module _ (S : Scheme) (s : ℕ) where
       (λ e. e)
       (or-cases _ _ l)
 
-  preserved-left : preserved S s ≡ true → has S left s ≡ true
+  pub preserved-left : preserved S s ≡ true → has S left s ≡ true
   preserved-left e = or-right _ e
 
-  preserved-right : preserved S s ≡ true → has S right s ≡ true
+  pub preserved-right : preserved S s ≡ true → has S right s ≡ true
   preserved-right e = or-left _ e
 
-  preserved-not-added : preserved S s ≡ true → added S s ≡ false
+  pub added-right : added S s ≡ true → has S right s ≡ true
+  added-right e = or-right _ e
+
+  pub preserved-not-added : preserved S s ≡ true → added S s ≡ false
   preserved-not-added e = kind-not 2 3 (λ q. omega arith) e
 
 module _ (m : Map) (S : Scheme) (O : ℕ → Bool) (w : WellFormed (S .n) m) (g : Accepted S) (o : GoodOrbit m S O)
     (A : Assignment m S O (image m S)) (room : addedDarts m S O ≤ count (m .slots) (unused m)) where
-  left-or-added : (s : ℕ) → s < S .nodes → (has S left s ≡ true) ⊎ (added S s ≡ true)
-  left-or-added s h = ⊎-elim (λ e. inl (or-left _ e)) (⊎-elim (λ e. inl (or-right _ e)) (λ e. inr e)) (kind-cases S (g .formed) s h)
+  abbrev kinds : (s : ℕ) → s < S .nodes → (has S left s ≡ true) ⊎ (added S s ≡ true)
+  kinds = left-or-added S (g .formed)
 
   abbrev D : ℕ → ℕ → ℕ
   D u s = dartOf m S O u s
@@ -66,19 +69,19 @@ module _ (m : Map) (S : Scheme) (O : ℕ → Bool) (w : WellFormed (S .n) m) (g 
 
   -- the laws of `EditLaws`, for this edit
   slot-of : (u s : ℕ) → O u ≡ true → s < S .nodes → D u s < m .slots
-  slot-of = E.dart-slot m S O (o .slot) left-or-added A room
+  slot-of = E.dart-slot m S O (o .slot) kinds A room
 
   injective : (u s v t : ℕ) → O u ≡ true → O v ≡ true → s < S .nodes → t < S .nodes → D u s ≡ D v t → (u ≡ v) × (s ≡ t)
-  injective = E.dart-injective m S O (o .slot) left-or-added A room
+  injective = E.dart-injective m S O (o .slot) kinds A room
 
   dart-left : (u s : ℕ) → has S left s ≡ true → D u s ≡ image m S u s
-  dart-left = E.dart-image m S O (o .slot) left-or-added A room
+  dart-left = E.dart-image m S O (o .slot) kinds A room
 
   alive-of : (u s : ℕ) → O u ≡ true → s < S .nodes → has S left s ≡ true → m .state (D u s) ≡ 1
-  alive-of = E.left-alive m S O (o .slot) left-or-added A room
+  alive-of = E.left-alive m S O (o .slot) kinds A room
 
   pair-is : (u s : ℕ) → O u ≡ true → s < S .nodes → pairOf m S O (D u s) ≡ some (record { dart = u; node = s })
-  pair-is = E.pair-of m S O (o .slot) left-or-added A room
+  pair-is = E.pair-of m S O (o .slot) kinds A room
 
   -- ---- darts before the edit
 
@@ -90,11 +93,11 @@ module _ (m : Map) (S : Scheme) (O : ℕ → Bool) (w : WellFormed (S .n) m) (g 
       go : (p : Option Pair) → pairOf m S O y ≡ p → (pairOf m S O y ≡ none) ⊎ ((v t : ℕ) × (O v ≡ true) × (t < S .nodes) × (has S left t ≡ true) × (y ≡ D v t))
       go none e = inl e
       go (some p) e =
-          let q = E.pair-at m S O (o .slot) left-or-added A room y p e in
+          let q = E.pair-at m S O (o .slot) kinds A room y p e in
           inr (⊎-elim
           (λ k. (p .dart, p .node, q .0, q .1, k, sym (q .2)))
-          (λ k. absurd (one-not-zero (sym (ap (m .state) (q .2) ∙ l) ∙ E.free-at m S O (o .slot) left-or-added A room (p .dart) (p .node) (q .0) (q .1) k .1)))
-          (left-or-added (p .node) (q .1)))
+          (λ k. absurd (one-not-zero (sym (ap (m .state) (q .2) ∙ l) ∙ E.free-at m S O (o .slot) kinds A room (p .dart) (p .node) (q .0) (q .1) k .1)))
+          (kinds (p .node) (q .1)))
 
   -- the links of a left pair's dart, by its left arcs
   old-explicit : (v t i r : ℕ) → O v ≡ true → t < S .nodes → has S left t ≡ true → arcAt S left t i ≡ explicit r
@@ -165,32 +168,32 @@ module _ (m : Map) (S : Scheme) (O : ℕ → Bool) (w : WellFormed (S .n) m) (g 
   live-at x h l = go (pairOf m S O x) refl
     where
       go : (p : Option Pair) → pairOf m S O x ≡ p → Live x
-      go none e = liveOther e h (sym (E.state-other m S O (o .slot) left-or-added A room x e) ∙ l)
+      go none e = liveOther e h (sym (E.state-other m S O (o .slot) kinds A room x e) ∙ l)
       go (some p) e =
-          let q = E.pair-at m S O (o .slot) left-or-added A room x p e in
+          let q = E.pair-at m S O (o .slot) kinds A room x p e in
           ⊎-elim
-          (λ d. absurd (one-not-zero (sym (ap (new .state) (q .2) ∙ l) ∙ E.state-deleted m S O (o .slot) left-or-added A room (p .dart) (p .node) (q .0) (q .1) d)))
+          (λ d. absurd (one-not-zero (sym (ap (new .state) (q .2) ∙ l) ∙ E.state-deleted m S O (o .slot) kinds A room (p .dart) (p .node) (q .0) (q .1) d)))
           (λ r. livePair (p .dart) (p .node) (q .0) (q .1) (⊎-elim (λ k. or-left _ k) (λ k. or-right _ k) r) (sym (q .2)))
           (kind-cases S (g .formed) (p .node) (q .1))
 
   new-state : (u s : ℕ) → O u ≡ true → s < S .nodes → has S right s ≡ true → new .state (D u s) ≡ 1
-  new-state u s e h r = E.state-pair m S O (o .slot) left-or-added A room u s e h (right-stays S s r)
+  new-state u s e h r = E.state-pair m S O (o .slot) kinds A room u s e h (right-stays S s r)
 
   new-explicit : (u s : ℕ) → O u ≡ true → s < S .nodes → has S right s ≡ true → (i t : ℕ) → arcAt S right s i ≡ explicit t → new .link i (D u s) ≡ D u t
-  new-explicit u s e h r = E.link-explicit m S O (o .slot) left-or-added A room u s e h (right-stays S s r)
+  new-explicit u s e h r = E.link-explicit m S O (o .slot) kinds A room u s e h (right-stays S s r)
 
   new-implicit : (u s : ℕ) → O u ≡ true → s < S .nodes → has S right s ≡ true → (i p : ℕ) → arcAt S right s i ≡ implicit p
       → (new .link i (D u s) ≡ D (m .link (orbitDim S p) u) s) × (O (m .link (orbitDim S p) u) ≡ true)
   new-implicit u s e h r i p a =
-      (E.link-implicit m S O (o .slot) left-or-added A room u s e h (right-stays S s r) i p a, o .link u p e (implicit-from S right s i p a .0))
+      (E.link-implicit m S O (o .slot) kinds A room u s e h (right-stays S s r) i p a, o .link u p e (implicit-from S right s i p a .0))
 
   new-loose : (i x : ℕ) → i ≤ S .n → Loose i x → (new .link i x ≡ m .link i x) × (new .state x ≡ 1)
   new-loose i x k (looseOther p h l) =
-      (E.link-other m S O (o .slot) left-or-added A room i x p, E.state-other m S O (o .slot) left-or-added A room x p ∙ l)
+      (E.link-other m S O (o .slot) kinds A room i x p, E.state-other m S O (o .slot) kinds A room x p ∙ l)
   new-loose i x k (looseKept u s e h z a q) =
       let b = absent-of S right s i (sym (g .same s i h k z) ∙ absent-from S left s i a) in
       let r = preserved-right S s z in (
-        ap (new .link i) q ∙ E.link-kept m S O (o .slot) left-or-added A room u s e h (right-stays S s r) i (preserved-not-added S s z) b ∙ ap (m .link i) (sym q),
+        ap (new .link i) q ∙ E.link-kept m S O (o .slot) kinds A room u s e h (right-stays S s r) i (preserved-not-added S s z) b ∙ ap (m .link i) (sym q),
         ap (new .state) q ∙ new-state u s e h r,
       )
 
@@ -244,23 +247,15 @@ module _ (m : Map) (S : Scheme) (O : ℕ → Bool) (w : WellFormed (S .n) m) (g 
 
   -- ---- with n = 2, α3 is a loop
 
-  no-third : (s : ℕ) → s < S .nodes → S .n ≡ 2 → (c : Arc) → arcAt S right s 3 ≡ c → arcAt S right s 3 ≡ absent
-  no-third s h n absent a = a
-  no-third s h n (explicit t) a = let x = explicit-end S right (g .sides right) s 3 t a .2 in absurd (omega arith)
-  no-third s h n (implicit p) a =
-      let x = implicit-from S right s 3 p a in
-      let third = x .1 in
-      ⊎-elim (λ z. absurd (omega arith)) (λ z. absurd (omega arith)) (g .sides right .formed .words s p h (x .0))
-
   flat-of : (x : ℕ) → S .n ≡ 2 → Live x → new .link 3 x ≡ x
-  flat-of x n (liveOther p h l) = E.link-other m S O (o .slot) left-or-added A room 3 x p ∙ w .flat n x h l
+  flat-of x n (liveOther p h l) = E.link-other m S O (o .slot) kinds A room 3 x p ∙ w .flat n x h l
   flat-of x n (livePair u s e h r q) =
-      let a = no-third s h n (arcAt S right s 3) refl in
+      let a = no-arc S right (g .sides right) s 3 h (omega arith) (omega arith) in
       let k = right-stays S s r in
       ap (new .link 3) q ∙ ⊎-elim
-      (λ z. E.link-kept m S O (o .slot) left-or-added A room u s e h k 3 (preserved-not-added S s z) a
+      (λ z. E.link-kept m S O (o .slot) kinds A room u s e h k 3 (preserved-not-added S s z) a
       ∙ w .flat n (D u s) (slot-of u s e h) (alive-of u s e h (preserved-left S s z)))
-      (λ z. E.link-own m S O (o .slot) left-or-added A room u s e h k 3 z a)
+      (λ z. E.link-own m S O (o .slot) kinds A room u s e h k 3 z a)
       (or-cases _ _ r) ∙ sym q
 
   -- ---- squares
@@ -405,11 +400,11 @@ module _ (m : Map) (S : Scheme) (O : ℕ → Bool) (w : WellFormed (S .n) m) (g 
   state-of x h = go (pairOf m S O x) refl
     where
       go : (p : Option Pair) → pairOf m S O x ≡ p → (new .state x ≡ 0) ⊎ (new .state x ≡ 1)
-      go none e = let same = E.state-other m S O (o .slot) left-or-added A room x e in ⊎-elim (λ z. inl (same ∙ z)) (λ z. inr (same ∙ z)) (w .states x h)
+      go none e = let same = E.state-other m S O (o .slot) kinds A room x e in ⊎-elim (λ z. inl (same ∙ z)) (λ z. inr (same ∙ z)) (w .states x h)
       go (some p) e =
-          let q = E.pair-at m S O (o .slot) left-or-added A room x p e in
+          let q = E.pair-at m S O (o .slot) kinds A room x p e in
           ⊎-elim
-          (λ d. inl (ap (new .state) (sym (q .2)) ∙ E.state-deleted m S O (o .slot) left-or-added A room (p .dart) (p .node) (q .0) (q .1) d))
+          (λ d. inl (ap (new .state) (sym (q .2)) ∙ E.state-deleted m S O (o .slot) kinds A room (p .dart) (p .node) (q .0) (q .1) d))
           (λ d. inr (ap (new .state) (sym (q .2)) ∙ new-state (p .dart) (p .node) (q .0) (q .1) (⊎-elim (λ k. or-left _ k) (λ k. or-right _ k) d)))
           (kind-cases S (g .formed) (p .node) (q .1))
 

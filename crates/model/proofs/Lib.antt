@@ -12,6 +12,16 @@ pub mod SchemeLaws
 pub mod AcceptedLaws
 pub mod MatchIff
 pub mod MapLaws
+pub mod RankLaws
 pub mod EditLaws
 pub mod KeepLaws
 pub mod CallLaws
+pub mod AlikeLaws
+pub mod AlikeMatch
+pub mod AlikeEdit
+pub mod FileLaws
+pub mod HoldsLaws
+pub mod UnusedLaws
+pub mod AlikeCalls
+pub mod SequenceLaws
+pub mod RewritingLaws

@@ -8,7 +8,7 @@ use lib.ListN.{length, getD, take, drop, length-drop}
 use lib.Seq.{take-add, take-all, getD-drop}
 use Rattle.base.specs.Lists.{joined}
 use Rattle.model.specs.Map.{Map, view, tableSize, recordOf, words}
-use Rattle.base.proofs.ListLaws.{length-joined, getD-joined}
+use Rattle.base.proofs.ListLaws.{length-joined, getD-joined, joined-same}
 
 -- ---- the words of a view are the table
 
@@ -45,6 +45,20 @@ words-take N t (suc k) h =
 pub words-view : (N : ℕ) (t : List ℕ) → length t ≡ tableSize N → words (view N t) ≡ t
 unfolding words
 words-view N t h = words-take N t N (omega arith) ∙ take-all (6 * N) t (omega arith)
+
+-- a table whose view has the words of m is the table of m
+pub words-are : (m : Map) (t : List ℕ) → length t ≡ tableSize (m .slots)
+    → ((x : ℕ) → x < m .slots → view (m .slots) t .state x ≡ m .state x)
+    → ((i x : ℕ) → i < 4 → x < m .slots → view (m .slots) t .link i x ≡ m .link i x)
+    → ((x : ℕ) → x < m .slots → view (m .slots) t .tag x ≡ m .tag x)
+    → t ≡ words m
+unfolding words
+words-are m t h s l g =
+    sym (words-view (m .slots) t h) ∙ joined-same (m .slots) (recordOf (view (m .slots) t)) (recordOf m) each
+  where
+    each : (x : ℕ) → x < m .slots → recordOf (view (m .slots) t) x ≡ recordOf m x
+    each x b i =
+        s x b i ∷ l 0 x (omega arith) b i ∷ l 1 x (omega arith) b i ∷ l 2 x (omega arith) b i ∷ l 3 x (omega arith) b i ∷ g x b i ∷ []
 
 -- ---- the view of a map's words is the map
 

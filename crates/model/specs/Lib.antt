@@ -11,4 +11,7 @@ pub mod Match
 pub mod Edit
 pub mod File
 pub mod Calls
+pub mod Rewriting
+pub mod Alike
+pub mod Sequence
 pub mod Bench

@@ -2,7 +2,7 @@
 -- Assumes nothing.
 use Prim.Native.Nat.{ℕ, _<_}
 use mathlib.Core.Path.{_≡_}
-use mathlib.Core.Logic.{_⊎_, inl, inr}
+use mathlib.Core.Logic.{_⊎_}
 use mathlib.Core.List.{_++_}
 use native.Mathlib.Omega.{arith}
 use denote.Ref.{now}
@@ -10,9 +10,10 @@ use borrow.Author.Needs.{needs}
 use Rattle.model.specs.Map.{view}
 use Rattle.file.specs.Places.{Put}
 use Rattle.file.specs.Sections.{headBytes, sectionBytes}
-use Rattle.file.specs.declared.sections.Part.the-variants.{Slots, Tags}
+use Rattle.file.specs.declared.sections.Part.the-variants.{Slots, Tags, Links}
+use Rattle.file.proofs.FormLaws.{three-le}
 use Rattle.file.proofs.PlaceLaws.{put-then}
-use Rattle.file.proofs.SectionLaws.{length-file, room-slots, room-tags, room-links, file-put}
+use Rattle.file.proofs.SectionLaws.{length-file, fileBefore, section-room, file-put}
 use Rattle.file.proofs.write.Statement.{statement}
 use Rattle.file.proofs.write.Tie as tie
 
@@ -30,8 +31,7 @@ tagged : (c : tie.After-section2) → let a = c .before .before .before .before 
 tagged c = put-then _ _ _ _ _ _ _ _ (slotted (c .before .before .before .before)) (c .section2 .ensures)
 
 small : {n : ℕ} → (n ≡ 2) ⊎ (n ≡ 3) → n < 256
-small (inl e) = omega arith
-small (inr e) = omega arith
+small d = omega (arith, three-le d)
 
 head-requires : tie.Need-head-requires
 head-requires c κs =
@@ -40,19 +40,22 @@ head-requires c κs =
     (s .few, omega (arith, a .pre .1 .1 .1, length-file (a .args .n) (view (a .args .slots) (now (a .args .table))) (small (a .pre .0))))
 
 section-requires : tie.Need-section-requires
+unfolding fileBefore
 section-requires c κs =
     let a = c .before .before .before .before .before .before .before .pre in
-    (a .0, (a .1 .0, (a .1 .1 .0, room-slots _ _ (small (a .0)) _ (a .1 .1 .0) _ (a .1 .1 .1) _ _ (headed (c .before .before .before)))))
+    (a .0, (a .1 .0, (a .1 .1 .0, section-room _ _ (small (a .0)) Slots _ (a .1 .1 .0) _ (a .1 .1 .1) _ _ (headed (c .before .before .before)))))
 
 section-requires-2 : tie.Need-section-requires-2
+unfolding fileBefore
 section-requires-2 c κs =
     let a = c .before .before .before .before .before .before .before .before .before .before .before .pre in
-    (a .0, (a .1 .0, (a .1 .1 .0, room-tags _ _ (small (a .0)) _ (a .1 .1 .0) _ (a .1 .1 .1) _ _ (slotted (c .before .before .before)))))
+    (a .0, (a .1 .0, (a .1 .1 .0, section-room _ _ (small (a .0)) Tags _ (a .1 .1 .0) _ (a .1 .1 .1) _ _ (slotted (c .before .before .before)))))
 
 section-requires-3 : tie.Need-section-requires-3
+unfolding fileBefore
 section-requires-3 c κs =
     let a = c .before .before .before .before .before .before .before .before .before .before .before .before .before .before .before .pre in
-    (a .0, (a .1 .0, (a .1 .1 .0, room-links _ _ (small (a .0)) _ (a .1 .1 .0) _ (a .1 .1 .1) _ _ (tagged (c .before .before .before)))))
+    (a .0, (a .1 .0, (a .1 .1 .0, section-room _ _ (small (a .0)) Links _ (a .1 .1 .0) _ (a .1 .1 .1) _ _ (tagged (c .before .before .before)))))
 
 same-length : tie.Need-same-length
 same-length c = search needs
@@ -61,7 +64,7 @@ returns : tie.Need-returns
 returns c =
     let e = c .before .before in
     let a = e .before .before .before .before .before .before .before .before .before .before .before .before .before .before .before .before .pre in
-    file-put _ _ (small (a .0)) _ (a .1 .1 .0) _ (a .1 .1 .1) _ _ (put-then _ _ _ _ _ _ _ _ (tagged (e .before .before .before .before)) (e .section3 .ensures))
+    file-put _ _ (small (a .0)) _ (a .1 .1 .1) _ _ (put-then _ _ _ _ _ _ _ _ (tagged (e .before .before .before .before)) (e .section3 .ensures))
 
 pub write-spec : {M : Type 1} → statement M
 write-spec =

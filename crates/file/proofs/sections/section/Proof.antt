@@ -1,10 +1,9 @@
 -- `file::sections::section` meets its contract. The loop's invariant: what the section has of the live darts below x is put.
 -- Assumes nothing.
 use Prim.Native.Nat.{_-_, _≤_}
-use mathlib.Core.Path.{_≡_, refl, sym, _∙_}
+use mathlib.Core.Path.{_∙_}
 use mathlib.Core.Logic.{⊎-elim}
 use native.Mathlib.Omega.{arith}
-use lib.ListN.{length}
 use denote.Ref.{now}
 use borrow.Author.Needs.{needs}
 use Rattle.model.specs.Map.{view}
@@ -41,9 +40,17 @@ dart-requires c κs =
     let s = c .before .before in
     let l = s .before .before in
     let put = l .before .before .before in
-    let a = put .before .before .before .before in
-    (a .pre .0, (a .pre .1 .0, (s .before .loop-test .taken, darts-room _ _ _ _ _ _ _ _ (l .loop .inv .1) _ (s .state .ensures) (c .before .if1 .taken)
-    (s .before .loop-test .taken) _ (a .pre .1 .1 .0) (put-room 2 _ _ _ _ _ (put .put-two .ensures) _ (omega arith)))))
+    let a = put .before .before .before .before in (
+      a .pre .0,
+      (
+        a .pre .1 .0,
+        (
+          s .before .loop-test .taken,
+          darts-room _ _ _ _ _ _ _ _ (l .loop .inv .1) _ (s .state .ensures) (c .before .if1 .taken)
+              (s .before .loop-test .taken) _ (a .pre .1 .1 .0) (put-room 2 _ _ _ _ _ (put .put-two .ensures) _ (omega arith)),
+        ),
+      ),
+    )
 
 add-x : tie.Need-add-x Inv-loop μ-loop
 add-x c = omega arith

@@ -1,0 +1,101 @@
+-- The tests of node 0, and the search for a left node that is not reached.
+-- Assumes nothing.
+use Prim.Native.Nat.{ℕ, _+_, _*_, _≤_, _<_}
+use mathlib.Core.Path.{_≡_, refl, sym, ap, ap₂, _∙_}
+use mathlib.Core.Logic.{⊎-elim}
+use mathlib.Core.Bool.{Bool, true, false, not}
+use mathlib.Core.Option.{Option, none, some}
+use mathlib.Core.List.{List}
+use native.Mathlib.Omega.{arith}
+use lib.ListN.{length, getD}
+use lib.Dec.{eqb}
+use borrow.Author.Tests.{eqb-true, eqb-false, eq-eqb, ne-eqb}
+use Rattle.base.specs.Test.{_and_, _or_}
+use Rattle.base.specs.Below.{all, count}
+use Rattle.base.specs.First.{least, there}
+use Rattle.base.proofs.BelowLaws.{all-not, all-same, count-same, count-not}
+use Rattle.base.proofs.FirstLaws.{least-hit, least-same}
+use Rattle.base.proofs.ListLaws.{getD-inside}
+use Rattle.base.proofs.TestLaws.{or-left, or-right, true-or-false}
+use Rattle.model.specs.Scheme.{left, onSide, kind, orbitDim, has, added}
+use Rattle.model.specs.Conditions.{pathTo, hookRight}
+use Rattle.model.specs.Formed.{Formed}
+use Rattle.model.specs.declared.Scheme.{Scheme}
+use Rattle.model.proofs.AcceptedLaws as AcceptedLaws
+use Rattle.conditions.specs.Tree.{TreeOf}
+use Rattle.conditions.specs.declared.tree.Tree.{Tree}
+use Rattle.conditions.specs.Hook.{hookedBy, leftOut, foundOf}
+use Rattle.conditions.specs.declared.hook.Found.{Found}
+use Rattle.conditions.specs.declared.hook.Found.the-variants.{Node, Nothing}
+
+module _ (places : ℕ) (orbit kinds words : List ℕ) where
+  abbrev pub Read : ℕ → Bool
+  Read p = eqb (getD words p 0) (getD orbit p 0)
+
+  pub hook-added : getD kinds 0 0 ≡ 3 → false ≡ hookedBy places orbit kinds words
+  unfolding hookedBy _and_
+  hook-added e = rw (eq-eqb _ _ e)
+
+  module _ (ne : getD kinds 0 0 ≡ 3 → ⊥) where
+    pub hook-other : (p : ℕ) → p < places → (getD words p 0 ≡ getD orbit p 0 → ⊥) → false ≡ hookedBy places orbit kinds words
+    unfolding hookedBy _and_
+    hook-other p h d = rw (ne-eqb _ _ ne, all-not places Read p h (ne-eqb _ _ d))
+
+    pub hook-whole : (p : ℕ) → p ≤ places → places ≤ p → all p Read ≡ true → true ≡ hookedBy places orbit kinds words
+    unfolding hookedBy _and_
+    hook-whole p l h e =
+        let same : p ≡ places = omega arith in
+        let f : all places Read ≡ true = rw same at e in
+        rw (ne-eqb _ _ ne, f)
+
+-- ---- the search
+
+pub found-none : (n k : ℕ) (p : ℕ → Bool) → k ≤ n → n ≤ k → least k p ≡ none → Nothing ≡ foundOf (least n p)
+found-none n k p l h e = let same : k ≡ n = omega arith in let f : least n p ≡ none = rw same at e in rw f
+
+pub found-at : (n k : ℕ) (p : ℕ → Bool) → k < n → least k p ≡ none → p k ≡ true → Node k ≡ foundOf (least n p)
+found-at n k p h e f = rw (least-hit n p k h e f)
+
+module _ (kinds : List ℕ) (reached : List Bool) (s : ℕ) where
+  pub out-added : getD kinds s 0 ≡ 3 → leftOut kinds reached s ≡ false
+  unfolding leftOut _and_
+  out-added e = rw (eq-eqb _ _ e)
+
+  pub out-left : (getD kinds s 0 ≡ 3 → ⊥) → leftOut kinds reached s ≡ not (getD reached s false)
+  unfolding leftOut _and_
+  out-left ne = rw (ne-eqb _ _ ne)
+
+-- ---- what they say of a scheme
+
+left-is : (k : ℕ) → 1 ≤ k → k ≤ 3 → onSide left k ≡ not (eqb k 3)
+unfolding _or_
+left-is k l h = go (eqb k 3) refl
+  where
+    go : (b : Bool) → eqb k 3 ≡ b → (eqb k 1 or eqb k 2) ≡ not b
+    go true e = ap (λ (z : ℕ). eqb z 1 or eqb z 2) (eqb-true k 3 e)
+    go false e = ⊎-elim
+        (λ a. or-left (eqb k 2) a)
+        (λ a. or-right (eqb k 1) (let x = eqb-false k 3 e in let y = eqb-false k 1 a in eq-eqb k 2 (omega arith)))
+        (true-or-false (eqb k 1))
+
+module _ (S : Scheme) (f : Formed S) where
+  side-left : (s : ℕ) → s < S .nodes → has S left s ≡ not (eqb (kind S s) 3)
+  side-left s h = let k = f .kinds s h in left-is (kind S s) (k .0) (k .1)
+
+  pub hook-is : length (S .lwords) ≡ 64 → hookRight S ≡ hookedBy (S .places) (S .orbit) (S .kinds) (S .lwords)
+  unfolding hookRight hookedBy
+  hook-is long = ap₂ _and_ (side-left 0 (f .nodesSome)) (all-same (S .places) _ _ (λ p h.
+      let a = f .placesFew in
+      let b = AcceptedLaws.small S f in
+      let zero-first : 4 * 0 + p ≡ p = omega arith in
+      ap (λ (z : ℕ). eqb z (orbitDim S p)) (ap (λ (z : ℕ). getD (S .lwords) z 255) zero-first ∙ getD-inside (S .lwords) p 255 0 (omega arith))))
+
+  -- the least left node to which no path leads
+  pub unreached-is : (t : Tree) → TreeOf S t
+      → least (S .nodes) (λ s. has S left s and not (there (pathTo S s))) ≡ least (S .nodes) (leftOut (S .kinds) (t .reached))
+  unfolding leftOut
+  unreached-is t g = least-same (S .nodes) _ _ (λ s h. ap₂ (λ (a b : Bool). a and not b) (side-left s h) (sym (g .reached s h)))
+
+  -- the left nodes are those that are not added
+  pub left-count : count (S .nodes) (has S left) + count (S .nodes) (added S) ≡ S .nodes
+  left-count = ap (λ (k : ℕ). k + count (S .nodes) (added S)) (count-same (S .nodes) _ _ side-left) ∙ count-not (S .nodes) (added S)

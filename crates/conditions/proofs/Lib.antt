@@ -1,0 +1,12 @@
+pub mod ArcTableLaws
+pub mod CodeLaws
+pub mod TreeLaws
+pub mod HookLaws
+pub mod SpanLaws
+pub mod IncidenceLaws
+pub mod CycleTestLaws
+pub mod CycleSearchLaws
+pub mod CycleIsLaws
+pub mod FaultLaws
+pub mod NodeLaws
+pub mod SmallLaws

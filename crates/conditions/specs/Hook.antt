@@ -1,0 +1,34 @@
+-- Hook, over the lists that a scheme holds: node 0, and the left nodes that are not reached from it.
+-- Assumes nothing.
+use Prim.Native.Nat.{ℕ}
+use mathlib.Core.Path.{_≡_}
+use mathlib.Core.Bool.{Bool, true, false, not}
+use mathlib.Core.Option.{Option, none, some}
+use mathlib.Core.List.{List}
+use lib.ListN.{getD}
+use lib.Dec.{eqb}
+use Rattle.base.specs.Test.{_and_}
+use Rattle.base.specs.Below.{all}
+use Rattle.base.specs.First.{least}
+use Rattle.conditions.specs.Tree.{Spanning}
+use Rattle.conditions.specs.declared.tree.Tree.{Tree}
+use Rattle.conditions.specs.declared.hook.Found.{Found}
+use Rattle.conditions.specs.declared.hook.Found.the-variants.{Node, Nothing}
+
+-- node 0 is not added, and its word is the orbit type
+unfoldable pub hookedBy : ℕ → List ℕ → List ℕ → List ℕ → Bool
+hookedBy places orbit kinds words = not (eqb (getD kinds 0 0) 3) and all places (λ p. eqb (getD words p 0) (getD orbit p 0))
+
+-- s is not added, and not reached
+unfoldable pub leftOut : List ℕ → List Bool → ℕ → Bool
+leftOut kinds reached s = not (eqb (getD kinds s 0) 3) and not (getD reached s false)
+
+abbrev pub foundOf : Option ℕ → Found
+foundOf none = Nothing
+foundOf (some s) = Node s
+
+-- the hook's fault: node 0, or what the tree of the left arcs does not reach
+pub data HookBy (places nodes : ℕ) (orbit kinds words : List ℕ) (c : ℕ) (arcs : List ℕ) (r : Found) : Type 0 where
+  wrongHook : hookedBy places orbit kinds words ≡ false → r ≡ Node 0 → HookBy places nodes orbit kinds words c arcs r
+  leftOver : hookedBy places orbit kinds words ≡ true → (t : Tree) → Spanning arcs c t
+      → r ≡ foundOf (least nodes (leftOut kinds (t .reached))) → HookBy places nodes orbit kinds words c arcs r

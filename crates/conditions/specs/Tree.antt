@@ -1,0 +1,76 @@
+-- The tree of left arcs that reaches from node 0, while it is grown and when it spans all that is reached.
+-- Assumes nothing.
+use Prim.Native.Nat.{ℕ, _+_, _*_, _≤_, _<_}
+use mathlib.Core.Path.{_≡_}
+use mathlib.Core.Logic.{_⊎_}
+use mathlib.Core.Bool.{Bool, true, false}
+use mathlib.Core.List.{List}
+use lib.ListN.{length, getD}
+use Rattle.base.specs.Below.{count}
+use Rattle.base.specs.First.{there}
+use Rattle.model.specs.Scheme.{left, arcs, arcPart}
+use Rattle.model.specs.Conditions.{pathTo}
+use Rattle.model.specs.declared.Scheme.{Scheme}
+use Rattle.conditions.specs.Arcs.{partOf}
+use Rattle.conditions.specs.declared.tree.Tree.{Tree}
+
+-- x and y are the two ends of arc a, in this order or the other
+abbrev pub Ends : (ℕ → ℕ → ℕ) → ℕ → ℕ → ℕ → Type 0
+Ends part a x y = ((part a 1 ≡ x) × (part a 2 ≡ y)) ⊎ ((part a 1 ≡ y) × (part a 2 ≡ x))
+
+-- entry k is joined to an earlier one by one of the first c arcs
+pub record Branch (part : ℕ → ℕ → ℕ) (c : ℕ) (node parent dim : List ℕ) (k : ℕ) : Type 0 where
+  pub earlier : ℕ
+  pub before : earlier < k
+  pub parentIs : getD node earlier 0 ≡ getD parent k 0
+  pub arc : ℕ
+  pub below : arc < c
+  pub dimIs : part arc 0 ≡ getD dim k 0
+  pub ends : Ends part arc (getD parent k 0) (getD node k 0)
+
+-- the first `size` entries are a tree of the first c arcs, and `reached` marks its nodes
+pub record Spans (arcs : List ℕ) (c : ℕ) (node parent dim : List ℕ) (reached : List Bool) (size : ℕ) : Type 0 where
+  pub longNode : length node ≡ 16
+  pub longParent : length parent ≡ 16
+  pub longDim : length dim ≡ 16
+  pub longReached : length reached ≡ 16
+  pub some : 1 ≤ size
+  pub total : size ≤ count 16 (λ s. getD reached s false)
+  pub root : getD node 0 0 ≡ 0
+  pub branch : (k : ℕ) → 1 ≤ k → k < size → Branch (partOf arcs) c node parent dim k
+  pub marked : (k : ℕ) → k < size → getD reached (getD node k 0) false ≡ true
+  pub found : (s : ℕ) → getD reached s false ≡ true → (k : ℕ) × (k < size) × (getD node k 0 ≡ s)
+  pub once : (j k : ℕ) → j < size → k < size → getD node j 0 ≡ getD node k 0 → j ≡ k
+
+-- both ends of arc a are reached, or none
+abbrev pub Even : List ℕ → List Bool → ℕ → Type 0
+Even arcs reached a = getD reached (partOf arcs a 1) false ≡ getD reached (partOf arcs a 2) false
+
+-- after arc a was looked at
+pub record Joined (arcs : List ℕ) (c a : ℕ) (node parent dim : List ℕ) (reached₀ reached : List Bool) (size₀ size : ℕ) : Type 0 where
+  pub spans : Spans arcs c node parent dim reached size
+  pub longer : size₀ ≤ size
+  pub even : size ≡ size₀ → (reached ≡ reached₀) × Even arcs reached a
+
+-- after the first k arcs were looked at
+pub record Grown (arcs : List ℕ) (c k : ℕ) (node parent dim : List ℕ) (reached : List Bool) (size₀ size : ℕ) : Type 0 where
+  pub spans : Spans arcs c node parent dim reached size
+  pub longer : size₀ ≤ size
+  pub even : size ≡ size₀ → (a : ℕ) → a < k → Even arcs reached a
+
+-- no arc leads out of the tree
+pub record Spanning (arcs : List ℕ) (c : ℕ) (t : Tree) : Type 0 where
+  pub spans : Spans arcs c (t .node) (t .parent) (t .dim) (t .reached) (t .size)
+  pub even : (a : ℕ) → a < c → Even arcs (t .reached) a
+
+-- the tree of a scheme's left arcs: its entries are the nodes that a path leads to, each once, parents first
+pub record TreeOf (S : Scheme) (t : Tree) : Type 0 where
+  pub some : 1 ≤ t .size
+  pub few : t .size ≤ 16
+  pub root : getD (t .node) 0 0 ≡ 0
+  pub below : (k : ℕ) → k < t .size → getD (t .node) k 0 < S .nodes
+  pub branch : (k : ℕ) → 1 ≤ k → k < t .size → Branch (arcPart S left) (arcs S left) (t .node) (t .parent) (t .dim) k
+  pub once : (j k : ℕ) → j < t .size → k < t .size → getD (t .node) j 0 ≡ getD (t .node) k 0 → j ≡ k
+  pub path : (k : ℕ) → k < t .size → there (pathTo S (getD (t .node) k 0)) ≡ true
+  pub entry : (s : ℕ) → there (pathTo S s) ≡ true → (k : ℕ) × (k < t .size) × (getD (t .node) k 0 ≡ s)
+  pub reached : (s : ℕ) → s < S .nodes → getD (t .reached) s false ≡ there (pathTo S s)

@@ -1,0 +1,51 @@
+// Hook: node 0 and the nodes that are reached from it.
+ghost use mathlib.Core.Path.{_≡_};
+ghost use Prim.Native.Nat.{ℕ, _<_, _≤_};
+ghost use Rattle.base.specs.First.{least};
+ghost use Rattle.conditions.specs.Hook.{hookedBy, leftOut, foundOf};
+
+// The least node that offends, where there is one.
+pub enum Found {
+    Node(u32),
+    Nothing,
+}
+
+// Node 0 is a left node, and its left word is the orbit type.
+pub fn hooked<'a>(
+    places: usize,
+    orbit: &'a [u8; 4],
+    kinds: &'a [u8; 16],
+    words: &'a [u8; 64],
+) -> bool
+    requires { ⌜ places ≤ 4 ⌝ }
+    ensures { λ r. ⌜ r ≡ hookedBy places (now (orbit .entry)) (now (kinds .entry)) (now (words .entry)) ⌝ }
+{
+    if kinds[0] == 3 {
+        return false;
+    }
+    let mut p = 0;
+    while p < places {
+        if words[p] != orbit[p] {
+            return false;
+        }
+        p += 1;
+    }
+    true
+}
+
+// The least left node that is not reached.
+pub fn unreached<'a>(nodes: usize, kinds: &'a [u8; 16], reached: &'a [bool; 16]) -> Found
+    requires { ⌜ nodes ≤ 16 ⌝ }
+    ensures { λ r. ⌜ r ≡ foundOf (least nodes (leftOut (now (kinds .entry)) (now (reached .entry)))) ⌝ }
+{
+    let mut s = 0;
+    while s < nodes {
+        if kinds[s] != 3 {
+            if !reached[s] {
+                return Found::Node(s as u32);
+            }
+        }
+        s += 1;
+    }
+    Found::Nothing
+}

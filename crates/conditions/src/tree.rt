@@ -1,0 +1,130 @@
+// The tree of left arcs that reaches from node 0.
+use crate::arcs::part;
+ghost use mathlib.Core.Path.{_≡_};
+ghost use Prim.Native.Nat.{_+_, _<_};
+ghost use mathlib.Core.Bool.{true};
+ghost use lib.ListN.{set};
+ghost use Rattle.conditions.specs.Arcs.{Joins};
+ghost use Rattle.conditions.specs.Tree.{Spans, Joined, Grown, Spanning};
+
+// What is reached from node 0 over left arcs, as a tree: its first `size` entries. Entry 0 is node 0; any other is a node, with an
+// earlier one to which a left arc of dimension `dim` joins it. `reached` tells of each node whether it is an entry.
+pub struct Tree {
+    pub size: usize,
+    pub node: [u8; 16],
+    pub parent: [u8; 16],
+    pub dim: [u8; 16],
+    pub reached: [bool; 16],
+}
+
+// Makes node `to`, which an arc of dimension i joins to `from`, entry k.
+fn push<'a>(
+    node: &'a mut [u8; 16],
+    parent: &'a mut [u8; 16],
+    dim: &'a mut [u8; 16],
+    reached: &'a mut [bool; 16],
+    k: usize,
+    i: usize,
+    from: usize,
+    to: usize,
+)
+    requires { ⌜ (k < 16) × (i < 4) × (from < 16) × (to < 16) ⌝ }
+    ensures { λ _. ⌜ now (node .exit) ≡ set (now (node .entry)) k to ⌝ }
+    ensures { λ _. ⌜ now (parent .exit) ≡ set (now (parent .entry)) k from ⌝ }
+    ensures { λ _. ⌜ now (dim .exit) ≡ set (now (dim .entry)) k i ⌝ }
+    ensures { λ _. ⌜ now (reached .exit) ≡ set (now (reached .entry)) to true ⌝ }
+{
+    node[k] = to as u8;
+    parent[k] = from as u8;
+    dim[k] = i as u8;
+    reached[to] = true;
+}
+
+// Where just one end of arc a is reached, the other becomes an entry. It returns the new number of entries.
+fn join<'a>(
+    count: usize,
+    arcs: &[u8; 192],
+    a: usize,
+    node: &'a mut [u8; 16],
+    parent: &'a mut [u8; 16],
+    dim: &'a mut [u8; 16],
+    reached: &'a mut [bool; 16],
+    size: usize,
+) -> usize
+    requires { ⌜ Joins (now arcs) count ⌝ }
+    requires { ⌜ a < count ⌝ }
+    requires { ⌜ Spans (now arcs) count (now node) (now parent) (now dim) (now reached) size ⌝ }
+    ensures { λ r. ⌜ Joined (now (arcs .entry)) count a (now (node .exit)) (now (parent .exit)) (now (dim .exit)) (now (reached .entry)) (now (reached .exit)) size r ⌝ }
+{
+    let i = part(arcs, a, 0);
+    let s = part(arcs, a, 1);
+    let t = part(arcs, a, 2);
+    if reached[s] {
+        if reached[t] {
+            return size;
+        }
+        push(node, parent, dim, reached, size, i, s, t);
+        return size + 1;
+    }
+    if reached[t] {
+        push(node, parent, dim, reached, size, i, t, s);
+        return size + 1;
+    }
+    size
+}
+
+// One pass over the arcs. It returns the new number of entries.
+fn grow<'a>(
+    count: usize,
+    arcs: &[u8; 192],
+    node: &'a mut [u8; 16],
+    parent: &'a mut [u8; 16],
+    dim: &'a mut [u8; 16],
+    reached: &'a mut [bool; 16],
+    size: usize,
+) -> usize
+    requires { ⌜ Joins (now arcs) count ⌝ }
+    requires { ⌜ Spans (now arcs) count (now node) (now parent) (now dim) (now reached) size ⌝ }
+    ensures { λ r. ⌜ Grown (now (arcs .entry)) count count (now (node .exit)) (now (parent .exit)) (now (dim .exit)) (now (reached .exit)) size r ⌝ }
+{
+    let mut k = size;
+    let mut a = 0;
+    while a < count {
+        k = join(count, arcs, a, node, parent, dim, reached, k);
+        a += 1;
+    }
+    k
+}
+
+// The tree of the first `count` arcs: passes over them, until one adds nothing.
+pub fn tree_of(count: usize, arcs: &[u8; 192]) -> Tree
+    requires { ⌜ Joins (now arcs) count ⌝ }
+    ensures { λ r. ⌜ Spanning (now (arcs .entry)) count r ⌝ }
+{
+    let mut node = [0u8; 16];
+    let mut parent = [0u8; 16];
+    let mut dim = [0u8; 16];
+    let mut reached = [false; 16];
+    reached[0] = true;
+    let mut last = 0;
+    let mut size = 1;
+    while last < size {
+        last = size;
+        size = grow(
+            count,
+            arcs,
+            &mut node,
+            &mut parent,
+            &mut dim,
+            &mut reached,
+            last,
+        );
+    }
+    Tree {
+        size: size,
+        node: node,
+        parent: parent,
+        dim: dim,
+        reached: reached,
+    }
+}

@@ -1,0 +1,166 @@
+-- The round trip: a map that is written and read again is the same, an accepted file is written back byte for byte, and maps
+-- that agree in their live records have one file. The length of a file is `length-file` of proofs/SectionLaws.antt.
+-- Assumes nothing.
+use Prim.Native.Nat.{ℕ, suc, _+_, _*_, _≤_, _<_}
+use mathlib.Core.Path.{_≡_, refl, sym, ap, ap₂, _∙_}
+use mathlib.Core.Logic.{_⊎_, ⊎-elim}
+use mathlib.Core.Bool.{Bool, true, false, cond, true≢false}
+use mathlib.Core.Option.{none, some}
+use mathlib.Core.List.{List, [], _∷_, _++_}
+use native.Mathlib.Nat.{eq-or-lt-of-le}
+use native.Mathlib.Omega.{arith}
+use lib.ListN.{getD, replicate}
+use lib.Dec.{ltb, leb}
+use borrow.Author.Tests.{eqb-true, eq-eqb, ne-eqb, ltb-true, ltb-false, lt-ltb, leb-true, leb-false}
+use Rattle.base.specs.Below.{count}
+use Rattle.base.specs.Lists.{joined}
+use Rattle.base.specs.Digits.{numberAt}
+use Rattle.base.proofs.TestLaws.{and-of, true-or-false}
+use Rattle.base.proofs.BelowLaws.{all-of, count-lt, count-same, count-reaches}
+use Rattle.base.proofs.FirstLaws.{some-not-none, least-only, least-none-of}
+use Rattle.base.proofs.ListLaws.{joined-same}
+use Rattle.model.specs.Map.{Map, live, recordOf, words}
+use Rattle.model.specs.WellFormed.{WellFormed}
+use Rattle.model.specs.File.{twoBytes, fourBytes, liveDarts, section, file, placeOf, fileForm, fileMap}
+use Rattle.table.proofs.SlotLaws.{two-le}
+use Rattle.file.specs.Form.{headOk, countsOk, frameOk, slotOf, slotsOk}
+use Rattle.file.specs.Records.{linkWord, linkPlace, tagPlace, rowOf}
+use Rattle.file.specs.declared.sections.Part.the-variants.{Slots, Tags, Links}
+use Rattle.file.proofs.FormLaws.{form-is}
+use Rattle.file.proofs.FillLaws.{place-is, record-is}
+use Rattle.file.proofs.SectionLaws.{length-file, few-live}
+use Rattle.file.proofs.ReadLaws.{all-bytes}
+use Rattle.file.proofs.WrittenLaws.{start, count-back, head-back, slot-back, tag-back, link-back}
+
+-- ---- written, then read
+
+module _ (n : ℕ) (m : Map) (h : n < 256) (few : m .slots ≤ 1024) where
+  abbrev b : List ℕ
+  b = file n m
+
+  small : liveDarts n m < 65536
+  small = omega (arith, few-live n m _ refl)
+
+  darts-read : numberAt 2 b 3 ≡ liveDarts n m
+  unfolding start
+  darts-read = count-back n m h Slots small
+
+  -- the k-th dart of the file is the k-th live one
+  dart-at : (k : ℕ) → k < liveDarts n m → (x : ℕ) × (x < m .slots) × (live m x ≡ true) × (count x (live m) ≡ k) × (slotOf b k ≡ x)
+  unfolding liveDarts
+  dart-at k l =
+      let r = count-reaches (live m) (m .slots) k l in
+      let x : ℕ = r .0 in
+      let g : x < m .slots = r .1 in
+      (x, g, r .2, r .3, ap (slotOf b) (sym (r .3)) ∙ slot-back n m h x g (eqb-true _ _ (r .2)) (omega arith))
+
+  ordered : (j k : ℕ) → j < k → k < liveDarts n m → slotOf b j < slotOf b k
+  ordered j k l g =
+      let d = dart-at j (omega arith) in
+      let e = dart-at k g in
+      let x : ℕ = d .0 in
+      let y : ℕ = e .0 in
+      let cx : count x (live m) ≡ j = d .3 in
+      let cy : count y (live m) ≡ k = e .3 in
+      rw (d .4, e .4) (⊎-elim
+      (λ (t : ltb x y ≡ true). ltb-true x y t)
+      (λ (t : ltb x y ≡ false). ⊎-elim
+      (λ (q : y ≡ x). let same : count y (live m) ≡ count x (live m) = ap (λ (z : ℕ). count z (live m)) q in absurd (omega arith))
+      (λ (q : y < x). let less : count y (live m) < count x (live m) = count-lt (live m) y x q (e .2) in absurd (omega arith))
+      (eq-or-lt-of-le (ltb-false x y t)))
+      (true-or-false (ltb x y)))
+
+  -- the file of a map is in the form
+  pub written-form : fileForm n (m .slots) b ≡ true
+  unfolding frameOk headOk countsOk slotsOk start
+  written-form =
+      let e = head-back n m h (omega arith) in
+      let tags = count-back n m h Tags small in
+      let links = count-back n m h Links small in
+      form-is n (m .slots) b ∙ rw darts-read (and-of
+      (and-of (and-of (and-of (eq-eqb _ _ (e .0)) (eq-eqb _ _ (e .1))) (and-of (eq-eqb _ _ tags) (eq-eqb _ _ links))) (eq-eqb _ _ (length-file n m h)))
+      (all-of (liveDarts n m) _ (λ k l. let d = dart-at k l in and-of
+      (lt-ltb (slotOf b k) (m .slots) (rw (d .4) (d .1))) (all-of k _ (λ o g. lt-ltb (slotOf b o) (slotOf b k) (ordered o k g l))))))
+
+  place-live : (x : ℕ) → x < m .slots → m .state x ≡ 1 → placeOf n (m .slots) b x ≡ some (count x (live m))
+  unfolding liveDarts
+  place-live x g e = sym (place-is n (m .slots) b x) ∙ rw darts-read
+      (least-only (liveDarts n m) _ (count x (live m)) (count-lt (live m) x (m .slots) g (eq-eqb _ _ e)) (eq-eqb _ _ (slot-back n m h x g e (omega arith)))
+      (λ j l t. let d = dart-at j l in sym (d .3) ∙ ap (λ (y : ℕ). count y (live m)) (sym (d .4) ∙ eqb-true _ _ t)))
+
+  place-unused : (x : ℕ) → live m x ≡ false → placeOf n (m .slots) b x ≡ none
+  place-unused x e = sym (place-is n (m .slots) b x) ∙ rw darts-read (least-none-of (liveDarts n m) _ (λ k l.
+      let d = dart-at k l in
+      ne-eqb (slotOf b k) x (λ q. true≢false (sym (d .2) ∙ ap (live m) (sym (d .4) ∙ q) ∙ e))))
+
+  module _ (d : (n ≡ 2) ⊎ (n ≡ 3)) (w : WellFormed n m) (tags : (x : ℕ) → x < m .slots → m .state x ≡ 1 → m .tag x < 4294967296) where
+    link-read : (x : ℕ) → x < m .slots → m .state x ≡ 1 → (i : ℕ) → i ≤ 3
+        → linkWord n b (linkPlace n b (count x (live m))) (slotOf b (count x (live m))) i ≡ m .link i x
+    unfolding linkWord linkPlace
+    link-read x g e i l = rw darts-read (⊎-elim
+        (λ (t : leb i n ≡ true). let k = leb-true i n t in
+        rw t (link-back n m h x g e i k (omega (arith, w .below x g e i k))))
+        (λ (t : leb i n ≡ false). let two : n ≡ 2 = omega (arith, leb-false i n t, two-le d) in
+        let three : i ≡ 3 = omega (arith, leb-false i n t, two-le d) in
+        rw (t, three) (slot-back n m h x g e (omega arith) ∙ sym (w .flat two x g e)))
+        (true-or-false (leb i n)))
+
+    live-record : (x : ℕ) → x < m .slots → m .state x ≡ 1 → recordOf (fileMap n (m .slots) b) x ≡ recordOf m x
+    unfolding rowOf tagPlace
+    live-record x g e =
+        let c : ℕ = count x (live m) in
+        let slot : slotOf b c ≡ x = slot-back n m h x g e (omega arith) in
+        let tag : numberAt 4 b (tagPlace b c) ≡ m .tag x
+        = ap (λ (L : ℕ). numberAt 4 b (7 + 2 * L + 4 * c)) darts-read ∙ tag-back n m h x g e (tags x g e) in
+        let link : (i : ℕ) → i ≤ 3 → linkWord n b (linkPlace n b c) (slotOf b c) i ≡ m .link i x = link-read x g e in
+        record-is n (m .slots) b x (some c) (place-live x g e) (λ k q. let z : c ≡ k = cc in ap (slotOf b) (sym z) ∙ slot)
+        ∙ (λ i. sym e i ∷ link 0 (omega arith) i ∷ link 1 (omega arith) i ∷ link 2 (omega arith) i ∷ link 3 (omega arith) i ∷ tag i ∷ [])
+
+    -- written and read again, a map has its live records, and zeros in all others
+    pub read-back : (x : ℕ) → x < m .slots → recordOf (fileMap n (m .slots) b) x ≡ cond (live m x) (recordOf m x) (replicate 6 0)
+    read-back x g = ⊎-elim
+        (λ (t : live m x ≡ true). rw t (live-record x g (eqb-true (m .state x) 1 t)))
+        (λ (t : live m x ≡ false). rw t (record-is n (m .slots) b x none (place-unused x t) (λ k q. absurd (some-not-none q refl))))
+        (true-or-false (live m x))
+
+    -- the table that is read
+    pub read-back-table : words (fileMap n (m .slots) b) ≡ joined (m .slots) (λ x. cond (live m x) (recordOf m x) (replicate 6 0))
+    unfolding words fileMap
+    read-back-table = joined-same (m .slots) _ _ read-back
+
+-- ---- read, then written
+
+-- a file in the form, well-formed or not, is the file of the map that it holds
+pub written-back : (n N : ℕ) (b : List ℕ) → fileForm n N b ≡ true → ((i : ℕ) → getD b i 0 < 256) → file n (fileMap n N b) ≡ b
+written-back n N b t bytes = all-bytes n N b t bytes
+
+-- ---- one file for a map
+
+-- k has the slots, live slots and live records of m
+pub record Alike (n : ℕ) (m k : Map) : Type 0 where
+  pub slots : m .slots ≡ k .slots
+  pub alive : (x : ℕ) → x < m .slots → live m x ≡ live k x
+  pub links : (x : ℕ) → x < m .slots → live m x ≡ true → (i : ℕ) → i ≤ n → m .link i x ≡ k .link i x
+  pub tags : (x : ℕ) → x < m .slots → live m x ≡ true → m .tag x ≡ k .tag x
+
+module _ (n : ℕ) (m k : Map) (a : Alike n m k) where
+  section-same : (f g : ℕ → List ℕ) → ((x : ℕ) → x < m .slots → live m x ≡ true → f x ≡ g x) → section n m f ≡ section n k g
+  unfolding section liveDarts
+  section-same f g e = ap₂ (λ (c : ℕ) (l : List ℕ). twoBytes c ++ l)
+      (count-same (m .slots) _ _ (a .alive) ∙ ap (λ (z : ℕ). count z (live k)) (a .slots))
+      (joined-same (m .slots) _ _ (λ x l. each x l (live m x) refl)
+      ∙ ap (λ (z : ℕ). joined z (λ x. cond (live k x) (g x) [])) (a .slots))
+    where
+      each : (x : ℕ) → x < m .slots → (t : Bool) → live m x ≡ t → cond (live m x) (f x) [] ≡ cond (live k x) (g x) []
+      each x l true q = rw (← a .alive x l, q) (e x l q)
+      each x l false q = rw (← a .alive x l, q) refl
+
+  -- maps that agree in their live records have one file
+  pub file-same : file n m ≡ file n k
+  unfolding file
+  file-same =
+      let slots = section-same twoBytes twoBytes (λ x l e. refl) in
+      let tags = section-same (λ x. fourBytes (m .tag x)) (λ x. fourBytes (k .tag x)) (λ x l e. ap fourBytes (a .tags x l e)) in
+      let links = section-same (λ x. joined (suc n) (λ i. twoBytes (m .link i x))) (λ x. joined (suc n) (λ i. twoBytes (k .link i x)))
+      (λ x l e. joined-same (suc n) _ _ (λ i g. ap twoBytes (a .links x l e i (omega arith)))) in
+      λ i. n ∷ twoBytes (a .slots i) ++ slots i ++ tags i ++ links i

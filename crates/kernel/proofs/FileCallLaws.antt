@@ -1,0 +1,141 @@
+-- A read and a write, refusal by refusal.
+-- Assumes nothing.
+use Prim.Native.Nat.{ℕ, _+_, _*_, _≤_, _<_}
+use mathlib.Core.Path.{_≡_, refl, sym, ap, _∙_}
+use mathlib.Core.Logic.{_⊎_, ⊎-elim}
+use mathlib.Core.Bool.{true, false}
+use mathlib.Core.List.{List, _++_}
+use native.Mathlib.Nat.{mul-le-mul}
+use native.Mathlib.Omega.{arith}
+use lib.ListN.{length, drop, replicate}
+use lib.Dec.{ltb}
+use borrow.Author.Tests.{lt-ltb, le-ltb}
+use Rattle.base.specs.Below.{count}
+use Rattle.base.specs.First.{when, there, _orElse_}
+use Rattle.base.proofs.TestLaws.{true-or-false}
+use Rattle.base.proofs.BelowLaws.{count-le}
+use Rattle.model.specs.Map.{view, words, live}
+use Rattle.model.specs.WellFormed.{wellFormed}
+use Rattle.model.specs.File.{liveDarts, file, fileForm, fileMap}
+use Rattle.model.specs.Calls.{zeros, sizesOk, tableFault, readFault, readAnswer, readTable, writeFault, writeAnswer, writeOut}
+use Rattle.model.specs.declared.Answer.the-variants.{Done, Written, BadCall, BadTable, BadFile, ShortOutput}
+use Rattle.model.proofs.MapLaws.{length-words}
+use Rattle.model.proofs.AlikeLaws.{words-formed}
+use Rattle.table.specs.Words.{Sized}
+use Rattle.file.specs.Records.{loaded}
+use Rattle.file.proofs.FormLaws.{three-le}
+use Rattle.file.proofs.SectionLaws.{length-file}
+use Rattle.kernel.specs.Word.{Small}
+use Rattle.kernel.proofs.CallLaws.{sizes-read}
+
+-- ---- a read: 1, 11, 7
+
+module _ (n N : ℕ) (t b : List ℕ) where
+  pub read-1 : sizesOk n N t ≡ false → (BadCall ≡ readAnswer n N t b) × (t ≡ readTable n N t b)
+  unfolding readAnswer readTable readFault when _orElse_
+  read-1 e = (rw e refl, rw e refl)
+
+  module _ (s : sizesOk n N t ≡ true) where
+    pub read-11 : (t' : List ℕ) → fileForm n N b ≡ false → t' ≡ loaded n N t b → (BadFile ≡ readAnswer n N t b) × (t' ≡ readTable n N t b)
+    unfolding readAnswer readTable readFault when _orElse_ there loaded
+    read-11 t' f e = (rw (s, f) refl, e ∙ rw (s, f) refl)
+
+    module _ (t₁ : List ℕ) (f : fileForm n N b ≡ true) (e : t₁ ≡ loaded n N t b) where
+      filled : t₁ ≡ words (fileMap n N b)
+      unfolding loaded
+      filled = e ∙ rw f refl
+
+      same-length : length t₁ ≡ length t
+      unfolding fileMap
+      same-length = ap length filled ∙ length-words (fileMap n N b) ∙ sym (sizes-read n N t s .1 .long)
+
+      pub filled-sizes : ((n ≡ 2) ⊎ (n ≡ 3)) × Sized N t₁
+      filled-sizes = let r = sizes-read n N t s in (r .0, record { few = r .1 .few; long = same-length ∙ r .1 .long })
+
+      -- the check of the table is that of the file's map
+      well-is : wellFormed n (view N t₁) ≡ wellFormed n (fileMap n N b)
+      unfolding fileMap
+      well-is = ap (λ (l : List ℕ). wellFormed n (view N l)) filled ∙ words-formed n (fileMap n N b) (three-le (sizes-read n N t s .0))
+
+      pub read-7 : (t' : List ℕ) → wellFormed n (view N t₁) ≡ false → t' ≡ zeros t₁ → (BadTable ≡ readAnswer n N t b) × (t' ≡ readTable n N t b)
+      unfolding readAnswer readTable readFault when _orElse_ there
+      read-7 t' w z = let v = sym well-is ∙ w in (rw (s, f, v) refl, z ∙ ap (λ (k : ℕ). replicate k 0) same-length ∙ rw (s, f, v) refl)
+
+      pub read-0 : wellFormed n (view N t₁) ≡ true → (Done ≡ readAnswer n N t b) × (t₁ ≡ readTable n N t b)
+      unfolding readAnswer readTable readFault when _orElse_ there
+      read-0 w = let v = sym well-is ∙ w in (rw (s, f, v) refl, filled ∙ rw (s, f, v) refl)
+
+  pub read-small : Small (readAnswer n N t b)
+  unfolding readAnswer readFault when _orElse_
+  read-small = ⊎-elim
+      (λ (s : sizesOk n N t ≡ true). ⊎-elim
+      (λ (f : fileForm n N b ≡ true). ⊎-elim
+      (λ (w : wellFormed n (fileMap n N b) ≡ true). rw (s, f, w) tt)
+      (λ (w : wellFormed n (fileMap n N b) ≡ false). rw (s, f, w) tt)
+      (true-or-false (wellFormed n (fileMap n N b))))
+      (λ (f : fileForm n N b ≡ false). rw (s, f) tt)
+      (true-or-false (fileForm n N b)))
+      (λ (s : sizesOk n N t ≡ false). rw s tt)
+      (true-or-false (sizesOk n N t))
+
+-- ---- a write: 1, 7, 12
+
+module _ (n N : ℕ) (t out : List ℕ) where
+  pub write-1 : sizesOk n N t ≡ false → (BadCall ≡ writeAnswer n N t out) × (out ≡ writeOut n N t out)
+  unfolding writeAnswer writeOut writeFault tableFault when _orElse_ there
+  write-1 e = (rw e refl, rw e refl)
+
+  module _ (s : sizesOk n N t ≡ true) where
+    pub write-7 : wellFormed n (view N t) ≡ false → (BadTable ≡ writeAnswer n N t out) × (out ≡ writeOut n N t out)
+    unfolding writeAnswer writeOut writeFault tableFault when _orElse_ there
+    write-7 w = (rw (s, w) refl, rw (s, w) refl)
+
+    module _ (k : ℕ) (e : k ≡ count N (live (view N t))) where
+      write-size : 9 + k * (6 + 2 * (n + 1)) ≡ length (file n (view N t))
+      unfolding liveDarts
+      write-size = rw e (sym (length-file n (view N t) (omega (arith, three-le (sizes-read n N t s .0)))))
+
+      pub write-few : k * (6 + 2 * (n + 1)) ≤ 1024 * 14
+      write-few =
+          let r = sizes-read n N t s in
+          let a : k ≤ 1024 = rw e (omega (arith, count-le N (live (view N t)), r .1 .few)) in
+          let b : 6 + 2 * (n + 1) ≤ 14 = omega (arith, three-le (r .0)) in
+          mul-le-mul a b
+
+      pub write-fits : 9 + k * (6 + 2 * (n + 1)) ≤ length out → length (file n (view N t)) ≤ length out
+      write-fits h = rw (← write-size) h
+
+      pub write-live : k ≡ liveDarts n (view N t)
+      unfolding liveDarts
+      write-live = e
+
+      module _ (w : wellFormed n (view N t) ≡ true) where
+        pub write-12 : length out < 9 + k * (6 + 2 * (n + 1)) → (ShortOutput ≡ writeAnswer n N t out) × (out ≡ writeOut n N t out)
+        unfolding writeAnswer writeOut writeFault tableFault when _orElse_ there
+        write-12 h =
+            let l : ltb (length out) (length (file n (view N t))) ≡ true = lt-ltb (length out) (length (file n (view N t))) (rw (← write-size) h) in
+            (rw (s, w, l) refl, rw (s, w, l) refl)
+
+        pub write-0 : (out' : List ℕ) → 9 + k * (6 + 2 * (n + 1)) ≤ length out
+            → out' ≡ file n (view N t) ++ drop (length (file n (view N t))) out
+            → (Written (9 + k * (6 + 2 * (n + 1))) ≡ writeAnswer n N t out) × (out' ≡ writeOut n N t out)
+        unfolding writeAnswer writeOut writeFault tableFault when _orElse_ there
+        write-0 out' h z =
+            let l : ltb (length out) (length (file n (view N t))) ≡ false = le-ltb (length out) (length (file n (view N t))) (rw (← write-size) h) in
+            (rw (s, w, l, write-size) refl, z ∙ rw (s, w, l) refl)
+
+  pub write-small : Small (writeAnswer n N t out)
+  unfolding writeAnswer writeFault tableFault when _orElse_
+  write-small = ⊎-elim
+      (λ (s : sizesOk n N t ≡ true). ⊎-elim
+      (λ (w : wellFormed n (view N t) ≡ true). ⊎-elim
+      (λ (l : ltb (length out) (length (file n (view N t))) ≡ true). rw (s, w, l) tt)
+      (λ (l : ltb (length out) (length (file n (view N t))) ≡ false). rw (s, w, l) (few s))
+      (true-or-false (ltb (length out) (length (file n (view N t))))))
+      (λ (w : wellFormed n (view N t) ≡ false). rw (s, w) tt)
+      (true-or-false (wellFormed n (view N t))))
+      (λ (s : sizesOk n N t ≡ false). rw s tt)
+      (true-or-false (sizesOk n N t))
+    where
+      few : sizesOk n N t ≡ true → length (file n (view N t)) < 9223372036854775808
+      few s = rw (← write-size s _ refl) (omega (arith, write-few s (count N (live (view N t))) refl))

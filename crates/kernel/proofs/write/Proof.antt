@@ -1,0 +1,106 @@
+-- `kernel::write` meets its contract.
+-- Assumes nothing.
+use Prim.Native.Nat.{_+_, _*_, _≤_}
+use mathlib.Core.Path.{_≡_, sym, _∙_}
+use mathlib.Core.Bool.{true}
+use native.Mathlib.Omega.{arith}
+use borrow.Author.Needs.{needs}
+use borrow.Author.Tests.{not-true, not-false}
+use denote.Ref.{now}
+use Rattle.base.specs.Below.{count}
+use Rattle.model.specs.Map.{view, live}
+use Rattle.model.specs.WellFormed.{wellFormed}
+use Rattle.model.specs.Calls.{sizesOk}
+use Rattle.table.proofs.SurveyLaws.{survey-live, survey-broken}
+use Rattle.kernel.proofs.CallLaws.{sizes-read}
+use Rattle.kernel.proofs.FileCallLaws.{write-0, write-1, write-7, write-12, write-few, write-fits, write-live}
+use Rattle.kernel.proofs.write.Statement.{statement}
+use Rattle.kernel.proofs.write.Tie as tie
+
+sized : (c : tie.Else1) → let a = c .before .before .before .before .args in sizesOk (a .n) (a .slots) (now (a .table)) ≡ true
+sized c = sym (c .before .sizes .ensures) ∙ not-false _ (c .if1 .left)
+
+surveyed : (c : tie.After-found) → let a = c .before .before .before .before .before .before .before .args in let m = view (a .slots) (now (a .table)) in
+    (wellFormed (a .n) m ≡ true) × (c .found .given .0 .0 ≡ count (a .slots) (live m))
+surveyed c = survey-live _ _ _ (c .before .before .survey .ensures) _ (c .found .given .1)
+
+few : (c : tie.After-found) → c .found .given .0 .0 * (6 + 2 * (c .before .before .before .before .before .before .before .args .n + 1)) ≤ 1024 * 14
+few c = let a = c .before .before .before .before .before .before .before .args in write-few (a .n) (a .slots) (now (a .table)) (now (a .out)) (sized (c .before .before .before)) _ (surveyed c .1)
+
+sizes-requires : tie.Need-sizes-requires
+sizes-requires c κs = search needs
+
+returns : tie.Need-returns
+returns c = write-1 _ _ _ _ (sym (c .before .sizes .ensures) ∙ not-true _ (c .if1 .taken))
+
+survey-requires : tie.Need-survey-requires
+survey-requires c κs = let a = c .before .before .before .before .args in sizes-read (a .n) (a .slots) (now (a .table)) (sized c)
+
+enum-known-found : tie.Need-enum-known-found
+enum-known-found c = search needs
+
+add-size : tie.Need-add-size
+add-size c = search needs
+
+mul-size : tie.Need-mul-size
+mul-size c = search needs
+
+add-size-2 : tie.Need-add-size-2
+add-size-2 c = search needs
+
+mul-size-2 : tie.Need-mul-size-2
+mul-size-2 c = omega (arith, few (c .before))
+
+add-size-3 : tie.Need-add-size-3
+add-size-3 c = omega (arith, few (c .before))
+
+returns-2 : tie.Need-returns-2
+returns-2 c =
+    let f = surveyed (c .before .before) in
+    write-12 _ _ _ _ (sized (c .before .before .before .before .before)) _ (f .1) (f .0) (c .if2 .taken)
+
+write-requires : tie.Need-write-requires
+write-requires c κs =
+    let a = c .before .before .before .before .before .before .before .before .before .before .args in
+    let s = sized (c .before .before .before .before .before .before) in
+    let l = surveyed (c .before .before .before) .1 in
+    let r = sizes-read (a .n) (a .slots) (now (a .table)) s in
+    (r .0, (r .1, (write-live (a .n) (a .slots) (now (a .table)) (now (a .out)) s _ l, write-fits (a .n) (a .slots) (now (a .table)) (now (a .out)) s _ l (c .before .if2 .left))))
+
+cast-t21 : tie.Need-cast-t21
+cast-t21 c = omega (arith, few (c .before .before .before .before .before .before))
+
+enum-told : tie.Need-enum-told
+enum-told c = search needs
+
+same-length : tie.Need-same-length
+same-length c = search needs
+
+returns-3 : tie.Need-returns-3
+returns-3 c =
+    let f = surveyed (c .before .before .before .before .before .before) in
+    write-0 _ _ _ _ (sized (c .before .before .before .before .before .before .before .before .before)) _ (f .1) (f .0) _ (c .before .before .before .before .if2 .left) (c .before .before .write .ensures)
+
+returns-4 : tie.Need-returns-4
+returns-4 c = write-7 _ _ _ _ (sized (c .before .before .before)) (survey-broken _ _ _ (c .before .before .survey .ensures) (c .enum-told .given .1))
+
+pub write-spec : {M : Type 1} → statement M
+write-spec =
+    tie.close
+    (tie.spec
+    sizes-requires
+    returns
+    survey-requires
+    enum-known-found
+    add-size
+    mul-size
+    add-size-2
+    mul-size-2
+    add-size-3
+    returns-2
+    write-requires
+    cast-t21
+    enum-told
+    same-length
+    returns-3
+    returns-4)

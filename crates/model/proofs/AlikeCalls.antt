@@ -1,0 +1,235 @@
+-- Each call on two tables that hold alike well-formed maps: equal answers, equal written files, and again two such tables.
+-- Assumes nothing.
+use Prim.Native.Nat.{ℕ, _*_, _<_}
+use mathlib.Core.Path.{_≡_, refl, sym, ap, ap₂, _∙_, subst}
+use mathlib.Core.Bool.{Bool, not, cond}
+use mathlib.Core.Option.{Option, none, some, Option·getD}
+use mathlib.Core.List.{List, [], _++_}
+use lib.ListN.{length, drop, replicate}
+use lib.Dec.{eqb, ltb}
+use borrow.Author.Tests.{eqb-true, ltb-true}
+use Rattle.base.specs.Test.{_and_}
+use Rattle.base.specs.First.{when, there, _orElse_}
+use Rattle.base.proofs.TestLaws.{and-left, and-right, and-same}
+use Rattle.base.proofs.FirstLaws.{or-else-none, or-else-same, getD-same}
+use Rattle.model.specs.Map.{Map, view, words, live}
+use Rattle.model.specs.WellFormed.{WellFormed, wellFormed}
+use Rattle.model.specs.Scheme.{schemeOf, orbitDim}
+use Rattle.model.specs.Accepted.{Accepted}
+use Rattle.model.specs.Edit.{orbitSize, addedDarts, deletedDarts, edited}
+use Rattle.model.specs.File.{file, fileMap}
+use Rattle.model.specs.Calls.{sizesOk, tableFault, checkTable, bytesFault, roomFault, orbitOf, editFault, editAnswer, editTable, editStore, readFault, readAnswer, readTable, writeFault, writeAnswer, writeOut}
+use Rattle.model.specs.Alike.{Alike}
+use Rattle.model.specs.Sequence.{AlikeTables, writtenFile}
+use Rattle.model.specs.declared.Scheme.{Scheme}
+use Rattle.model.specs.declared.Answer.{Answer}
+use Rattle.model.specs.declared.Answer.the-variants.{Done, Edited, Written, BadCall, BadTable, NoDart, NoMatch, NoRoom, ShortOutput}
+use Rattle.model.proofs.WellFormedLaws.{wellFormed-iff}
+use Rattle.model.proofs.SchemeLaws.{formed}
+use Rattle.model.proofs.AcceptedLaws.{accepted, small}
+use Rattle.model.proofs.MatchLaws.{GoodOrbit, match-assigns}
+use Rattle.model.proofs.MatchIff.{good-orbit}
+use Rattle.model.proofs.CallLaws.{Granted, passed, granted, edit-table, refused-table}
+use Rattle.model.proofs.HoldsLaws.{holds-free, dimension-small, table-length, edit-holds, store-zero, read-holds, written-file}
+use Rattle.model.proofs.AlikeLaws.{alike-refl, alike-sym, alike-trans, words-alike, same-live, same-room, same-orbit}
+use Rattle.model.proofs.AlikeMatch.{same-matches}
+use Rattle.model.proofs.AlikeEdit.{same-size, same-added, same-deleted, edited-alike}
+use Rattle.model.proofs.FileLaws.{same-file}
+
+-- ---- edits of maps
+
+module _ (m m′ : Map) (a : Alike m m′) (S : Scheme) (g : Accepted S) (w : WellFormed (S .n) m) (w′ : WellFormed (S .n) m′)
+    (O : ℕ → Bool) (o : GoodOrbit m S O) where
+  same-room-fault : roomFault m S O ≡ roomFault m′ S O
+  unfolding roomFault
+  same-room-fault = or-else-same _ _
+      (ap (λ (b : Bool). when (not b) NoMatch) (same-matches S g O m m′ a w w′ o))
+      (λ q. ap₂ (λ (c k : ℕ). when (ltb c k) NoRoom) (same-room m m′ a (S .n) w w′) (same-added m m′ a S O))
+
+-- what has been tested of an edit before the match
+record Tested (n N : ℕ) (t b : List ℕ) (d : ℕ) : Type 0 where
+  clean : bytesFault b ≡ none
+  dimension : schemeOf b .n ≡ n
+  slot : d < N
+  alive : view N t .state d ≡ 1
+
+granted-tested : (n N : ℕ) (t store b : List ℕ) (d : ℕ) → Granted n N t store b d → Tested n N t b d
+unfolding bytesFault when _orElse_
+granted-tested n N t store b d g = record {
+  clean = rw (g .form) (g .accepted);
+  dimension = g .dimension;
+  slot = g .slot;
+  alive = g .alive;
+}
+
+-- ---- two tables
+
+module _ (n N : ℕ) (t t′ : List ℕ) (a : AlikeTables n N t t′) where
+  abbrev m : Map
+  m = view N t
+
+  abbrev m′ : Map
+  m′ = view N t′
+
+  same-sizes : sizesOk n N t ≡ sizesOk n N t′
+  same-sizes = a .one .sizes ∙ sym (a .other .sizes)
+
+  same-length : length t ≡ length t′
+  same-length = table-length n N t (a .one .sizes) ∙ sym (table-length n N t′ (a .other .sizes))
+
+  same-table-fault : tableFault n N t ≡ tableFault n N t′
+  same-table-fault = holds-free n N t (a .one) ∙ sym (holds-free n N t′ (a .other))
+
+  -- ---- a table check
+
+  pub same-check : checkTable n N t ≡ checkTable n N t′
+  unfolding checkTable
+  same-check = ap (λ (o : Option Answer). Option·getD o Done) same-table-fault
+
+  -- ---- an edit
+
+  module _ (store store′ : List ℕ) (e : length store ≡ length store′) (b : List ℕ) (d : ℕ) where
+    abbrev S : Scheme
+    S = schemeOf b
+
+    abbrev O : ℕ → Bool
+    O = orbitOf n N t store b d
+
+    abbrev O′ : ℕ → Bool
+    O′ = orbitOf n N t′ store′ b d
+
+    module _ (p : Tested n N t b d) where
+      good : Accepted S
+      unfolding bytesFault
+      good = let r = or-else-none _ _ (p .clean) in accepted S (formed b (passed _ _ (r .0))) (r .1)
+
+      well : WellFormed (S .n) m
+      well = subst (λ (k : ℕ). WellFormed k m) (sym (p .dimension)) (a .one .well)
+
+      well′ : WellFormed (S .n) m′
+      well′ = subst (λ (k : ℕ). WellFormed k m′) (sym (p .dimension)) (a .other .well)
+
+      orbit-good : GoodOrbit m S O
+      unfolding orbitOf
+      orbit-good = good-orbit m S d good well (p .slot) (p .alive)
+
+      same-O : O ≡ O′
+      unfolding orbitOf
+      same-O = same-orbit (S .n) (small S (good .formed)) (S .places) (orbitDim S) (good .formed .orbitDims) d
+          m m′ (a .alike) well well′ (p .slot) (p .alive)
+
+      room-fault : roomFault m S O ≡ roomFault m′ S O′
+      room-fault = same-room-fault m m′ (a .alike) S good well well′ O orbit-good ∙ ap (roomFault m′ S) same-O
+
+      counts : Edited (orbitSize m S O) (addedDarts m S O) (deletedDarts m S O)
+          ≡ Edited (orbitSize m′ S O′) (addedDarts m′ S O′) (deletedDarts m′ S O′)
+      counts =
+          let size = same-size m m′ (a .alike) S O ∙ ap (orbitSize m′ S) same-O in
+          let more = same-added m m′ (a .alike) S O ∙ ap (addedDarts m′ S) same-O in
+          let gone = same-deleted m m′ (a .alike) S O ∙ ap (deletedDarts m′ S) same-O in
+          λ i. Edited (size i) (more i) (gone i)
+
+    same-well : wellFormed n m ≡ wellFormed n m′
+    same-well = wellFormed-iff n m .1 (a .one .well) ∙ sym (wellFormed-iff n m′ .1 (a .other .well))
+
+    same-dart-test : (ltb d N and live m d) ≡ (ltb d N and live m′ d)
+    same-dart-test = and-same (ltb d N) (λ h. same-live m m′ (a .alike) d (ltb-true _ _ h))
+
+    -- test by test, each asked only where those before it have passed
+    same-fault : editFault n N t store b d ≡ editFault n N t′ store′ b d
+    unfolding editFault
+    same-fault =
+        or-else-same _ _ (ap₂ (λ (s : Bool) (k : ℕ). when (not (s and eqb k (16 * N))) BadCall) same-sizes e) (λ r1.
+        or-else-same _ _ refl (λ r2.
+        or-else-same _ _ refl (λ r6.
+        or-else-same _ _ (ap (λ (w : Bool). when (not w) BadTable) same-well) (λ r7.
+        or-else-same _ _ (ap (λ (w : Bool). when (not w) NoDart) same-dart-test) (λ r8.
+        let dart = passed _ _ r8 in
+        room-fault (record {
+          clean = r2;
+          dimension = eqb-true _ _ (passed _ _ r6);
+          slot = ltb-true _ _ (and-left _ _ dart);
+          alive = eqb-true _ _ (and-right _ _ dart);
+        }))))))
+
+    tested : editFault n N t store b d ≡ none → Tested n N t b d
+    tested q = granted-tested n N t store b d (granted n N t store b d q)
+
+    pub same-edit : editAnswer n N t store b d ≡ editAnswer n N t′ store′ b d
+    unfolding editAnswer
+    same-edit = getD-same _ _ same-fault (λ q. counts (tested q))
+
+    edited-like : editFault n N t store b d ≡ none → Alike (edited m S O) (edited m′ S O′)
+    edited-like q =
+        let g = granted n N t store b d q in
+        let p = tested q in
+        subst (λ (r : ℕ → Bool). Alike (edited m S O) (edited m′ S r)) (same-O p)
+        (edited-alike m m′ S O (a .alike) (well p) (well′ p) (good p) (orbit-good p)
+        (match-assigns m S (good p) O (orbit-good p) (well p) (g .match)) (g .room))
+
+    pub edit-alike : AlikeTables n N (editTable n N t store b d) (editTable n N t′ store′ b d)
+    unfolding edited
+    edit-alike = go (editFault n N t store b d) refl
+      where
+        go : (o : Option Answer) → editFault n N t store b d ≡ o → AlikeTables n N (editTable n N t store b d) (editTable n N t′ store′ b d)
+        go none q =
+            let q′ = sym same-fault ∙ q in
+            record {
+              one = edit-holds n N t store b d q;
+              other = edit-holds n N t′ store′ b d q′;
+              alike = rw (edit-table n N t store b d q, edit-table n N t′ store′ b d q′)
+                  (alike-trans (words-alike (edited m S O)) (alike-trans (edited-like q) (alike-sym (words-alike (edited m′ S O′)))));
+            }
+        go (some r) q = rw (refused-table n N t store b d r q, refused-table n N t′ store′ b d r (sym same-fault ∙ q)) a
+
+    -- both stores come back zero; where their length is wrong each stays as it was (`store-kept`)
+    pub same-store : length store ≡ 16 * N → editStore n N t store b d ≡ editStore n N t′ store′ b d
+    same-store k = store-zero n N t store b d (a .one .sizes) k ∙ sym (store-zero n N t′ store′ b d (a .other .sizes) (sym e ∙ k))
+
+  -- ---- a read
+
+  same-read-fault : (b : List ℕ) → readFault n N t b ≡ readFault n N t′ b
+  unfolding readFault
+  same-read-fault b = or-else-same _ _ (ap (λ (s : Bool). when (not s) BadCall) same-sizes) (λ r. refl)
+
+  pub same-read : (b : List ℕ) → readAnswer n N t b ≡ readAnswer n N t′ b
+  unfolding readAnswer
+  same-read b = ap (λ (o : Option Answer). Option·getD o Done) (same-read-fault b)
+
+  -- a read keeps nothing of the table that was there
+  pub same-read-table : (b : List ℕ) → readTable n N t b ≡ readTable n N t′ b
+  unfolding readTable
+  same-read-table b = rw (a .one .sizes, a .other .sizes)
+      (ap₂ (λ (o : Option Answer) (k : ℕ). cond (there o) (replicate k 0) (words (fileMap n N b))) (same-read-fault b) same-length)
+
+  pub read-alike : (b : List ℕ) → AlikeTables n N (readTable n N t b) (readTable n N t′ b)
+  read-alike b = record {
+    one = read-holds n N t b (a .one .sizes);
+    other = read-holds n N t′ b (a .other .sizes);
+    alike = rw (same-read-table b) (alike-refl (view N (readTable n N t′ b)));
+  }
+
+  -- ---- a write
+
+  pub same-bytes : file n m ≡ file n m′
+  same-bytes = same-file n (dimension-small n N t (a .one .sizes)) m m′ (a .alike)
+
+  module _ (out out′ : List ℕ) (e : length out ≡ length out′) where
+    same-write-fault : writeFault n N t out ≡ writeFault n N t′ out′
+    unfolding writeFault
+    same-write-fault = or-else-same _ _ same-table-fault
+        (λ q. ap₂ (λ (k : ℕ) (l : List ℕ). when (ltb k (length l)) ShortOutput) e same-bytes)
+
+    pub same-write : writeAnswer n N t out ≡ writeAnswer n N t′ out′
+    unfolding writeAnswer
+    same-write = ap₂ (λ (o : Option Answer) (l : List ℕ). Option·getD o (Written (length l))) same-write-fault same-bytes
+
+    pub same-written : writtenFile n N t out ≡ writtenFile n N t′ out′
+    same-written = written-file n N t out (a .one)
+        ∙ ap₂ (λ (k : ℕ) (l : List ℕ). cond (ltb k (length l)) [] l) e same-bytes
+        ∙ sym (written-file n N t′ out′ (a .other))
+
+  -- where the outputs hold the same before, they do afterwards
+  pub same-out : (out : List ℕ) → writeOut n N t out ≡ writeOut n N t′ out
+  unfolding writeOut
+  same-out out = ap₂ (λ (o : Option Answer) (l : List ℕ). cond (there o) out (l ++ drop (length l) out)) (same-write-fault out out refl) same-bytes

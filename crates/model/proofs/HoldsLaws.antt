@@ -1,0 +1,140 @@
+-- Tables that hold a well-formed map: the table check finds just these, the table of a well-formed map is one, and so is a table of zeros.
+-- Assumes nothing.
+use Prim.Native.Nat.{ℕ, _*_, _≤_, _<_}
+use mathlib.Core.Path.{_≡_, refl, sym, ap, _∙_, subst}
+use mathlib.Core.Logic.{inl, ⊎-elim, _↔_}
+use mathlib.Core.Bool.{Bool, true, false, not, cond}
+use mathlib.Core.Option.{Option, none, some, Option·getD}
+use mathlib.Core.List.{List, [], _++_}
+use native.Mathlib.Omega.{arith}
+use lib.ListN.{length, getD, take, drop, replicate, length-replicate, getD-replicate}
+use lib.Seq.{take-append-seam}
+use lib.Dec.{eqb, ltb, leb}
+use borrow.Author.Tests.{eqb-true, eq-eqb, ne-eqb}
+use Rattle.base.specs.Test.{_and_, _or_}
+use Rattle.base.specs.First.{when, there, _orElse_}
+use Rattle.base.proofs.TestLaws.{and-left, and-right, or-cases}
+use Rattle.base.proofs.FirstLaws.{or-else-none}
+use Rattle.model.specs.Map.{Map, view, words, tableSize}
+use Rattle.model.specs.WellFormed.{WellFormed, wellFormed}
+use Rattle.model.specs.Scheme.{schemeOf}
+use Rattle.model.specs.Edit.{edited}
+use Rattle.model.specs.File.{file, fileMap}
+use Rattle.model.specs.Answer.{number, values}
+use Rattle.model.specs.Calls.{zeros, sizesOk, tableFault, checkTable, orbitOf, editFault, editTable, editStore, readFault, readTable, writeFault, writeAnswer, writeOut}
+use Rattle.model.specs.Sequence.{Holds, writtenFile}
+use Rattle.model.specs.declared.Answer.{Answer}
+use Rattle.model.specs.declared.Answer.the-variants.{Done, Written, BadCall, BadTable, ShortOutput}
+use Rattle.model.proofs.WellFormedLaws.{wellFormed-iff}
+use Rattle.model.proofs.MapLaws.{length-words}
+use Rattle.model.proofs.AlikeLaws.{words-well}
+use Rattle.model.proofs.CallLaws.{passed, granted, edit-table, edit-table-well}
+
+module _ (n N : ℕ) (t : List ℕ) where
+  pub holds-free : Holds n N t → tableFault n N t ≡ none
+  unfolding tableFault when _orElse_
+  holds-free h = rw (h .sizes, wellFormed-iff n (view N t) .1 (h .well)) refl
+
+  holds-of : tableFault n N t ≡ none → Holds n N t
+  unfolding tableFault
+  holds-of q = let r = or-else-none _ _ q in record { sizes = passed _ _ (r .0); well = wellFormed-iff n (view N t) .0 (passed _ _ (r .1)) }
+
+  -- a table check answers 0 just where the table holds a well-formed map
+  pub holds-iff : Holds n N t ↔ (checkTable n N t ≡ Done)
+  unfolding checkTable tableFault when _orElse_
+  holds-iff = (
+    (λ h. ap (λ (o : Option Answer). Option·getD o Done) (holds-free h)),
+    (λ e. holds-of (go (not (sizesOk n N t)) (not (wellFormed n (view N t))) e)),
+  )
+    where
+      go : (a b : Bool) → Option·getD (when a BadCall orElse when b BadTable) Done ≡ Done → when a BadCall orElse when b BadTable ≡ none
+      go true b e = let z = ap number e in absurd (omega arith)
+      go false true e = let z = ap number e in absurd (omega arith)
+      go false false e = refl
+
+  module _ (s : sizesOk n N t ≡ true) where
+    pub dimension-small : n ≤ 3
+    dimension-small = ⊎-elim (λ e. let q = eqb-true n 2 e in omega arith) (λ e. let q = eqb-true n 3 e in omega arith)
+        (or-cases _ _ (and-left _ _ (and-left _ _ (and-left _ _ s))))
+
+    pub table-length : length t ≡ tableSize N
+    table-length = eqb-true _ _ (and-right _ _ s)
+
+    -- another table of as many words has its sizes right too
+    pub sizes-too : (u : List ℕ) → length u ≡ length t → sizesOk n N u ≡ true
+    sizes-too u e = ap (λ (k : ℕ). (eqb n 2 or eqb n 3) and leb 1 N and leb N 1024 and eqb k (tableSize N)) e ∙ s
+
+    -- the table of a well-formed map of N slots holds it
+    pub words-hold : (m : Map) → m .slots ≡ N → WellFormed n m → Holds n N (words m)
+    words-hold m e w = record {
+      sizes = sizes-too (words m) (length-words m ∙ ap tableSize e ∙ sym table-length);
+      well = subst (λ (k : ℕ). WellFormed n (view k (words m))) e (words-well n m dimension-small w);
+    }
+
+    -- the table of zeros has no live dart
+    pub zeros-hold : Holds n N (zeros t)
+    zeros-hold = record {
+      sizes = sizes-too (zeros t) (length-replicate (length t) 0);
+      well = record {
+        states = λ x h. inl (unused-zero x h);
+        below = λ x h l i k. absurd (dead x h l);
+        alive = λ x h l i k. absurd (dead x h l);
+        back = λ x h l i k. absurd (dead x h l);
+        flat = λ two x h l. absurd (dead x h l);
+        square = λ x h l i j ij jn. absurd (dead x h l);
+      };
+    }
+      where
+        unused-zero : (x : ℕ) → x < N → view N (zeros t) .state x ≡ 0
+        unused-zero x h = let len = table-length in getD-replicate (length t) (6 * x) 0 0 (omega arith)
+
+        dead : (x : ℕ) → x < N → view N (zeros t) .state x ≡ 1 → ⊥
+        dead x h l = let z = unused-zero x h in omega arith
+
+-- ---- what the calls leave
+
+-- an edit that is not refused
+pub edit-holds : (n N : ℕ) (t store b : List ℕ) (d : ℕ) → editFault n N t store b d ≡ none → Holds n N (editTable n N t store b d)
+unfolding edited
+edit-holds n N t store b d q =
+    let g = granted n N t store b d q in
+    record {
+      sizes = sizes-too n N t (g .sizes) (editTable n N t store b d)
+          (ap length (edit-table n N t store b d q) ∙ length-words (edited (view N t) (schemeOf b) (orbitOf n N t store b d)) ∙ sym (table-length n N t (g .sizes)));
+      well = wellFormed-iff n (view N (editTable n N t store b d)) .0 (edit-table-well n N t store b d q);
+    }
+
+-- an edit's store is zero afterwards, save where its length is wrong
+module _ (n N : ℕ) (t store b : List ℕ) (d : ℕ) (s : sizesOk n N t ≡ true) where
+  pub store-zero : length store ≡ 16 * N → editStore n N t store b d ≡ replicate (16 * N) 0
+  unfolding editStore _and_
+  store-zero e = rw (s, eq-eqb (length store) (16 * N) e) (ap (λ (k : ℕ). replicate k 0) e)
+
+  pub store-kept : (length store ≡ 16 * N → ⊥) → editStore n N t store b d ≡ store
+  unfolding editStore _and_
+  store-kept ne = rw (s, ne-eqb (length store) (16 * N) ne) refl
+
+-- a read that is not refused has found a well-formed map
+read-well : (n N : ℕ) (t b : List ℕ) → readFault n N t b ≡ none → WellFormed n (fileMap n N b)
+unfolding readFault
+read-well n N t b q = wellFormed-iff n (fileMap n N b) .0 (passed _ _ (or-else-none _ _ (or-else-none _ _ q .1) .1))
+
+-- a read, refused or not
+pub read-holds : (n N : ℕ) (t b : List ℕ) → sizesOk n N t ≡ true → Holds n N (readTable n N t b)
+unfolding readTable there fileMap
+read-holds n N t b s = rw s (go (readFault n N t b) refl)
+  where
+    go : (o : Option Answer) → readFault n N t b ≡ o → Holds n N (cond (there o) (zeros t) (words (fileMap n N b)))
+    go none q = words-hold n N t s (fileMap n N b) refl (read-well n N t b q)
+    go (some r) q = zeros-hold n N t s
+
+-- a write leaves the map's file where there is room for it, else none
+pub written-file : (n N : ℕ) (t out : List ℕ) → Holds n N t
+    → writtenFile n N t out ≡ cond (ltb (length out) (length (file n (view N t)))) [] (file n (view N t))
+unfolding writtenFile writeAnswer writeOut writeFault when _orElse_ there
+written-file n N t out h = rw (holds-free n N t h) (go (ltb (length out) (length (file n (view N t)))))
+  where
+    go : (c : Bool) → take (getD (values (Option·getD (when c ShortOutput) (Written (length (file n (view N t)))))) 0 0)
+        (cond (there (when c ShortOutput)) out (file n (view N t) ++ drop (length (file n (view N t))) out)) ≡ cond c [] (file n (view N t))
+    go true = refl
+    go false = take-append-seam (file n (view N t)) _

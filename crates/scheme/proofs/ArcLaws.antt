@@ -1,0 +1,231 @@
+-- The arcs of a side as they are read: the test of an arc is its form, and what holds once the first a arcs are read.
+-- Assumes nothing.
+use Prim.Native.Nat.{ℕ, _+_, _*_, _/_, _≤_, _<_}
+use mathlib.Core.Path.{_≡_, refl, sym, ap, ap₂, _∙_}
+use mathlib.Core.Logic.{⊎-elim}
+use mathlib.Core.Bool.{Bool, true, false, true≢false, cond}
+use mathlib.Core.List.{List}
+use native.Mathlib.Omega.{arith}
+use lib.ListN.{getD, replicate}
+use lib.Dec.{eqb, ltb, leb}
+use borrow.Author.Tests.{eq-eqb, eqb-true, lt-ltb, ltb-true, ltb-false, le-leb, leb-true, leb-false}
+use Rattle.base.specs.Test.{_and_, _or_, _⇒_}
+use Rattle.base.specs.Below.{all}
+use Rattle.base.specs.Filled.{stored}
+use Rattle.base.proofs.TestLaws.{and-left, and-right, and-of, or-cases, or-left, or-right, true-or-false, refuted, same-test}
+use Rattle.base.proofs.BelowLaws.{all-at, all-of, all-none, all-more, all-ends}
+use Rattle.base.proofs.ListLaws.{getD-list}
+use Rattle.base.proofs.FilledLaws.{filled-none, filled-all, stored-filled, same-ltb}
+use Rattle.base.proofs.AscentLaws.{above, above-step, ascends, descends}
+use Rattle.model.specs.Scheme.{Side, onSide, byte, nodesOf, kindAt, arcCount, arcByte, before, nodeForm, arcForm, arcsForm, arcsOf, targetsOf, schemeOf}
+use Rattle.scheme.specs.Words.{sideOf}
+use Rattle.scheme.specs.Arcs.{ArcsPlaced, keyOf, arcTest, linked, targetsTo}
+use Rattle.scheme.specs.declared.frame.Layout.{Layout}
+use Rattle.scheme.proofs.FrameLaws.{dimension-small}
+use Rattle.scheme.proofs.WordLaws.{on-side}
+use Rattle.scheme.proofs.TargetLaws.{targets-none, targets-more}
+
+-- ---- the order of arcs
+
+-- the order of triples is that of their keys
+before-key : (i s t j u v : ℕ) → s < 256 → t < 256 → u < 256 → v < 256 → before i s t j u v ≡ ltb (keyOf i s t) (keyOf j u v)
+before-key i s t j u v hs ht hu hv = same-test _ _
+    (λ q. ⊎-elim
+    (λ e. let l : i < j = ltb-true _ _ e in lt-ltb (keyOf i s t) (keyOf j u v) (omega arith))
+    (λ e.
+    let same : i ≡ j = eqb-true _ _ (and-left _ _ e) in
+    ⊎-elim
+    (λ f. let l : s < u = ltb-true _ _ f in lt-ltb (keyOf i s t) (keyOf j u v) (omega arith))
+    (λ f.
+    let alike : s ≡ u = eqb-true _ _ (and-left _ _ f) in
+    let l : t < v = ltb-true _ _ (and-right _ _ f) in
+    lt-ltb (keyOf i s t) (keyOf j u v) (omega arith))
+    (or-cases _ _ (and-right _ _ e)))
+    (or-cases _ _ q))
+    (λ q.
+    let less : keyOf i s t < keyOf j u v = ltb-true _ _ q in
+    ⊎-elim
+    (λ e. or-left _ e)
+    (λ e.
+    let ge : j ≤ i = ltb-false _ _ e in
+    let same : i ≡ j = omega arith in
+    or-right _ (and-of (eq-eqb _ _ same) (⊎-elim
+    (λ f. or-left _ f)
+    (λ f.
+    let gf : u ≤ s = ltb-false _ _ f in
+    let alike : s ≡ u = omega arith in
+    or-right _ (and-of (eq-eqb _ _ alike) (lt-ltb t v (omega arith))))
+    (true-or-false (ltb s u)))))
+    (true-or-false (ltb i j)))
+
+module _ (b : List ℕ) (other : ℕ) where
+  abbrev keyAt : ℕ → ℕ
+  keyAt a = keyOf (arcByte b (sideOf other) a 0) (arcByte b (sideOf other) a 1) (arcByte b (sideOf other) a 2)
+
+  -- what holds once the first a arcs are read; `low` is the least key that may come next
+  pub record Joined (a low : ℕ) (targets : List ℕ) : Type 0 where
+    pub formed : all a (arcForm b (sideOf other)) ≡ true
+    pub next : low ≡ above keyAt a
+    pub held : targets ≡ targetsTo (arcByte b (sideOf other)) a
+
+-- ---- one arc
+
+module _ (b : List ℕ) (l : Layout) (kinds : List ℕ) (other from count : ℕ) (placed : ArcsPlaced b l kinds other from count) where
+  abbrev side : Side
+  side = sideOf other
+
+  abbrev part : ℕ → ℕ → ℕ
+  part a f = arcByte b side a f
+
+  abbrev key : ℕ → ℕ
+  key a = keyAt b other a
+
+  -- what the form of an arc says of its ends
+  pub record Ends (a : ℕ) : Type 0 where
+    pub dim : part a 0 ≤ byte b 0
+    pub order : part a 1 ≤ part a 2
+    pub node : part a 2 < nodesOf b
+    pub small : part a 2 < 16
+
+  ends : (a : ℕ) → arcForm b side a ≡ true → Ends a
+  unfolding arcForm
+  ends a q =
+      let f = and-left _ _ (and-left _ _ (and-left _ _ q)) in
+      let node : part a 2 < nodesOf b = ltb-true _ _ (and-right _ _ f) in
+      let h = placed .laid .headed in
+      record {
+        dim = leb-true _ _ (and-left _ _ (and-left _ _ f));
+        order = leb-true _ _ (and-right _ _ (and-left _ _ f));
+        node = node;
+        small = omega arith;
+      }
+
+  kind-at : (s : ℕ) → s < nodesOf b → getD kinds s 0 ≡ kindAt b s
+  unfolding schemeOf
+  kind-at s h =
+      let hd = placed .laid .headed in
+      ap (λ (m : List ℕ). getD m s 0) (placed .kindsAre) ∙ getD-list 16 s _ 0 (omega arith) ∙ ap (λ (t : Bool). cond t (kindAt b s) 0) (lt-ltb _ _ h)
+
+  joined : (s : ℕ) → s < nodesOf b → onSide side (kindAt b s) ≡ (eqb (getD kinds s 0) other ⇒ false)
+  unfolding nodeForm
+  joined s h =
+      let q = and-left _ _ (and-left _ _ (and-left _ _ (and-left _ _ (all-at _ _ (placed .nodes) s h)))) in
+      on-side (placed .sideIs) (leb-true 1 _ (and-left _ _ q)) (leb-true _ 3 (and-right _ _ q))
+      ∙ ap (λ (k : ℕ). eqb k other ⇒ false) (sym (kind-at s h))
+
+  -- among arcs that are in the form, each before the next, the order is that of the keys
+  key-order : (a : ℕ) → ((o : ℕ) → o < a → arcForm b side o ≡ true) → Ends a → (o : ℕ) → o < a
+      → before (part o 0) (part o 1) (part o 2) (part a 0) (part a 1) (part a 2) ≡ ltb (key o) (key a)
+  key-order a f e o h =
+      let g = ends o (f o h) in
+      before-key (part o 0) (part o 1) (part o 2) (part a 0) (part a 1) (part a 2) (omega arith) (omega arith) (omega arith) (omega arith)
+
+  key-all : (a : ℕ) → ((o : ℕ) → o < a → arcForm b side o ≡ true) → Ends a
+      → all a (λ o. before (part o 0) (part o 1) (part o 2) (part a 0) (part a 1) (part a 2)) ≡ all a (λ o. ltb (key o) (key a))
+  key-all a f e = same-test _ _
+      (λ q. all-of a _ (λ o h. sym (key-order a f e o h) ∙ all-at a _ q o h))
+      (λ q. all-of a _ (λ o h. key-order a f e o h ∙ all-at a _ q o h))
+
+  keys-up : (a : ℕ) → ((o : ℕ) → o < a → arcForm b side o ≡ true) → (p : ℕ) → p < a → all p (λ o. ltb (key o) (key p)) ≡ true
+  unfolding arcForm
+  keys-up a f p h = sym (key-all p (λ o g. f o (omega arith)) (ends p (f p h))) ∙ and-right _ _ (f p h)
+
+  -- the test of an arc, after arcs that are in the form, is its form
+  pub arc-same : (a low n nodes : ℕ) → all a (arcForm b side) ≡ true → low ≡ above key a → n ≡ byte b 0 → nodes ≡ nodesOf b
+      → arcTest n nodes kinds other low (part a 0) (part a 1) (part a 2) ≡ arcForm b side a
+  unfolding arcTest arcForm
+  arc-same a low n nodes up lowIs nIs nodesIs = same-test _ _
+      (λ q.
+      let q₁ = and-left _ _ q in
+      let q₂ = and-left _ _ q₁ in
+      let q₃ = and-left _ _ q₂ in
+      let dim : part a 0 ≤ n = leb-true _ _ (and-left _ _ (and-left _ _ q₃)) in
+      let order : part a 1 ≤ part a 2 = leb-true _ _ (and-right _ _ (and-left _ _ q₃)) in
+      let node : part a 2 < nodes = ltb-true _ _ (and-right _ _ q₃) in
+      let next : low ≤ key a = leb-true _ _ (and-right _ _ q) in
+      let h = placed .laid .headed in
+      let e : Ends a = record { dim = omega arith; order = order; node = omega arith; small = omega arith } in
+      and-of (and-of (and-of (and-of (and-of (le-leb _ _ (e .dim)) (le-leb _ _ order)) (lt-ltb _ _ (e .node)))
+      (joined _ (omega arith) ∙ and-right _ _ q₂)) (joined _ (e .node) ∙ and-right _ _ q₁))
+      (key-all a f e ∙ ascends key a (keys-up a f) (omega arith)))
+      (λ q.
+      let e = ends a q in
+      let q₁ = and-left _ _ q in
+      let q₂ = and-left _ _ q₁ in
+      and-of (and-of (and-of (and-of (and-of (le-leb (part a 0) n (omega arith)) (le-leb _ _ (e .order))) (lt-ltb (part a 2) nodes (omega arith)))
+      (sym (joined _ (omega arith)) ∙ and-right _ _ q₂)) (sym (joined _ (e .node)) ∙ and-right _ _ q₁))
+      (⊎-elim (λ t. t) (λ t.
+      let less : key a < low = leb-false _ _ t in
+      absurd (true≢false (sym (sym (key-all a f e) ∙ and-right _ _ q) ∙ descends key a (omega arith)))) (true-or-false (leb low (key a)))))
+    where
+      f : (o : ℕ) → o < a → arcForm b side o ≡ true
+      f o h = all-at a _ up o h
+
+  -- the bytes of arc a as they are read
+  pub record Read (a d s t : ℕ) : Type 0 where
+    pub dIs : d ≡ part a 0
+    pub sIs : s ≡ part a 1
+    pub tIs : t ≡ part a 2
+
+  pub reads : (a : ℕ) → Read a (byte b (from + 3 * a)) (byte b (from + 3 * a + 1)) (byte b (from + 3 * a + 2))
+  reads a = record {
+    dIs = ap (byte b) (omega (arith, placed .fromIs));
+    sIs = ap (λ (x : ℕ). byte b (x + 3 * a + 1)) (placed .fromIs);
+    tIs = ap (λ (x : ℕ). byte b (x + 3 * a + 2)) (placed .fromIs);
+  }
+
+  pub read-small : (a d s t : ℕ) → Read a d s t → arcForm b side a ≡ true → (d < 4) × (s < 16) × (t < 16)
+  read-small a d s t r q =
+      let e = ends a q in
+      let n3 = dimension-small b l (placed .laid) in
+      (omega arith, omega arith, omega arith)
+
+  -- ---- the first a arcs
+
+  pub joined-none : {targets : List ℕ} → targets ≡ replicate 64 255 → Joined b other 0 0 targets
+  unfolding above
+  joined-none e = record { formed = all-none _; next = refl; held = targets-none part e }
+
+  pub joined-form-at : {r : Bool} (a low n nodes d s t : ℕ) {targets : List ℕ} → Joined b other a low targets → Read a d s t → n ≡ byte b 0 → nodes ≡ nodesOf b
+      → r ≡ arcTest n nodes kinds other low d s t → r ≡ arcForm b side a
+  joined-form-at a low n nodes d s t j q nIs nodesIs e =
+      e ∙ rw (q .dIs, q .sIs, q .tIs) (arc-same a low n nodes (j .formed) (j .next) nIs nodesIs)
+
+  pub joined-more : (a low d s t k : ℕ) {targets targets′ : List ℕ} → Joined b other a low targets → Read a d s t → arcForm b side a ≡ true
+      → k ≡ keyOf d s t → targets′ ≡ linked targets d s t → Joined b other (a + 1) (k + 1) targets′
+  joined-more a low d s t k {targets} j r q keyIs e =
+      let n = ends a q in
+      let n3 = dimension-small b l (placed .laid) in
+      record {
+        formed = all-more _ a (j .formed) q;
+        next = ap (λ (x : ℕ). x + 1) (keyIs ∙ rw (r .dIs, r .sIs, r .tIs) refl) ∙ sym (above-step key a);
+        held = e ∙ rw (r .dIs, r .sIs, r .tIs) (targets-more part a (j .held) (omega arith) (omega arith) (omega arith)
+            (λ o h. let g = ends o (all-at a _ (j .formed) o h) in (omega arith, omega arith)));
+      }
+
+  pub joined-stops : (a : ℕ) → a < count → arcForm b side a ≡ false → false ≡ arcsForm b side
+  unfolding arcsForm
+  joined-stops a h q = sym (refuted (λ w. all-at _ _ (and-right _ _ w) a (rw (placed .countIs) at h)) q)
+
+  pub joined-form : (a low : ℕ) {targets : List ℕ} → Joined b other a low targets → a ≤ count → count ≤ a → true ≡ arcsForm b side
+  unfolding arcsForm
+  joined-form a low j h k =
+      let few = placed .few in
+      let c = placed .countIs in
+      sym (and-of (le-leb (arcCount b side) 64 (omega arith)) (sym (all-ends _ a (arcCount b side) (j .formed) (omega arith) (omega arith))))
+
+  pub joined-value : (a low : ℕ) {targets : List ℕ} → Joined b other a low targets → a ≤ count → count ≤ a → targets ≡ targetsOf b side
+  unfolding targetsTo targetsOf
+  joined-value a low j h k = let same : a ≡ arcCount b side = omega (arith, placed .countIs) in j .held ∙ ap (targetsTo part) same
+
+  -- ---- the arcs as they stand
+
+  pub arcs-value : {arcs : List ℕ} → arcs ≡ replicate 192 0 → stored arcs 0 b from (3 * count) ≡ arcsOf b side
+  unfolding arcsOf
+  arcs-value e =
+      let few = placed .few in
+      filled-all 192 (λ k. byte b (from + k)) 0 (0 + 3 * count) _
+      (stored-filled 192 (λ k. byte b (from + k)) 0 0 b from (3 * count) (e ∙ filled-none 192 _ 0) (omega arith) (λ k h. ap (λ (i : ℕ). byte b (from + i)) (omega arith)))
+      (λ k h. ap₂ (λ (t : Bool) (i : ℕ). cond t (byte b i) 0)
+      (same-ltb k (0 + 3 * count) (k / 3) (arcCount b side) (λ u. omega (arith, placed .countIs)) (λ u. omega (arith, placed .countIs)))
+      (omega (arith, placed .fromIs)))

@@ -1,0 +1,59 @@
+-- The form of the bytes, taken apart and put together.
+-- Assumes nothing.
+use Prim.Native.Nat.{ℕ, _+_, _≤_}
+use mathlib.Core.Path.{_≡_}
+use mathlib.Core.Logic.{_⊎_, inl, inr, ⊎-elim}
+use mathlib.Core.Bool.{true}
+use mathlib.Core.List.{List}
+use borrow.Author.Tests.{eqb-true, eq-eqb, leb-true, le-leb}
+use lib.ListN.{length}
+use Rattle.base.specs.Below.{all}
+use Rattle.base.proofs.TestLaws.{and-left, and-right, and-of, or-cases, or-left, or-right}
+use Rattle.model.specs.Scheme.{Side, left, right, byte, placesOf, nodesOf, arcCount, endAt, orbitForm, nodeForm, arcsForm, inForm}
+
+module _ (b : List ℕ) where
+  pub record Parts : Type 0 where
+    pub dimension : (byte b 0 ≡ 2) ⊎ (byte b 0 ≡ 3)
+    pub orbit : orbitForm b ≡ true
+    pub nodesSome : 1 ≤ nodesOf b
+    pub nodesFew : nodesOf b ≤ 16
+    pub nodes : all (nodesOf b) (nodeForm b) ≡ true
+    pub arcs : (side : Side) → arcsForm b side ≡ true
+    pub ends : length b ≡ endAt b
+
+  pub parts : inForm b ≡ true → Parts
+  unfolding inForm
+  parts q =
+      let q₁ = and-left _ _ q in
+      let q₂ = and-left _ _ q₁ in
+      let q₃ = and-left _ _ q₂ in
+      let q₄ = and-left _ _ q₃ in
+      let q₅ = and-left _ _ q₄ in
+      let q₆ = and-left _ _ q₅ in
+      record {
+        dimension = ⊎-elim (λ e. inl (eqb-true _ _ e)) (λ e. inr (eqb-true _ _ e)) (or-cases _ _ (and-left _ _ q₆));
+        orbit = and-right _ _ q₆;
+        nodesSome = leb-true _ _ (and-right _ _ q₅);
+        nodesFew = leb-true _ _ (and-right _ _ q₄);
+        nodes = and-right _ _ q₃;
+        arcs = sides (and-right _ _ q₂) (and-right _ _ q₁);
+        ends = eqb-true _ _ (and-right _ _ q);
+      }
+    where
+      sides : arcsForm b left ≡ true → arcsForm b right ≡ true → (side : Side) → arcsForm b side ≡ true
+      sides l r left = l
+      sides l r right = r
+
+  pub whole : Parts → inForm b ≡ true
+  unfolding inForm
+  whole f = and-of (and-of (and-of (and-of (and-of (and-of (and-of
+      (⊎-elim (λ e. or-left _ (eq-eqb _ _ e)) (λ e. or-right _ (eq-eqb _ _ e)) (f .dimension))
+      (f .orbit)) (le-leb _ _ (f .nodesSome))) (le-leb _ _ (f .nodesFew))) (f .nodes)) (f .arcs left)) (f .arcs right)) (eq-eqb _ _ (f .ends))
+
+  pub places-few : Parts → placesOf b ≤ byte b 0 + 1
+  unfolding orbitForm
+  places-few f = leb-true _ _ (and-left _ _ (and-left _ _ (f .orbit)))
+
+  pub arcs-few : Parts → (side : Side) → arcCount b side ≤ 64
+  unfolding arcsForm
+  arcs-few f side = leb-true _ _ (and-left _ _ (f .arcs side))

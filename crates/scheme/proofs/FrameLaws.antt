@@ -1,0 +1,76 @@
+-- Counts that are out of their range, or sections that do not fill the bytes, refute the form.
+-- Assumes nothing.
+use Prim.Native.Nat.{ℕ, _+_, _*_, _≤_, _<_}
+use mathlib.Core.Path.{_≡_, sym}
+use mathlib.Core.Logic.{_⊎_, inl, inr, ⊎-elim}
+use mathlib.Core.Bool.{false}
+use mathlib.Core.List.{List}
+use native.Mathlib.Nat.{eq-or-lt-of-le, mul-le-mul-right}
+use native.Mathlib.Omega.{arith}
+use lib.ListN.{length}
+use Rattle.base.proofs.TestLaws.{true-or-false, refuted}
+use Rattle.model.specs.Scheme.{Side, left, right, byte, placesOf, nodesOf, nodeAt, arcsAt, inForm}
+use Rattle.scheme.specs.Place.{after, fits}
+use Rattle.scheme.specs.Frame.{LaidOut}
+use Rattle.scheme.specs.Words.{wordPlace}
+use Rattle.scheme.specs.declared.frame.Layout.{Layout}
+use Rattle.scheme.proofs.PlaceLaws.{fitting}
+use Rattle.scheme.proofs.FormLaws.{Parts, parts, places-few, arcs-few}
+
+pub two-or-three : {n : ℕ} → 2 ≤ n → n ≤ 3 → (n ≡ 2) ⊎ (n ≡ 3)
+two-or-three h k = ⊎-elim (λ e. inl (sym e)) (λ l. inr (omega arith)) (eq-or-lt-of-le h)
+
+module _ (b : List ℕ) where
+  impossible : (Parts b → ⊥) → inForm b ≡ false
+  impossible f = ⊎-elim (λ q. absurd (f (parts b q))) (λ q. q) (true-or-false (inForm b))
+
+  pub no-bytes : length b ≤ 0 → inForm b ≡ false
+  no-bytes h = impossible (λ f. omega arith)
+
+  pub low-dimension : byte b 0 < 2 → inForm b ≡ false
+  low-dimension h = impossible (λ f. ⊎-elim (λ e. omega arith) (λ e. omega arith) (f .dimension))
+
+  pub high-dimension : 3 < byte b 0 → inForm b ≡ false
+  high-dimension h = impossible (λ f. ⊎-elim (λ e. omega arith) (λ e. omega arith) (f .dimension))
+
+  pub no-places : fits b 1 0 (byte b 0 + 1) 1 ≡ false → inForm b ≡ false
+  unfolding after
+  no-places e = refuted (λ q. let f = parts b q in let k = places-few b f in
+      fitting b 1 0 (byte b 0 + 1) 1 (record { some = omega arith; few = k; within = omega arith })) e
+
+  pub no-nodes : fits b (2 + placesOf b) 1 16 (1 + 2 * placesOf b) ≡ false → inForm b ≡ false
+  unfolding after
+  no-nodes e = refuted (λ q. let f = parts b q in
+      fitting b (2 + placesOf b) 1 16 (1 + 2 * placesOf b) (record { some = f .nodesSome; few = f .nodesFew; within = omega arith })) e
+
+  pub no-arcs : (side : Side) → fits b (arcsAt b side) 0 64 3 ≡ false → inForm b ≡ false
+  unfolding after
+  no-arcs side e = refuted (λ q. let f = parts b q in
+      fitting b (arcsAt b side) 0 64 3 (record { some = omega arith; few = arcs-few b f side; within = within f side })) e
+    where
+      within : Parts b → (side : Side) → after b (arcsAt b side) 3 ≤ length b
+      within f left = omega arith
+      within f right = omega arith
+
+  pub other-end : (after b (arcsAt b right) 3 ≡ length b → ⊥) → inForm b ≡ false
+  unfolding after
+  other-end h = impossible (λ f. h (omega arith))
+
+-- ---- what a layout tells
+
+module _ (b : List ℕ) (l : Layout) (laid : LaidOut b l) where
+  pub dimension-small : byte b 0 ≤ 3
+  dimension-small = let h = laid .headed in ⊎-elim (λ e. omega arith) (λ e. omega arith) (h .dimension)
+
+  pub places-small : placesOf b ≤ 4
+  places-small = let h = laid .headed in let n3 = dimension-small in omega arith
+
+  pub orbit-inside : 2 + placesOf b ≤ length b
+  orbit-inside = omega arith
+
+  pub node-inside : (s : ℕ) → s < nodesOf b → nodeAt b s + 1 + 2 * placesOf b ≤ length b
+  node-inside s h = omega (arith, mul-le-mul-right (1 + 2 * placesOf b) h)
+
+  pub word-inside : (side : Side) (s : ℕ) → s < nodesOf b → wordPlace b side s + placesOf b ≤ length b
+  word-inside left s h = omega (arith, node-inside s h)
+  word-inside right s h = omega (arith, node-inside s h)

@@ -1,0 +1,11 @@
+pub mod PlaceLaws
+pub mod FormLaws
+pub mod FrameLaws
+pub mod OrbitLaws
+pub mod WordLaws
+pub mod NodeLaws
+pub mod TargetLaws
+pub mod ArcLaws
+pub mod ArcTestLaws
+pub mod ReadLaws
+pub mod MarkLaws

@@ -1,0 +1,91 @@
+-- The nodes as they are read: a node's form from its parts, and what holds once the first s nodes are read.
+-- Assumes nothing.
+use Prim.Native.Nat.{ℕ, _+_, _*_, _/_, _≤_, _<_}
+use mathlib.Core.Path.{_≡_, sym, ap, _∙_}
+use mathlib.Core.Bool.{Bool, true, false, cond}
+use mathlib.Core.List.{List}
+use native.Mathlib.Omega.{arith}
+use lib.ListN.{set, replicate}
+use borrow.Author.Tests.{le-leb, lt-leb}
+use Rattle.base.specs.Test.{_and_}
+use Rattle.base.specs.Below.{all}
+use Rattle.base.specs.Filled.{filled}
+use Rattle.base.proofs.TestLaws.{and-left, and-right, and-of, refuted, same-test}
+use Rattle.base.proofs.BelowLaws.{all-none, all-more}
+use Rattle.base.proofs.FilledLaws.{filled-none, filled-more, filled-all, same-ltb}
+use Rattle.model.specs.Scheme.{Side, left, right, byte, placesOf, nodesOf, nodeAt, kindAt, wordForm, wordEmpty, nodeForm, upTo, wordsOf, schemeOf}
+use Rattle.scheme.specs.Words.{row}
+
+-- ---- one node
+
+module _ (b : List ℕ) (s : ℕ) where
+  pub node-low : kindAt b s < 1 → false ≡ nodeForm b s
+  unfolding nodeForm
+  node-low h = sym (refuted (λ q. and-left _ _ (and-left _ _ (and-left _ _ (and-left _ _ (and-left _ _ q))))) (lt-leb _ _ h))
+
+  pub node-high : 3 < kindAt b s → false ≡ nodeForm b s
+  unfolding nodeForm
+  node-high h = sym (refuted (λ q. and-right _ _ (and-left _ _ (and-left _ _ (and-left _ _ (and-left _ _ q))))) (lt-leb _ _ h))
+
+  pub node-left : (wordForm b left s and wordEmpty b left s) ≡ false → false ≡ nodeForm b s
+  unfolding nodeForm
+  node-left e = sym (refuted (λ q. and-of (and-right _ _ (and-left _ _ (and-left _ _ (and-left _ _ q)))) (and-right _ _ (and-left _ _ q))) e)
+
+  pub node-right : {r : Bool} → 1 ≤ kindAt b s → kindAt b s ≤ 3 → (wordForm b left s and wordEmpty b left s) ≡ true
+      → r ≡ (wordForm b right s and wordEmpty b right s) → r ≡ nodeForm b s
+  unfolding nodeForm
+  node-right h k l e = e ∙ same-test _ _
+      (λ q. and-of (and-of (and-of (and-of (and-of (le-leb _ _ h) (le-leb _ _ k)) (and-left _ _ l)) (and-left _ _ q)) (and-right _ _ l)) (and-right _ _ q))
+      (λ q. and-of (and-right _ _ (and-left _ _ (and-left _ _ q))) (and-right _ _ q))
+
+-- ---- the first s nodes
+
+module _ (b : List ℕ) where
+  pub record Passed (s at : ℕ) (kinds lwords rwords : List ℕ) : Type 0 where
+    pub formed : all s (nodeForm b) ≡ true
+    pub atIs : at ≡ nodeAt b s
+    pub kindsIs : kinds ≡ filled 16 s (kindAt b) 0
+    pub lwordsIs : lwords ≡ filled 64 (4 * s) (row b left) 255
+    pub rwordsIs : rwords ≡ filled 64 (4 * s) (row b right) 255
+
+  pub passed-none : {at : ℕ} {kinds lwords rwords : List ℕ} → at ≡ 3 + placesOf b → kinds ≡ replicate 16 0 → lwords ≡ replicate 64 255 → rwords ≡ replicate 64 255
+      → Passed 0 at kinds lwords rwords
+  passed-none e k l r = record {
+    formed = all-none _;
+    atIs = omega arith;
+    kindsIs = k ∙ filled-none 16 (kindAt b) 0;
+    lwordsIs = l ∙ filled-none 64 (row b left) 255;
+    rwordsIs = r ∙ filled-none 64 (row b right) 255;
+  }
+
+  pub passed-more : {s at next : ℕ} {kinds lwords rwords lwords′ rwords′ : List ℕ} → Passed s at kinds lwords rwords → s < 16 → nodeForm b s ≡ true
+      → next ≡ at + (1 + 2 * placesOf b)
+      → lwords′ ≡ filled 64 (4 * (s + 1)) (row b left) 255 → rwords′ ≡ filled 64 (4 * (s + 1)) (row b right) 255
+      → Passed (s + 1) next (set kinds s (byte b at)) lwords′ rwords′
+  passed-more {s} f h e n l r = record {
+    formed = all-more _ s (f .formed) e;
+    atIs = omega (arith, f .atIs);
+    kindsIs = filled-more 16 (kindAt b) 0 s (f .kindsIs) h (ap (byte b) (f .atIs));
+    lwordsIs = l;
+    rwordsIs = r;
+  }
+
+  module _ {s at : ℕ} {kinds lwords rwords : List ℕ} (f : Passed s at kinds lwords rwords) (h : s ≤ nodesOf b) (k : nodesOf b ≤ s) where
+    pub kinds-value : kinds ≡ schemeOf b .kinds
+    unfolding schemeOf
+    kinds-value =
+        let same : s ≡ nodesOf b = omega arith in
+        filled-all 16 (kindAt b) 0 s _ (f .kindsIs) (λ x l. ap (λ (j : ℕ). upTo j x (kindAt b x) 0) same)
+
+    words-value : (side : Side) {words : List ℕ} → words ≡ filled 64 (4 * s) (row b side) 255 → words ≡ wordsOf b side
+    unfolding wordsOf row
+    words-value side e = filled-all 64 (row b side) 255 (4 * s) _ e (λ x l.
+        ap (λ (t : Bool). cond t (row b side x) 255) (same-ltb x (4 * s) (x / 4) (nodesOf b) (λ u. omega arith) (λ u. omega arith)))
+
+    pub lwords-value : lwords ≡ schemeOf b .lwords
+    unfolding schemeOf
+    lwords-value = words-value left (f .lwordsIs)
+
+    pub rwords-value : rwords ≡ schemeOf b .rwords
+    unfolding schemeOf
+    rwords-value = words-value right (f .rwordsIs)

@@ -1,0 +1,59 @@
+-- The orbit type as it is read: what holds once its first p dimensions are.
+-- Assumes nothing.
+use Prim.Native.Nat.{ℕ, _+_, _≤_, _<_}
+use mathlib.Core.Path.{_≡_, refl, sym, ap, _∙_}
+use mathlib.Core.Bool.{true, false}
+use mathlib.Core.List.{List}
+use native.Mathlib.Omega.{arith}
+use lib.ListN.{set, replicate}
+use lib.Dec.{ltb, leb}
+use borrow.Author.Tests.{le-leb, lt-leb}
+use Rattle.base.specs.Below.{all}
+use Rattle.base.specs.Filled.{filled}
+use Rattle.base.proofs.TestLaws.{and-left, and-right, and-of, refuted}
+use Rattle.base.proofs.BelowLaws.{all-at, all-none, all-more, all-ends}
+use Rattle.base.proofs.FilledLaws.{filled-none, filled-more, filled-all}
+use Rattle.base.proofs.AscentLaws.{above, above-step, ascends, descends}
+use Rattle.model.specs.Scheme.{byte, placesOf, orbitForm, upTo, schemeOf}
+
+module _ (b : List ℕ) where
+  abbrev dim : ℕ → ℕ
+  dim p = byte b (2 + p)
+
+  -- `low` is the least dimension that may come next
+  pub record Risen (p low : ℕ) (held : List ℕ) : Type 0 where
+    pub dims : all p (λ q. leb (byte b (2 + q)) (byte b 0)) ≡ true
+    pub up : all p (λ q. all q (λ o. ltb (byte b (2 + o)) (byte b (2 + q)))) ≡ true
+    pub next : low ≡ above dim p
+    pub holds : held ≡ filled 4 p dim 0
+
+  pub risen-none : {held : List ℕ} → held ≡ replicate 4 0 → Risen 0 0 held
+  unfolding above
+  risen-none e = record { dims = all-none _; up = all-none _; next = refl; holds = e ∙ filled-none 4 dim 0 }
+
+  pub risen-more : {p low : ℕ} {held : List ℕ} → Risen p low held → p < 4 → low ≤ dim p → dim p ≤ byte b 0
+      → Risen (p + 1) (dim p + 1) (set held p (dim p))
+  risen-more {p} r l h k = record {
+    dims = all-more _ p (r .dims) (le-leb _ _ k);
+    up = all-more _ p (r .up) (ascends dim p (λ q s. all-at p _ (r .up) q s) (omega (arith, r .next)));
+    next = sym (above-step dim p);
+    holds = filled-more 4 dim 0 p (r .holds) l refl;
+  }
+
+  pub risen-low : {p low : ℕ} {held : List ℕ} → Risen p low held → p < placesOf b → dim p < low → false ≡ orbitForm b
+  unfolding orbitForm
+  risen-low {p} r l h = sym (refuted (λ q. all-at (placesOf b) _ (and-right _ _ q) p l) (descends dim p (omega (arith, r .next))))
+
+  pub risen-high : (p : ℕ) → p < placesOf b → byte b 0 < dim p → false ≡ orbitForm b
+  unfolding orbitForm
+  risen-high p l h = sym (refuted (λ q. all-at (placesOf b) _ (and-right _ _ (and-left _ _ q)) p l) (lt-leb _ _ h))
+
+  pub risen-form : {p low : ℕ} {held : List ℕ} → Risen p low held → p ≤ placesOf b → placesOf b ≤ p → placesOf b ≤ byte b 0 + 1 → true ≡ orbitForm b
+  unfolding orbitForm
+  risen-form {p} r h k few = sym (and-of (and-of (le-leb _ _ few) (sym (all-ends _ p _ (r .dims) h k))) (sym (all-ends _ p _ (r .up) h k)))
+
+  pub risen-value : {p low : ℕ} {held : List ℕ} → Risen p low held → p ≤ placesOf b → placesOf b ≤ p → held ≡ schemeOf b .orbit
+  unfolding schemeOf
+  risen-value {p} r h k =
+      let same : p ≡ placesOf b = omega arith in
+      filled-all 4 dim 0 p _ (r .holds) (λ q l. ap (λ (j : ℕ). upTo j q (dim q) 0) same)

@@ -1,0 +1,129 @@
+-- `scheme::frame::head` meets its contract.
+-- Assumes nothing.
+use Prim.Native.Nat.{ℕ, _+_, _*_, _<_}
+use mathlib.Core.Path.{_≡_, refl, ap}
+use mathlib.Core.List.{List}
+use native.Mathlib.Omega.{arith}
+use denote.Ref.{now}
+use lib.ListN.{length}
+use borrow.Author.Needs.{needs}
+use Rattle.model.specs.Scheme.{byte, placesOf}
+use Rattle.scheme.specs.Place.{after}
+use Rattle.scheme.proofs.PlaceLaws.{Fitted, stepped, ended, counted, uncounted}
+use Rattle.scheme.proofs.FrameLaws.{two-or-three, no-bytes, low-dimension, high-dimension, no-places, no-nodes}
+use Rattle.scheme.proofs.frame.head.Statement.{statement}
+use Rattle.scheme.proofs.frame.head.Tie as tie
+
+-- what the first byte is
+took : (c : tie.After-known-told) → let b = now (c .before .before .before .before .before .args .bytes) in let g = c .before .n .given .0 in
+    (0 < length b) × (g .0 ≡ byte b 0) × (g .1 .0 .at ≡ 1)
+took c = stepped _ (c .before .before .before .byte .ensures) (c .before .n .given .1)
+
+abbrev before-places : tie.After-known-told2 → tie.After-known-told
+before-places c = c .before .before .before .before .before .before
+
+abbrev bytes-of : tie.After-known-told2 → List ℕ
+bytes-of c = now (before-places c .before .before .before .before .before .args .bytes)
+
+-- what the count of places is, and where the count of nodes stands
+places-told : (c : tie.After-known-told2) → let b = bytes-of c in let g = c .before .places .given .0 in
+    (g .0 ≡ placesOf b) × (g .1 .1 .0 .at ≡ 2 + placesOf b) × Fitted b 1 0 (byte b 0 + 1) 1
+unfolding after
+places-told c =
+    let t = took (before-places c) in
+    let s = counted _ 1 0 _ 1 (t .2) (ap (λ (n : ℕ). n + 1) (t .1)) refl (c .before .before .before .count .ensures) (c .before .places .given .1) in
+    (s .0, omega arith, s .3)
+
+byte-requires : tie.Need-byte-requires
+byte-requires c κs = search needs
+
+enum-known-n : tie.Need-enum-known-n
+enum-known-n c = search needs
+
+enum-told : tie.Need-enum-told
+enum-told c = search needs
+
+returns : tie.Need-returns
+returns c = no-bytes _ (ended _ (c .before .before .byte .ensures) (c .enum-told .given .1))
+
+returns-2 : tie.Need-returns-2
+returns-2 c = let t = took (c .before) in low-dimension _ (omega arith)
+
+returns-3 : tie.Need-returns-3
+returns-3 c = let t = took (c .before .before) in high-dimension _ (omega arith)
+
+add-count : tie.Need-add-count
+add-count c = search needs
+
+count-requires : tie.Need-count-requires
+count-requires c κs = search needs
+
+enum-known-places : tie.Need-enum-known-places
+enum-known-places c = search needs
+
+enum-told-2 : tie.Need-enum-told-2
+enum-told-2 c = search needs
+
+returns-4 : tie.Need-returns-4
+returns-4 c = let t = took (c .before .before .before .before .before) in no-places _ (uncounted _ 1 0 _ 1 (t .2) (ap (λ (n : ℕ). n + 1) (t .1)) refl (c .before .before .count .ensures) (c .enum-told2 .given .1))
+
+mul-count : tie.Need-mul-count
+mul-count c = let p = places-told c in let f = p .2 in let t = took (before-places c) in omega arith
+
+add-count-2 : tie.Need-add-count-2
+add-count-2 c = let p = places-told c in let f = p .2 in let t = took (before-places c) in omega arith
+
+count-requires-2 : tie.Need-count-requires-2
+count-requires-2 c κs = search needs
+
+enum-known-nodes : tie.Need-enum-known-nodes
+enum-known-nodes c = search needs
+
+enum-told-3 : tie.Need-enum-told-3
+enum-told-3 c = search needs
+
+returns-5 : tie.Need-returns-5
+returns-5 c = let p = places-told (c .before .before .before) in no-nodes _ (uncounted _ _ 1 16 _ (p .1) refl (ap (λ (n : ℕ). 1 + 2 * n) (p .0)) (c .before .before .count2 .ensures) (c .enum-told3 .given .1))
+
+returns-6 : tie.Need-returns-6
+unfolding after
+returns-6 c =
+    let p = places-told (c .before .before .before .before) in
+    let t = took (before-places (c .before .before .before .before)) in
+    let s = counted _ _ 1 16 _ (p .1) refl (ap (λ (n : ℕ). 1 + 2 * n) (p .0)) (c .before .before .before .count2 .ensures) (c .before .nodes .given .1) in
+    let f = s .3 in
+    let g = p .2 in (
+      record {
+        nIs = t .1;
+        placesIs = p .0;
+        nodesIs = s .0;
+        dimension = two-or-three (omega arith) (omega arith);
+        placesFew = omega arith;
+        nodesSome = omega arith;
+        nodesFew = omega arith;
+      },
+      omega arith,
+    )
+
+pub head-spec : {M : Type 1} → statement M
+head-spec =
+    tie.close
+    (tie.spec
+    byte-requires
+    enum-known-n
+    enum-told
+    returns
+    returns-2
+    returns-3
+    add-count
+    count-requires
+    enum-known-places
+    enum-told-2
+    returns-4
+    mul-count
+    add-count-2
+    count-requires-2
+    enum-known-nodes
+    enum-told-3
+    returns-5
+    returns-6)

@@ -1,0 +1,46 @@
+-- `scheme::nodes::mark` meets its contract.
+-- Assumes nothing.
+use mathlib.Core.Path.{sym}
+use mathlib.Core.Bool.{true≢false}
+use borrow.Author.Needs.{needs}
+use Rattle.scheme.proofs.MarkLaws.{mark-gone, mark-none, mark-twice, mark-once}
+use Rattle.scheme.proofs.nodes.mark.Statement.{statement}
+use Rattle.scheme.proofs.nodes.mark.Tie as tie
+
+returns : tie.Need-returns
+returns c = let m = mark-gone _ _ _ (c .if1 .taken) in (m .0, λ e. m .1)
+
+returns-2 : tie.Need-returns-2
+returns-2 c = (mark-none _ _ _ (c .before .if1 .left) (c .if2 .taken), λ e. absurd (true≢false (sym e)))
+
+wide-requires : tie.Need-wide-requires
+wide-requires c κs = search needs
+
+element-copy-out-if3 : tie.Need-element-copy-out-if3
+element-copy-out-if3 c = search needs
+
+returns-3 : tie.Need-returns-3
+returns-3 c =
+    let w = c .before .before in
+    (mark-twice _ _ _ (w .before .before .if1 .left) (w .before .if2 .left) (w .wide .ensures .0) (c .if3 .taken), λ e. absurd (true≢false (sym e)))
+
+element-write-marks : tie.Need-element-write-marks
+element-write-marks c = search needs
+
+returns-4 : tie.Need-returns-4
+returns-4 c =
+    let w = c .before .before in
+    let m = mark-once _ _ _ (w .before .before .if1 .left) (w .before .if2 .left) (w .wide .ensures .0) (c .if3 .left) in
+    (m .0, λ e. m .1)
+
+pub mark-spec : {M : Type 1} → statement M
+mark-spec =
+    tie.close
+    (tie.spec
+    returns
+    returns-2
+    wide-requires
+    element-copy-out-if3
+    returns-3
+    element-write-marks
+    returns-4)

@@ -1,0 +1,74 @@
+-- `scheme::nodes::read_side` meets its contract.
+-- Assumes nothing.
+use mathlib.Core.Path.{sym, _∙_}
+use native.Mathlib.Omega.{arith}
+use denote.Ref.{now}
+use Prim.Native.Nat.{_+_, _≤_}
+use lib.ListN.{length}
+use Rattle.scheme.specs.Words.{sideOf}
+use borrow.Author.Needs.{needs}
+use Rattle.scheme.proofs.FrameLaws.{dimension-small, places-small, word-inside}
+use Rattle.scheme.proofs.WordLaws.{Placed, on-form, on-value, off-form, off-value}
+use Rattle.scheme.proofs.nodes.read_side.Statement.{statement}
+use Rattle.scheme.proofs.nodes.read_side.Tie as tie
+
+-- what is known of the word
+placed : (c : tie.After-wide) → let a = c .before .before .args in Placed (now (a .bytes)) (a .s) (a .other) (a .kind) (a .l .n) (c .wide .result) (a .at)
+placed c =
+    let p = c .before .before .pre in
+    let h = p .0 .headed in
+    record {
+      sideIs = p .1 .1 .0 .0;
+      kindIs = p .1 .0 .1;
+      kindSome = p .1 .0 .2;
+      kindFew = p .1 .0 .3;
+      nIs = h .nIs;
+      placesIs = c .wide .ensures .0 ∙ h .placesIs;
+      atIs = p .1 .1 .0 .1;
+      few = places-small _ _ (p .0);
+      small = omega arith;
+    }
+
+inside : (c : tie.After-wide) → let a = c .before .before .args in a .at + c .wide .result ≤ length (now (a .bytes))
+inside c =
+    let p = c .before .before .pre in
+    let h = p .0 .headed in
+    omega (arith, word-inside _ _ (p .0) (sideOf (c .before .before .args .other)) _ (p .1 .0 .0))
+
+wide-requires : tie.Need-wide-requires
+wide-requires c κs = search needs
+
+empty-requires : tie.Need-empty-requires
+empty-requires c κs = let h = inside (c .before) in omega arith
+
+returns : tie.Need-returns
+returns c =
+    let a = c .before .before in
+    let w = placed a in (
+      off-form _ _ _ _ _ _ _ w (c .before .if1 .taken) (c .empty .ensures),
+      λ e. off-value _ _ _ _ _ _ _ w (a .before .before .pre .1 .1 .1) (sym (c .empty .ensures) ∙ e),
+    )
+
+mul-read-word : tie.Need-mul-read-word
+mul-read-word c = search needs
+
+read-word-requires : tie.Need-read-word-requires
+read-word-requires c κs =
+    let h = inside (c .before .before) in
+    let w = placed (c .before .before) in
+    let few = w .few in
+    let n3 = dimension-small _ _ (c .before .before .before .before .pre .0) in
+    (omega (arith, w .nIs), omega arith, omega arith)
+
+returns-2 : tie.Need-returns-2
+returns-2 c =
+    let a = c .before .before .before in
+    let w = placed a in (
+      on-form _ _ _ _ _ _ _ w (c .before .before .if1 .left) (c .read-word .ensures .0),
+      λ e. c .read-word .ensures .1 e ∙ on-value _ _ _ _ _ _ _ w (a .before .before .pre .1 .1 .1),
+    )
+
+pub read-side-spec : {M : Type 1} → statement M
+read-side-spec =
+    tie.close
+    (tie.spec wide-requires empty-requires returns mul-read-word read-word-requires returns-2)

@@ -1,0 +1,43 @@
+-- What is known of the bytes once their counts are read.
+-- Assumes nothing.
+use Prim.Native.Nat.{ℕ, _+_, _≤_}
+use mathlib.Core.Path.{_≡_}
+use mathlib.Core.Logic.{_⊎_}
+use mathlib.Core.Bool.{false}
+use mathlib.Core.List.{List}
+use lib.ListN.{length}
+use Rattle.model.specs.Scheme.{left, right, byte, placesOf, nodesOf, arcsAt, arcCount, endAt, inForm}
+use Rattle.scheme.specs.declared.frame.Opening.{Opening}
+use Rattle.scheme.specs.declared.frame.Opening.the-variants.{Counts, Broken as Shut}
+use Rattle.scheme.specs.declared.frame.Layout.{Layout}
+use Rattle.scheme.specs.declared.frame.Form.{Form}
+use Rattle.scheme.specs.declared.frame.Form.the-variants.{Laid, Broken}
+
+-- the dimension and the counts of places and nodes, each in its range
+pub record Headed (b : List ℕ) (n places nodes : ℕ) : Type 0 where
+  pub nIs : n ≡ byte b 0
+  pub placesIs : places ≡ placesOf b
+  pub nodesIs : nodes ≡ nodesOf b
+  pub dimension : (n ≡ 2) ⊎ (n ≡ 3)
+  pub placesFew : places ≤ n + 1
+  pub nodesSome : 1 ≤ nodes
+  pub nodesFew : nodes ≤ 16
+
+abbrev pub HeadOf : List ℕ → Opening → Type 0
+HeadOf b (Counts n places nodes next) = Headed b n places nodes × (next .at ≡ arcsAt b left)
+HeadOf b Shut = inForm b ≡ false
+
+-- the layout is that of the bytes, whose sections end where the bytes end
+pub record LaidOut (b : List ℕ) (l : Layout) : Type 0 where
+  pub headed : Headed b (l .n) (l .places) (l .nodes)
+  pub leftsIs : l .lefts ≡ arcsAt b left + 1
+  pub lcountIs : l .lcount ≡ arcCount b left
+  pub lcountFew : l .lcount ≤ 64
+  pub rightsIs : l .rights ≡ arcsAt b right + 1
+  pub rcountIs : l .rcount ≡ arcCount b right
+  pub rcountFew : l .rcount ≤ 64
+  pub ends : length b ≡ endAt b
+
+abbrev pub FrameOf : List ℕ → Form → Type 0
+FrameOf b (Laid l) = LaidOut b l
+FrameOf b Broken = inForm b ≡ false

@@ -1,0 +1,5 @@
+pub mod Place
+pub mod Frame
+pub mod Words
+pub mod Arcs
+pub mod Reading

@@ -1,0 +1,28 @@
+-- What the cursor's methods answer at a place of the bytes.
+-- Assumes nothing.
+use Prim.Native.Nat.{ℕ, _+_, _*_}
+use mathlib.Core.Bool.{Bool, cond}
+use mathlib.Core.List.{List}
+use lib.ListN.{length}
+use lib.Dec.{ltb, leb}
+use Rattle.base.specs.Test.{_and_}
+use Rattle.model.specs.Scheme.{byte}
+use Rattle.scheme.specs.declared.cursor.Step.{Step}
+use Rattle.scheme.specs.declared.cursor.Step.the-variants.{Byte, End}
+use Rattle.scheme.specs.declared.cursor.Section.{Section}
+use Rattle.scheme.specs.declared.cursor.Section.the-variants.{Count, Bad}
+
+unfoldable pub stepAt : List ℕ → ℕ → Step
+stepAt b at = cond (ltb at (length b)) (Byte (byte b at) (record { at = at + 1 })) End
+
+-- the place after a section whose count stands at a place
+unfoldable pub after : List ℕ → ℕ → ℕ → ℕ
+after b at size = at + 1 + byte b at * size
+
+-- the count is from `least` to `most`, and its items lie within the bytes
+unfoldable pub fits : List ℕ → ℕ → ℕ → ℕ → ℕ → Bool
+fits b at least most size = leb least (byte b at) and leb (byte b at) most and leb (after b at size) (length b)
+
+unfoldable pub sectionAt : List ℕ → ℕ → ℕ → ℕ → ℕ → Section
+sectionAt b at least most size =
+    cond (fits b at least most size) (Count (byte b at) (at + 1) (record { at = after b at size })) Bad

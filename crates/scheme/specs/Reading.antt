@@ -1,0 +1,59 @@
+-- What reading a scheme's bytes answers.
+-- Assumes nothing.
+use Prim.Native.Nat.{ℕ}
+use mathlib.Core.Path.{_≡_}
+use mathlib.Core.Bool.{true, false, cond}
+use mathlib.Core.List.{List}
+use lib.ListN.{replicate}
+use Rattle.model.specs.Scheme.{inForm, schemeOf}
+use Rattle.model.specs.declared.Scheme.{Scheme}
+use Rattle.scheme.specs.declared.frame.Form.{Form}
+use Rattle.scheme.specs.declared.frame.Form.the-variants.{Laid, Broken}
+use Rattle.scheme.specs.declared.Reading.{Reading}
+
+-- the scheme that stands beside a refusal
+unfoldable pub blank : Scheme
+blank = record {
+  n = 0;
+  places = 0;
+  orbit = replicate 4 0;
+  nodes = 0;
+  kinds = replicate 16 0;
+  lwords = replicate 64 255;
+  rwords = replicate 64 255;
+  ltargets = replicate 64 255;
+  rtargets = replicate 64 255;
+  lcount = 0;
+  larcs = replicate 192 0;
+  rcount = 0;
+  rarcs = replicate 192 0;
+}
+
+unfoldable pub reading : List ℕ → Reading
+reading b = cond (inForm b) (record { ok = true; scheme = schemeOf b }) (record { ok = false; scheme = blank })
+
+-- arrays that are those of a scheme
+pub record Held (S : Scheme) (orbit kinds lwords rwords larcs ltargets rarcs rtargets : List ℕ) : Type 0 where
+  pub orbitIs : orbit ≡ S .orbit
+  pub kindsIs : kinds ≡ S .kinds
+  pub lwordsIs : lwords ≡ S .lwords
+  pub rwordsIs : rwords ≡ S .rwords
+  pub larcsIs : larcs ≡ S .larcs
+  pub ltargetsIs : ltargets ≡ S .ltargets
+  pub rarcsIs : rarcs ≡ S .rarcs
+  pub rtargetsIs : rtargets ≡ S .rtargets
+
+-- numbers that are those of a scheme
+pub record Counted (S : Scheme) (n places nodes lcount rcount : ℕ) : Type 0 where
+  pub nIs : n ≡ S .n
+  pub placesIs : places ≡ S .places
+  pub nodesIs : nodes ≡ S .nodes
+  pub lcountIs : lcount ≡ S .lcount
+  pub rcountIs : rcount ≡ S .rcount
+
+-- bytes in the form have their layout and their arrays
+abbrev pub Gathered : List ℕ → List ℕ → List ℕ → List ℕ → List ℕ → List ℕ → List ℕ → List ℕ → List ℕ → Form → Type 0
+Gathered b orbit kinds lwords rwords larcs ltargets rarcs rtargets (Laid l) =
+    (inForm b ≡ true) × Counted (schemeOf b) (l .n) (l .places) (l .nodes) (l .lcount) (l .rcount)
+    × Held (schemeOf b) orbit kinds lwords rwords larcs ltargets rarcs rtargets
+Gathered b orbit kinds lwords rwords larcs ltargets rarcs rtargets Broken = inForm b ≡ false

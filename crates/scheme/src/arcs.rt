@@ -1,0 +1,133 @@
+// The arcs of one side: each is tested and stored as it is read, and becomes the target of its ends where they have none yet.
+use crate::cursor::wide;
+use crate::frame::Layout;
+ghost use mathlib.Core.Path.{_≡_};
+ghost use mathlib.Core.Bool.{true};
+ghost use Prim.Native.Nat.{_+_, _*_, _≤_, _<_};
+ghost use lib.ListN.{length, replicate};
+ghost use Rattle.base.specs.Filled.{stored};
+ghost use Rattle.model.specs.Scheme.{arcsForm, arcsOf, targetsOf};
+ghost use Rattle.scheme.specs.Words.{sideOf};
+ghost use Rattle.scheme.specs.Arcs.{ArcsPlaced, keyOf, arcTest, aimed, linked};
+
+fn number(b: u8) -> u32
+    ensures { λ r. ⌜ (r ≡ b) × (r ≤ 255) ⌝ }
+{
+    b as u32
+}
+
+// Arcs ascend as their keys do.
+fn key(d: u8, s: u8, t: u8) -> u32
+    ensures { λ r. ⌜ (r ≡ keyOf d s t) × (r ≤ 16777215) ⌝ }
+{
+    number(d) * 65536 + number(s) * 256 + number(t)
+}
+
+// The key of the arc is at least `low`, and it joins nodes of kinds but `other`, the smaller first.
+fn arc_fits(n: u8, nodes: u8, kinds: &[u8; 16], other: u8, low: u32, d: u8, s: u8, t: u8) -> bool
+    requires { ⌜ nodes ≤ 16 ⌝ }
+    ensures { λ r. ⌜ r ≡ arcTest n nodes (now (kinds .entry)) other low d s t ⌝ }
+{
+    if key(d, s, t) < low {
+        return false;
+    }
+    if n < d {
+        return false;
+    }
+    if t < s {
+        return false;
+    }
+    if nodes <= t {
+        return false;
+    }
+    let near = wide(s);
+    if kinds[near] == other {
+        return false;
+    }
+    let far = wide(t);
+    kinds[far] != other
+}
+
+// The first arc of a node and dimension wins.
+fn aim(targets: &mut [u8; 64], at: usize, to: u8)
+    requires { ⌜ at < 64 ⌝ }
+    ensures { λ _. ⌜ now (targets .exit) ≡ aimed (now (targets .entry)) at to ⌝ }
+{
+    if targets[at] == 255 {
+        targets[at] = to;
+    }
+}
+
+fn link(targets: &mut [u8; 64], d: u8, s: u8, t: u8)
+    requires { ⌜ (d < 4) × (s < 16) × (t < 16) ⌝ }
+    ensures { λ _. ⌜ now (targets .exit) ≡ linked (now (targets .entry)) d s t ⌝ }
+{
+    aim(targets, 4 * wide(s) + wide(d), t);
+    aim(targets, 4 * wide(t) + wide(d), s);
+}
+
+fn copy(bytes: &[u8], from: usize, size: usize, arcs: &mut [u8; 192])
+    requires { ⌜ (from + size ≤ length (now bytes)) × (size ≤ 192) ⌝ }
+    ensures { λ _. ⌜ now (arcs .exit) ≡ stored (now (arcs .entry)) 0 (now (bytes .entry)) from size ⌝ }
+{
+    let mut j = 0;
+    while j < size {
+        arcs[j] = bytes[from + j];
+        j += 1;
+    }
+}
+
+// Arcs ascend strictly, so that it is enough to compare each with the one before it.
+fn read_targets(
+    bytes: &[u8],
+    l: Layout,
+    kinds: &[u8; 16],
+    other: u8,
+    from: usize,
+    count: usize,
+    targets: &mut [u8; 64],
+) -> bool
+    requires { ⌜ ArcsPlaced (now bytes) l (now kinds) other from count ⌝ }
+    requires { ⌜ now targets ≡ replicate 64 255 ⌝ }
+    ensures { λ r. ⌜ r ≡ arcsForm (now (bytes .entry)) (sideOf other) ⌝ }
+    ensures { λ r. ⌜ (r ≡ true → now (targets .exit) ≡ targetsOf (now (bytes .entry)) (sideOf other)) ⌝ }
+{
+    let n = l.n;
+    let nodes = l.nodes;
+    let mut low = 0;
+    let mut a = 0;
+    while a < count {
+        let at = from + 3 * a;
+        let d = bytes[at];
+        let s = bytes[at + 1];
+        let t = bytes[at + 2];
+        if !arc_fits(n, nodes, kinds, other, low, d, s, t) {
+            return false;
+        }
+        low = key(d, s, t) + 1;
+        link(targets, d, s, t);
+        a += 1;
+    }
+    true
+}
+
+// The arcs of the side that has not the nodes of the kind `other`: `count` of them, from `from` on.
+pub fn read_arcs(
+    bytes: &[u8],
+    l: Layout,
+    kinds: &[u8; 16],
+    other: u8,
+    from: usize,
+    count: usize,
+    arcs: &mut [u8; 192],
+    targets: &mut [u8; 64],
+) -> bool
+    requires { ⌜ ArcsPlaced (now bytes) l (now kinds) other from count ⌝ }
+    requires { ⌜ (now arcs ≡ replicate 192 0) × (now targets ≡ replicate 64 255) ⌝ }
+    ensures { λ r. ⌜ r ≡ arcsForm (now (bytes .entry)) (sideOf other) ⌝ }
+    ensures { λ r. ⌜ now (arcs .exit) ≡ arcsOf (now (bytes .entry)) (sideOf other) ⌝ }
+    ensures { λ r. ⌜ (r ≡ true → now (targets .exit) ≡ targetsOf (now (bytes .entry)) (sideOf other)) ⌝ }
+{
+    copy(bytes, from, 3 * count, arcs);
+    read_targets(bytes, l, kinds, other, from, count, targets)
+}

@@ -1,0 +1,174 @@
+// Reading a scheme's bytes into one value of fixed size.
+mod arcs;
+pub mod cursor;
+mod frame;
+mod nodes;
+
+use arcs::read_arcs;
+use cursor::wide;
+use frame::Form;
+use frame::Layout;
+use frame::frame;
+use model::Scheme;
+use nodes::read_nodes;
+use nodes::read_orbit;
+ghost use mathlib.Core.Path.{_≡_};
+ghost use Rattle.scheme.specs.Reading.{Counted, Held, Gathered, blank, reading};
+
+// What reading a scheme's bytes gives: the scheme, or a blank one beside the refusal.
+pub struct Reading {
+    pub ok: bool,
+    pub scheme: Scheme,
+}
+
+// Fills blank arrays with what the bytes hold, and answers whether they are in the form.
+fn gather(
+    bytes: &[u8],
+    orbit: &mut [u8; 4],
+    kinds: &mut [u8; 16],
+    lwords: &mut [u8; 64],
+    rwords: &mut [u8; 64],
+    larcs: &mut [u8; 192],
+    ltargets: &mut [u8; 64],
+    rarcs: &mut [u8; 192],
+    rtargets: &mut [u8; 64],
+) -> Form
+    requires { ⌜ Held blank (now orbit) (now kinds) (now lwords) (now rwords) (now larcs) (now ltargets) (now rarcs) (now rtargets) ⌝ }
+    ensures { λ r. ⌜ Gathered (now (bytes .entry)) (now (orbit .exit)) (now (kinds .exit)) (now (lwords .exit)) (now (rwords .exit)) (now (larcs .exit)) (now (ltargets .exit)) (now (rarcs .exit)) (now (rtargets .exit)) r ⌝ }
+{
+    let Form::Laid(l) = frame(bytes) else {
+        return Form::Broken;
+    };
+    if !read_orbit(bytes, l, orbit) {
+        return Form::Broken;
+    }
+    if !read_nodes(bytes, l, kinds, lwords, rwords) {
+        return Form::Broken;
+    }
+    if !read_arcs(bytes, l, kinds, 3, l.lefts, wide(l.lcount), larcs, ltargets) {
+        return Form::Broken;
+    }
+    if !read_arcs(
+        bytes,
+        l,
+        kinds,
+        1,
+        l.rights,
+        wide(l.rcount),
+        rarcs,
+        rtargets,
+    ) {
+        return Form::Broken;
+    }
+    Form::Laid(l)
+}
+
+// The numbers of a scheme, and whether the bytes are in the form.
+struct Header {
+    ok: bool,
+    n: u8,
+    places: u8,
+    nodes: u8,
+    lcount: u8,
+    rcount: u8,
+}
+
+// As `gather`, with the arrays blank again where the bytes are not in the form.
+fn settle(
+    bytes: &[u8],
+    orbit: &mut [u8; 4],
+    kinds: &mut [u8; 16],
+    lwords: &mut [u8; 64],
+    rwords: &mut [u8; 64],
+    larcs: &mut [u8; 192],
+    ltargets: &mut [u8; 64],
+    rarcs: &mut [u8; 192],
+    rtargets: &mut [u8; 64],
+) -> Header
+    requires { ⌜ Held blank (now orbit) (now kinds) (now lwords) (now rwords) (now larcs) (now ltargets) (now rarcs) (now rtargets) ⌝ }
+    ensures { λ r. ⌜ r .ok ≡ reading (now (bytes .entry)) .ok ⌝ }
+    ensures { λ r. ⌜ Counted (reading (now (bytes .entry)) .scheme) (r .n) (r .places) (r .nodes) (r .lcount) (r .rcount) ⌝ }
+    ensures { λ r. ⌜ Held (reading (now (bytes .entry)) .scheme) (now (orbit .exit)) (now (kinds .exit)) (now (lwords .exit)) (now (rwords .exit)) (now (larcs .exit)) (now (ltargets .exit)) (now (rarcs .exit)) (now (rtargets .exit)) ⌝ }
+{
+    match gather(
+        bytes,
+        orbit,
+        kinds,
+        lwords,
+        rwords,
+        larcs,
+        ltargets,
+        rarcs,
+        rtargets,
+    ) {
+        Form::Laid(l) => Header {
+            ok: true,
+            n: l.n,
+            places: l.places,
+            nodes: l.nodes,
+            lcount: l.lcount,
+            rcount: l.rcount,
+        },
+        Form::Broken => {
+            *orbit = [0u8; 4];
+            *kinds = [0u8; 16];
+            *lwords = [255u8; 64];
+            *rwords = [255u8; 64];
+            *larcs = [0u8; 192];
+            *ltargets = [255u8; 64];
+            *rarcs = [0u8; 192];
+            *rtargets = [255u8; 64];
+            Header {
+                ok: false,
+                n: 0,
+                places: 0,
+                nodes: 0,
+                lcount: 0,
+                rcount: 0,
+            }
+        }
+    }
+}
+
+// Reads a scheme's bytes, of any number.
+pub fn read(bytes: &[u8]) -> Reading
+    ensures { λ r. ⌜ r ≡ reading (now (bytes .entry)) ⌝ }
+{
+    let mut orbit = [0u8; 4];
+    let mut kinds = [0u8; 16];
+    let mut lwords = [255u8; 64];
+    let mut rwords = [255u8; 64];
+    let mut larcs = [0u8; 192];
+    let mut ltargets = [255u8; 64];
+    let mut rarcs = [0u8; 192];
+    let mut rtargets = [255u8; 64];
+    let h = settle(
+        bytes,
+        &mut orbit,
+        &mut kinds,
+        &mut lwords,
+        &mut rwords,
+        &mut larcs,
+        &mut ltargets,
+        &mut rarcs,
+        &mut rtargets,
+    );
+    Reading {
+        ok: h.ok,
+        scheme: Scheme {
+            n: h.n,
+            places: h.places,
+            orbit: orbit,
+            nodes: h.nodes,
+            kinds: kinds,
+            lwords: lwords,
+            rwords: rwords,
+            ltargets: ltargets,
+            rtargets: rtargets,
+            lcount: h.lcount,
+            larcs: larcs,
+            rcount: h.rcount,
+            rarcs: rarcs,
+        },
+    }
+}
