@@ -1,0 +1,65 @@
+-- The framing: the counts that were read are those of the input, and what breaks a limit or the length is a fault.
+-- Assumes nothing.
+use Prim.Native.Nat.{ℕ, _+_, _*_, _≤_}
+use mathlib.Core.Path.{_≡_, sym, ap, ap₂, _∙_, subst}
+use mathlib.Core.Logic.{⊎-elim}
+use mathlib.Core.Bool.{true, false}
+use mathlib.Core.List.{List}
+use native.Mathlib.Omega.{arith}
+use lib.ListN.{length}
+use borrow.Author.Tests.{leb-true, eqb-true, le-leb, eq-eqb}
+use Rattle.base.specs.Digits.{numberAt}
+use Rattle.base.proofs.TestLaws.{and-left, and-right, and-of, true-or-false}
+use Rattle.model.specs.File.{twoAt}
+use Rattle.model.specs.Bench.{mapLength, schemeLength, dartCount, framed}
+use Rattle.bench.specs.Input.{countAt, Laid, FramingOf}
+use Rattle.bench.specs.declared.framing.Framing.{Framing}
+use Rattle.bench.specs.declared.framing.Framing.the-variants.{Framed, Fault}
+use Rattle.bench.specs.declared.framing.Layout.{Layout}
+
+pub count-of : (b : List ℕ) (at v : ℕ) → v ≡ numberAt 2 b at → v ≡ countAt b at
+unfolding numberAt countAt
+count-of b at v e = rw e (omega arith)
+
+module _ (b : List ℕ) (map scheme darts : ℕ) (x : map ≡ countAt b 0) (y : scheme ≡ countAt b (2 + map)) (z : darts ≡ countAt b (4 + map + scheme)) where
+  pub map-length : mapLength b ≡ map
+  unfolding countAt
+  map-length = sym x
+
+  pub scheme-length : schemeLength b ≡ scheme
+  unfolding countAt
+  scheme-length = ap (λ (k : ℕ). twoAt 0 0 b (2 + k)) map-length ∙ sym y
+
+  pub dart-count : dartCount b ≡ darts
+  unfolding countAt
+  dart-count = ap₂ (λ (j k : ℕ). twoAt 0 0 b (4 + j + k)) map-length scheme-length ∙ sym z
+
+  pub fault : (map ≤ 14345 → scheme ≤ 537 → darts ≤ 1024 → length b ≡ 6 + map + scheme + 2 * darts → ⊥) → framed b ≡ false
+  unfolding framed
+  fault f = ⊎-elim
+      (λ t.
+      let size : length b ≡ 6 + mapLength b + schemeLength b + 2 * dartCount b = eqb-true _ _ (and-right _ _ t) in
+      absurd (f
+      (subst (λ (k : ℕ). k ≤ 14345) map-length (leb-true _ _ (and-left _ _ (and-left _ _ (and-left _ _ t)))))
+      (subst (λ (k : ℕ). k ≤ 537) scheme-length (leb-true _ _ (and-right _ _ (and-left _ _ (and-left _ _ t)))))
+      (subst (λ (k : ℕ). k ≤ 1024) dart-count (leb-true _ _ (and-right _ _ (and-left _ _ t))))
+      (omega (arith, size, map-length, scheme-length, dart-count))))
+      (λ e. e)
+      (true-or-false (framed b))
+
+module _ (b : List ℕ) (l : Layout) (k : Laid b l) where
+  pub laid-framed : framed b ≡ true
+  unfolding framed
+  laid-framed =
+      let m = map-length b (l .map) (l .scheme) (l .darts) (k .map) (k .scheme) (k .darts) in
+      let s = scheme-length b (l .map) (l .scheme) (l .darts) (k .map) (k .scheme) (k .darts) in
+      let d = dart-count b (l .map) (l .scheme) (l .darts) (k .map) (k .scheme) (k .darts) in
+      rw (d, s, m) (and-of (and-of (and-of (le-leb _ _ (k .mapFits)) (le-leb _ _ (k .schemeFits))) (le-leb _ _ (k .dartsFit))) (eq-eqb _ _ (k .size)))
+
+-- ---- what the framing was found to be
+
+pub fault-of : (b : List ℕ) (f : Framing) → f ≡ Fault → FramingOf b f → framed b ≡ false
+fault-of b f e x = subst (FramingOf b) e x
+
+pub laid-of : (b : List ℕ) (f : Framing) (l : Layout) → f ≡ Framed l → FramingOf b f → Laid b l
+laid-of b f l e x = subst (FramingOf b) e x

@@ -1,0 +1,7 @@
+pub mod DecimalLaws
+pub mod WriterLaws
+pub mod LineLaws
+pub mod ShortLaws
+pub mod FramingLaws
+pub mod SessionLaws
+pub mod PrintedLaws

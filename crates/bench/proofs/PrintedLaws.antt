@@ -1,0 +1,120 @@
+-- What is printed, case by case.
+-- Assumes nothing.
+use Prim.Native.Nat.{ℕ, _+_, _*_, _≤_, _<_}
+use mathlib.Core.Path.{_≡_, refl, sym, ap, ap₂, _∙_}
+use mathlib.Core.Bool.{Bool, true, false, cond}
+use mathlib.Core.List.{List, _++_}
+use native.Mathlib.Omega.{arith}
+use lib.ListN.{length}
+use lib.Dec.{eqb, leb}
+use borrow.Author.Tests.{le-leb, lt-leb, eq-eqb, ne-eqb}
+use Rattle.base.specs.Test.{_and_, _or_}
+use Rattle.base.specs.Below.{count}
+use Rattle.base.specs.First.{when, _orElse_}
+use Rattle.base.proofs.BelowLaws.{count-le}
+use Rattle.base.proofs.ListLaws.{sets-start}
+use Rattle.model.specs.Answer.{number}
+use Rattle.model.specs.Map.{view, live, unused}
+use Rattle.model.specs.Calls.{sizesOk, readFault, readAnswer}
+use Rattle.model.specs.Bench.{refusedLine, lastLine, mapLength, framed, mapSlots, mapAnswer, tableAfter, runLines, printed}
+use Rattle.model.specs.declared.Answer.the-variants.{BadCall}
+use Rattle.file.specs.Places.{Put}
+use Rattle.file.proofs.PlaceLaws.{put-then}
+use Rattle.bench.specs.Input.{Laid}
+use Rattle.bench.specs.Session.{dartLines, longest, Printed, Wrote}
+use Rattle.bench.specs.declared.framing.Layout.{Layout}
+use Rattle.bench.proofs.FramingLaws.{laid-framed, dart-count}
+use Rattle.bench.proofs.SessionLaws.{is-map}
+use Rattle.bench.proofs.ShortLaws.{refused-few, last-few}
+
+and-false : (t : Bool) → (t and false) ≡ false
+unfolding _and_
+and-false true = refl
+and-false false = refl
+
+pub printed-fault : (b : List ℕ) → framed b ≡ false → printed b ≡ refusedLine 11
+unfolding printed _and_
+printed-fault b e = rw e refl
+
+-- a table of more than 1,024 slots is refused
+many-slots : (n N : ℕ) (t b : List ℕ) → 1024 < N → readAnswer n N t b ≡ BadCall
+unfolding readAnswer readFault when _orElse_ _and_
+many-slots n N t b h =
+    let over : sizesOk n N t ≡ false = ap (λ (x : Bool). x and eqb (length t) (6 * N)) (ap (λ (x : Bool). (eqb n 2 or eqb n 3) and leb 1 N and x) (lt-leb N 1024 h) ∙ and-false ((eqb n 2 or eqb n 3) and leb 1 N)) in
+    rw over refl
+
+module _ (b : List ℕ) (l : Layout) (laid : Laid b l) where
+  pub printed-small : l .map < 3 → printed b ≡ refusedLine 11
+  unfolding printed
+  printed-small h =
+      let short : leb 3 (mapLength b) ≡ false = rw (is-map b l laid) (lt-leb 3 (l .map) h) in
+      rw (short, and-false (framed b)) refl
+
+  module _ (long : 3 ≤ l .map) where
+    printed-read : printed b ≡ cond (eqb (number (mapAnswer b)) 0) (runLines b) (refusedLine (number (mapAnswer b)))
+    unfolding printed _and_
+    printed-read =
+        let fits : leb 3 (mapLength b) ≡ true = rw (is-map b l laid) (le-leb 3 (l .map) long) in
+        rw (laid-framed b l laid, fits) refl
+
+    pub printed-refused : (number (mapAnswer b) ≡ 0 → ⊥) → printed b ≡ refusedLine (number (mapAnswer b))
+    printed-refused f = printed-read ∙ ap (λ (t : Bool). cond t (runLines b) (refusedLine (number (mapAnswer b)))) (ne-eqb (number (mapAnswer b)) 0 f)
+
+    pub printed-many : 1024 < mapSlots b → printed b ≡ refusedLine 1
+    unfolding mapAnswer
+    printed-many h =
+        let one : number (mapAnswer b) ≡ 1 = ap number bad in
+        printed-refused (λ z. absurd (omega arith)) ∙ ap refusedLine one
+      where
+        bad : mapAnswer b ≡ BadCall
+        bad = many-slots _ (mapSlots b) _ _ h
+
+    pub printed-run : number (mapAnswer b) ≡ 0 → printed b ≡ dartLines b (l .darts)
+        ++ lastLine (count (mapSlots b) (live (view (mapSlots b) (tableAfter b (l .darts))))) (count (mapSlots b) (unused (view (mapSlots b) (tableAfter b (l .darts)))))
+    unfolding runLines dartLines
+    printed-run e =
+        printed-read ∙ ap (λ (t : Bool). cond t (runLines b) (refusedLine (number (mapAnswer b)))) (eq-eqb (number (mapAnswer b)) 0 e)
+        ∙ ap (λ (k : ℕ). dartLines b k ++ lastLine (count (mapSlots b) (live (view (mapSlots b) (tableAfter b k)))) (count (mapSlots b) (unused (view (mapSlots b) (tableAfter b k)))))
+        (dart-count b (l .map) (l .scheme) (l .darts) (laid .map) (laid .scheme) (laid .darts))
+
+    -- the same, of the counts that were taken
+    pub printed-session : (N : ℕ) (t : List ℕ) (x y : ℕ) → number (mapAnswer b) ≡ 0 → N ≡ mapSlots b → t ≡ tableAfter b (l .darts)
+        → x ≡ count N (live (view N t)) → y ≡ count N (unused (view N t)) → printed b ≡ dartLines b (l .darts) ++ lastLine x y
+    printed-session N t x y z e f u w =
+        printed-run z ∙ sym (ap₂ (λ (i j : ℕ). dartLines b (l .darts) ++ lastLine i j)
+        (u ∙ ap₂ (λ (M : ℕ) (q : List ℕ). count M (live (view M q))) e f) (w ∙ ap₂ (λ (M : ℕ) (q : List ℕ). count M (unused (view M q))) e f))
+
+-- ---- written
+
+-- as many as are counted are few
+pub tally-few : (N : ℕ) (p : ℕ → Bool) (x : ℕ) → x ≡ count N p → N ≤ 1024 → x ≤ 1024
+tally-few N p x e h = omega (arith, e, count-le N p)
+
+pub edits-room : (b : List ℕ) (l : Layout) (out : List ℕ) → Laid b l → longest ≤ length out → 23 * l .darts ≤ length out
+edits-room b l out k h = omega (arith, k .dartsFit, h)
+
+module _ (b out : List ℕ) where
+  pub wrote-refused : (k r : ℕ) (out′ : List ℕ) → k < 100 → printed b ≡ refusedLine k → Put out 0 (refusedLine k) out′ r → Wrote b out r out′
+  wrote-refused k r out′ h e p = record { bytes = rw e p; short = omega (arith, p .after, refused-few k h) }
+
+  pub refused-room : (k : ℕ) → k < 100 → longest ≤ length out → 0 + length (refusedLine k) ≤ length out
+  refused-room k h room = omega (arith, refused-few k h, room)
+
+  pub last-room : (at darts x y : ℕ) → at ≤ 23 * darts → darts ≤ 1024 → x ≤ 1024 → y ≤ 1024 → longest ≤ length out → at + length (lastLine x y) ≤ length out
+  last-room at darts x y h k u w room = omega (arith, last-few x y u w, room)
+
+  pub wrote-run : (lines out₁ : List ℕ) (at darts x y : ℕ) (out′ : List ℕ) (r : ℕ) → at ≤ 23 * darts → darts ≤ 1024 → x ≤ 1024 → y ≤ 1024
+      → printed b ≡ lines ++ lastLine x y → Put out 0 lines out₁ at → Put out₁ at (lastLine x y) out′ r → Wrote b out r out′
+  wrote-run lines out₁ at darts x y out′ r h k u w e p q = record {
+    bytes = rw e (put-then _ _ _ _ _ _ _ _ p q);
+    short = omega (arith, q .after, last-few x y u w);
+  }
+
+  pub printed-of : (r : ℕ) (out′ : List ℕ) → longest ≤ length out → Wrote b out r out′ → Printed b out r out′
+  printed-of r out′ room w =
+      let long : r ≡ length (printed b) = omega (arith, w .bytes .after) in
+      record {
+        count = long;
+        output = rw long (w .bytes .bytes ∙ sets-start out (printed b) (omega (arith, w .short, room)));
+        few = w .short;
+      }

@@ -1,0 +1,170 @@
+-- A session step by step: the parts of the input, the map that is read, and one edit after the other.
+-- Assumes nothing.
+use Prim.Native.Nat.{ℕ, _+_, _*_, _-_, _≤_, _<_}
+use mathlib.Core.Path.{_≡_, refl, sym, ap, ap₂, _∙_}
+use mathlib.Core.Bool.{Bool, true, false, cond}
+use mathlib.Core.List.{List}
+use native.Mathlib.Numerals.{add-one}
+use native.Mathlib.Omega.{arith}
+use lib.Dec.{eqb}
+use lib.ListN.{length, getD, take, drop, replicate, length-replicate, replicate-append-replicate}
+use lib.Seq.{getD-take, getD-drop, take-at}
+use Rattle.base.specs.Test.{_and_}
+use Rattle.base.specs.Below.{count}
+use Rattle.base.specs.Digits.{numberAt}
+use Rattle.base.specs.Lists.{joined}
+use Rattle.base.proofs.BelowLaws.{count-step}
+use Rattle.base.proofs.ListLaws.{joined-step}
+use Rattle.model.specs.File.{twoAt}
+use Rattle.model.specs.Calls.{zeros, sizesOk, readAnswer, readTable, editAnswer, editTable, editStore}
+use Rattle.model.specs.Bench.{mapLength, schemeLength, dartLine, dartAt, answerAt, mapBytes, schemeBytes, mapDimension, mapSlots, mapAnswer, tableAfter}
+use Rattle.model.specs.declared.Answer.{Answer}
+use Rattle.model.proofs.AnswerLaws.{answers-same}
+use Rattle.file.specs.Places.{Put}
+use Rattle.file.proofs.PlaceLaws.{put-then}
+use Rattle.kernel.specs.Promises.{MapEdited}
+use Rattle.bench.specs.Input.{countAt, Laid}
+use Rattle.bench.specs.Session.{Asked, Stands, dartLines}
+use Rattle.bench.specs.declared.framing.Layout.{Layout}
+use Rattle.bench.proofs.FramingLaws.{count-of, map-length, scheme-length}
+use Rattle.bench.proofs.ShortLaws.{line-short}
+
+-- ---- the parts of the input
+
+module _ (b : List ℕ) (l : Layout) (k : Laid b l) where
+  pub is-map : mapLength b ≡ l .map
+  is-map = map-length b (l .map) (l .scheme) (l .darts) (k .map) (k .scheme) (k .darts)
+
+  pub is-scheme : schemeLength b ≡ l .scheme
+  is-scheme = scheme-length b (l .map) (l .scheme) (l .darts) (k .map) (k .scheme) (k .darts)
+
+  pub map-part : take (2 + l .map - 2) (drop 2 b) ≡ mapBytes b
+  unfolding mapBytes
+  map-part = ap (λ (j : ℕ). take j (drop 2 b)) (same ∙ sym is-map)
+    where
+      same : 2 + l .map - 2 ≡ l .map
+      same = omega arith
+
+  pub scheme-part : take (4 + l .map + l .scheme - (4 + l .map)) (drop (4 + l .map) b) ≡ schemeBytes b
+  unfolding schemeBytes
+  scheme-part = ap₂ (λ (i j : ℕ). take i (drop (4 + j) b)) (same ∙ sym is-scheme) (sym is-map)
+    where
+      same : 4 + l .map + l .scheme - (4 + l .map) ≡ l .scheme
+      same = omega arith
+
+  -- the k-th dart stands where the reader comes to it
+  pub dart-here : (j v from : ℕ) → from ≡ 6 + l .map + l .scheme + 2 * j → v ≡ numberAt 2 b from → v ≡ dartAt b j
+  unfolding dartAt countAt
+  dart-here j v from e f =
+      count-of b from v f ∙ ap (λ (i : ℕ). twoAt 0 0 b i) e
+      ∙ ap₂ (λ (i m : ℕ). twoAt 0 0 b (6 + i + m + 2 * j)) (sym is-map) (sym is-scheme)
+
+  module _ (long : 3 ≤ l .map) where
+    byte-here : (i : ℕ) → i < 3 → getD (mapBytes b) i 0 ≡ getD b (2 + i) 0
+    unfolding mapBytes
+    byte-here i h = rw (getD-take (mapLength b) (drop 2 b) i 0 (rw is-map (omega arith)), getD-drop 2 b i 0) refl
+
+    pub slots-here : (v : ℕ) → v ≡ numberAt 2 b 3 → v ≡ mapSlots b
+    unfolding mapSlots countAt
+    slots-here v e = count-of b 3 v e ∙ ap₂ (λ (i j : ℕ). i + 256 * j) (sym (byte-here 1 (omega arith))) (sym (byte-here 2 (omega arith)))
+
+    pub dimension-here : (v : ℕ) → v ≡ getD b 2 0 → v ≡ mapDimension b
+    unfolding mapDimension
+    dimension-here v e = e ∙ sym (byte-here 0 (omega arith))
+
+    pub asked-of : (n N : ℕ) → n ≡ getD b 2 0 → N ≡ mapSlots b → N ≤ 1024 → Asked b n N
+    asked-of n N e f h = record { dimension = dimension-here n e; slots = f; few = h }
+
+-- ---- the map is read
+
+module _ (b : List ℕ) (n N : ℕ) (asked : Asked b n N) where
+  read-moved : {A : Type 0} (f : ℕ → ℕ → List ℕ → List ℕ → A) (t part : List ℕ) → t ≡ replicate (6 * N) 0 → part ≡ mapBytes b
+      → f n N t part ≡ f (mapDimension b) (mapSlots b) (replicate (6 * mapSlots b) 0) (mapBytes b)
+  read-moved f t part e p =
+      ap₂ (λ (x y : List ℕ). f n N x y) e p ∙ ap₂ (λ (i j : ℕ). f i j (replicate (6 * j) 0) (mapBytes b)) (asked .dimension) (asked .slots)
+
+  pub read-map : (t part : List ℕ) (r : Answer) (t′ : List ℕ) → t ≡ replicate (6 * N) 0 → part ≡ mapBytes b
+      → (r ≡ readAnswer n N t part) × (t′ ≡ readTable n N t part) → (r ≡ mapAnswer b) × (t′ ≡ tableAfter b 0)
+  unfolding mapAnswer tableAfter
+  read-map t part r t′ e p x = (x .0 ∙ read-moved readAnswer t part e p, x .1 ∙ read-moved readTable t part e p)
+
+-- ---- an edit
+
+pub edit-part : (n N : ℕ) (t s part scheme : List ℕ) (d : ℕ) (r : Answer) (t′ s′ : List ℕ) → part ≡ scheme → MapEdited n N t s part d r t′ s′
+    → (r ≡ editAnswer n N t s scheme d) × ((t′ ≡ editTable n N t s scheme d) × (s′ ≡ editStore n N t s scheme d))
+edit-part n N t s part scheme d r t′ s′ p x = (
+  answers-same (x .answer) ∙ ap (λ (y : List ℕ). editAnswer n N t s y d) p,
+  (x .table ∙ ap (λ (y : List ℕ). editTable n N t s y d) p, x .cleared ∙ ap (λ (y : List ℕ). editStore n N t s y d) p),
+)
+
+-- an empty store stays empty
+blank-stays : (c : Bool) (i : ℕ) (s : List ℕ) → s ≡ replicate i 0 → cond c (zeros s) s ≡ replicate i 0
+blank-stays true i s e = ap (λ (j : ℕ). replicate j 0) (ap length e ∙ length-replicate i 0)
+blank-stays false i s e = e
+
+-- the first k darts are edited, and their lines printed
+pub record Going (b : List ℕ) (l : Layout) (N k : ℕ) (t s out₀ out : List ℕ) (from at : ℕ) : Type 0 where
+  pub place : from ≡ 6 + l .map + l .scheme + 2 * k
+  pub stands : Stands b N k t s
+  pub lines : Put out₀ 0 (dartLines b k) out at
+  pub short : at ≤ 23 * k
+
+pub going-none : (b : List ℕ) (l : Layout) (N : ℕ) (t s out : List ℕ) → Stands b N 0 t s → Going b l N 0 t s out out (6 + l .map + l .scheme) 0
+unfolding dartLines joined
+going-none b l N t s out x = record {
+  place = omega arith;
+  stands = x;
+  lines = record { bytes = refl; after = refl };
+  short = omega arith;
+}
+
+module _ (b : List ℕ) (l : Layout) (laid : Laid b l) (n N : ℕ) (asked : Asked b n N) (k : ℕ) (t s out₀ out : List ℕ) (from at : ℕ)
+    (g : Going b l N k t s out₀ out from at) (v : ℕ) (read : v ≡ numberAt 2 b from) where
+  moved : {A : Type 0} (f : ℕ → ℕ → List ℕ → List ℕ → List ℕ → ℕ → A)
+      → f n N t s (schemeBytes b) v ≡ f (mapDimension b) (mapSlots b) (tableAfter b k) (replicate (16 * mapSlots b) 0) (schemeBytes b) (dartAt b k)
+  moved f =
+      ap₂ (λ (x y : List ℕ). f n N x y (schemeBytes b) v) (g .stands .table) (g .stands .store)
+      ∙ ap₂ (λ (i j : ℕ). f i j (tableAfter b k) (replicate (16 * j) 0) (schemeBytes b) v) (asked .dimension) (asked .slots)
+      ∙ ap (λ (d : ℕ). f (mapDimension b) (mapSlots b) (tableAfter b k) (replicate (16 * mapSlots b) 0) (schemeBytes b) d) (dart-here b l laid k v from (g .place) read)
+
+  module _ (a : Answer) (edit : a ≡ editAnswer n N t s (schemeBytes b) v) (small : v < 65536) where
+    line-few : length (dartLine v a) ≤ 23
+    line-few = rw edit (line-short n N t s (schemeBytes b) v (omega arith))
+
+    -- there is room for the line
+    pub line-room : k < l .darts → 23 * l .darts ≤ length out → at + length (dartLine v a) ≤ length out
+    line-room h r = omega (arith, line-few, g .short)
+
+    pub going-more : (t′ s′ out′ : List ℕ) (from′ at′ : ℕ) → from′ ≡ from + 2 → t′ ≡ editTable n N t s (schemeBytes b) v → s′ ≡ editStore n N t s (schemeBytes b) v
+        → Put out at (dartLine v a) out′ at′ → Going b l N (k + 1) t′ s′ out₀ out′ from′ at′
+    unfolding dartLines answerAt tableAfter editStore
+    going-more t′ s′ out′ from′ at′ f x y p = record {
+      place = omega (arith, g .place, f);
+      stands = record {
+        table = rw (add-one k) (x ∙ moved editTable);
+        store = y ∙ blank-stays (sizesOk n N t and eqb (length s) (16 * N)) (16 * N) s (g .stands .store);
+      };
+      lines = rw (joined-step k (λ j. dartLine (dartAt b j) (answerAt b j)), ← line-is) (put-then _ _ _ _ _ _ _ _ (g .lines) p);
+      short = omega (arith, p .after, g .short, line-few);
+    }
+      where
+        line-is : dartLine v a ≡ dartLine (dartAt b k) (answerAt b k)
+        line-is = ap₂ dartLine (dart-here b l laid k v from (g .place) read) (edit ∙ moved editAnswer)
+
+-- ---- the slots of a state
+
+pub tally-hit : (p : ℕ → Bool) (x found : ℕ) → p x ≡ true → found ≡ count x p → found + 1 ≡ count (x + 1) p
+tally-hit p x found h e = rw (count-step x p, h, ← e) refl
+
+pub tally-miss : (p : ℕ → Bool) (x found : ℕ) → p x ≡ false → found ≡ count x p → found ≡ count (x + 1) p
+tally-miss p x found h e = rw (count-step x p, h, ← e) (omega arith)
+
+-- ---- empty words
+
+pub blank-part : (w m : ℕ) → w ≤ m → take {A = ℕ} w (replicate m 0) ≡ replicate w 0
+blank-part w m h =
+    let more : m ≡ w + (m - w) = omega arith in
+    ap (λ (k : ℕ). take {A = ℕ} w (replicate k 0)) more ∙ ap (take {A = ℕ} w) (sym (replicate-append-replicate w (m - w) 0)) ∙ take-at (replicate w 0) (replicate (m - w) 0) w (length-replicate w 0)
+
+pub blank-length : (w m : ℕ) → w ≤ m → w ≡ length (take {A = ℕ} w (replicate m 0))
+blank-length w m h = sym (ap (length {A = ℕ}) (blank-part w m h) ∙ length-replicate w 0)

@@ -1,0 +1,127 @@
+-- No line is long: the numbers of an edit's answer are small.
+-- Assumes nothing.
+use Prim.Native.Nat.{ℕ, _*_, _≤_, _<_}
+use mathlib.Core.Path.{_≡_, refl, sym, ap, _∙_, subst}
+use mathlib.Core.Logic.{_⊎_, ⊎-elim}
+use mathlib.Core.Bool.{Bool}
+use mathlib.Core.Option.{Option, none, some, Option·getD}
+use mathlib.Core.List.{List}
+use native.Mathlib.Nat.{mul-le-mul-left}
+use native.Mathlib.Omega.{arith}
+use lib.ListN.{length}
+use borrow.Author.Tests.{leb-true, ne-eqb}
+use Rattle.base.specs.First.{when, _orElse_}
+use Rattle.base.specs.Below.{count}
+use Rattle.base.proofs.TestLaws.{and-left, and-right}
+use Rattle.base.proofs.BelowLaws.{count-le}
+use Rattle.base.proofs.FirstLaws.{or-else-cases, when-at}
+use Rattle.model.specs.Answer.{number}
+use Rattle.model.specs.Map.{view, unused}
+use Rattle.model.specs.Scheme.{schemeOf, nodesOf, deleted}
+use Rattle.model.specs.Conditions.{schemeFault, noted, hookFault, incidenceFault}
+use Rattle.model.specs.Edit.{orbitSize, addedDarts, deletedDarts}
+use Rattle.model.specs.Calls.{bytesFault, roomFault, orbitOf, editFault, editAnswer}
+use Rattle.model.specs.Bench.{shown, dartLine, lastLine, refusedLine}
+use Rattle.model.specs.declared.Answer.{Answer}
+use Rattle.model.specs.declared.Answer.the-variants.{Done, Edited, Written, BadCall, BadForm, BadHook, BadIncidence, BadCycle, OtherDimension, BadTable, NoDart, NoMatch, NoRoom, BadFile, ShortOutput}
+use Rattle.model.proofs.CallLaws.{granted}
+use Rattle.model.proofs.SchemeLaws.{nodes-few}
+use Rattle.kernel.proofs.RefusalLaws.{cycle-number}
+use Rattle.bench.proofs.DecimalLaws.{decimal-short}
+use Rattle.bench.proofs.LineLaws.{digits, dart-length, last-length, refused-length}
+
+-- ---- a refusal has a number, of at most two digits
+
+pub number-few : (a : Answer) → number a ≤ 12
+number-few Done = omega arith
+number-few (Edited o e d) = omega arith
+number-few (Written l) = omega arith
+number-few BadCall = omega arith
+number-few BadForm = omega arith
+number-few (BadHook s) = omega arith
+number-few (BadIncidence s) = omega arith
+number-few (BadCycle s i j) = omega arith
+number-few OtherDimension = omega arith
+number-few BadTable = omega arith
+number-few NoDart = omega arith
+number-few NoMatch = omega arith
+number-few NoRoom = omega arith
+number-few BadFile = omega arith
+number-few ShortOutput = omega arith
+
+-- what is answered, if anything, is a refusal
+abbrev Refuses : Option Answer → Type 0
+Refuses o = (a : Answer) → o ≡ some a → number a ≡ 0 → ⊥
+
+either : {o r : Option Answer} → Refuses o → Refuses r → Refuses (o orElse r)
+either {o} {r} p q a e z = ⊎-elim (λ w. p a w z) (λ w. q a (w .1) z) (or-else-cases o r a e)
+
+tested : (t : Bool) (x : Answer) → (number x ≡ 0 → ⊥) → Refuses (when t x)
+tested t x f a e z = f (ap number (when-at t e .1) ∙ z)
+
+note : (f : ℕ → Answer) (o : Option ℕ) → ((s : ℕ) → number (f s) ≡ 0 → ⊥) → Refuses (noted f o)
+note f none g a e z = let w : _≡_ {A = ℕ} 0 1 = cc in omega arith
+note f (some s) g a e z = g s (let w : f s ≡ a = cc in ap number w ∙ z)
+
+edit-refuses : (n N : ℕ) (t store b : List ℕ) (d : ℕ) → Refuses (editFault n N t store b d)
+unfolding editFault bytesFault schemeFault roomFault
+edit-refuses n N t store b d =
+    either (tested _ BadCall (λ z. absurd (omega arith)))
+    (either (either (tested _ BadForm (λ z. absurd (omega arith))) (either (note BadHook (hookFault (schemeOf b)) (λ s z. absurd (omega arith)))
+    (either (note BadIncidence (incidenceFault (schemeOf b)) (λ s z. absurd (omega arith))) (λ a e z. let five = cycle-number (schemeOf b) a e in absurd (omega arith)))))
+    (either (tested _ OtherDimension (λ z. absurd (omega arith)))
+    (either (tested _ BadTable (λ z. absurd (omega arith)))
+    (either (tested _ NoDart (λ z. absurd (omega arith)))
+    (either (tested _ NoMatch (λ z. absurd (omega arith))) (tested _ NoRoom (λ z. absurd (omega arith))))))))
+
+-- ---- the line of an edit
+
+refused-short : (d : ℕ) (a : Answer) → d < 100000 → (number a ≡ 0 → ⊥) → length (dartLine d a) ≤ 23
+refused-short d a h f =
+    let none-shown : (j : ℕ) → shown a j ≡ 0 = λ j. rw (ne-eqb (number a) 0 f) refl in
+    let one : (j : ℕ) → digits (shown a j) ≤ 1 = λ j. subst (λ (v : ℕ). digits v ≤ 1) (sym (none-shown j)) (decimal-short 0 0 (omega arith)) in
+    omega (arith, dart-length d a, decimal-short 4 d h, decimal-short 1 (number a) (omega (arith, number-few a)), one 0, one 1, one 2)
+
+done-short : (d o e f : ℕ) → d < 1024 → o ≤ 1024 → e ≤ 1024 → f ≤ 16384 → length (dartLine d (Edited o e f)) ≤ 23
+done-short d o e f h x y z =
+    omega (
+      arith,
+      dart-length d (Edited o e f),
+      decimal-short 3 d (omega arith),
+      decimal-short 0 0 (omega arith),
+      decimal-short 3 o (omega arith),
+      decimal-short 3 e (omega arith),
+      decimal-short 4 f (omega arith),
+    )
+
+module _ (n N : ℕ) (t store b : List ℕ) (d : ℕ) where
+  granted-short : editFault n N t store b d ≡ none → length (dartLine d (Edited (orbitSize (view N t) (schemeOf b) (orbitOf n N t store b d))
+      (addedDarts (view N t) (schemeOf b) (orbitOf n N t store b d)) (deletedDarts (view N t) (schemeOf b) (orbitOf n N t store b d)))) ≤ 23
+  unfolding orbitSize deletedDarts schemeOf
+  granted-short q =
+      let g = granted n N t store b d q in
+      let few : N ≤ 1024 = leb-true _ _ (and-right _ _ (and-left _ _ (g .sizes))) in
+      let O = orbitOf n N t store b d in
+      let orbits : count N O ≤ N = count-le N O in
+      let nodes : count (nodesOf b) (deleted (schemeOf b)) ≤ 16 = omega (arith, count-le (nodesOf b) (deleted (schemeOf b)), nodes-few b (g .form)) in
+      let room : addedDarts (view N t) (schemeOf b) O ≤ 1024 = omega (arith, g .room, count-le N (unused (view N t))) in
+      let gone : count N O * count (nodesOf b) (deleted (schemeOf b)) ≤ 16384 =
+      omega (arith, mul-le-mul-left (count N O) nodes) in
+      done-short d _ _ _ (omega (arith, g .slot)) (omega arith) room gone
+
+  pub line-short : d < 100000 → length (dartLine d (editAnswer n N t store b d)) ≤ 23
+  unfolding editAnswer
+  line-short h = go (editFault n N t store b d) refl
+    where
+      go : (o : Option Answer) → editFault n N t store b d ≡ o → length (dartLine d (Option·getD (editFault n N t store b d) (Edited (orbitSize (view N t) (schemeOf b) (orbitOf n N t store b d))
+          (addedDarts (view N t) (schemeOf b) (orbitOf n N t store b d)) (deletedDarts (view N t) (schemeOf b) (orbitOf n N t store b d))))) ≤ 23
+      go none q = rw q (granted-short q)
+      go (some a) q = rw q (refused-short d a h (edit-refuses n N t store b d a q))
+
+-- ---- the other lines
+
+pub refused-few : (k : ℕ) → k < 100 → length (refusedLine k) ≤ 11
+refused-few k h = omega (arith, refused-length k, decimal-short 1 k h)
+
+pub last-few : (x y : ℕ) → x ≤ 1024 → y ≤ 1024 → length (lastLine x y) ≤ 22
+last-few x y h k = omega (arith, last-length x y, decimal-short 3 x (omega arith), decimal-short 3 y (omega arith))

@@ -1,0 +1,53 @@
+-- `bench::answer::shown` meets its contract: each variant shows what `shown` says.
+-- Assumes nothing.
+use Prim.Native.Nat.{ℕ}
+use mathlib.Core.List.{List, [], _∷_}
+use mathlib.Core.Path.{_≡_, refl}
+use borrow.Author.Needs.{needs}
+use denote.Enum.Declared.{tagOf}
+use types.Run.{OneOf, miss}
+use Rattle.model.proofs.Answer.{the-type}
+use Rattle.model.specs.Bench.{shown}
+use Rattle.model.specs.declared.Answer.the-variants.{Done, Edited, Written, BadCall, BadForm, BadHook, BadIncidence, BadCycle, OtherDimension, BadTable, NoDart, NoMatch, NoRoom, BadFile, ShortOutput}
+use Rattle.model.specs.declared.Answer.{Answer}
+use Rattle.bench.proofs.answer.shown.Statement.{statement}
+use Rattle.bench.proofs.answer.shown.Tie as tie
+
+-- the places of the variants that show nothing
+abbrev others : List ℕ
+others = 0 ∷ 3 ∷ 4 ∷ 5 ∷ 6 ∷ 7 ∷ 8 ∷ 9 ∷ 10 ∷ 11 ∷ 12 ∷ 13 ∷ 14 ∷ []
+
+none-shown : (a : Answer) → OneOf others (tagOf the-type a) → (0 ≡ shown a 0) × (0 ≡ shown a 1) × (0 ≡ shown a 2)
+none-shown Done h = (refl, refl, refl)
+none-shown (Edited o b d) h = absurd (miss others 1 tt h)
+none-shown (Written l) h = absurd (miss others 2 tt h)
+none-shown BadCall h = (refl, refl, refl)
+none-shown BadForm h = (refl, refl, refl)
+none-shown (BadHook s) h = (refl, refl, refl)
+none-shown (BadIncidence s) h = (refl, refl, refl)
+none-shown (BadCycle s i j) h = (refl, refl, refl)
+none-shown OtherDimension h = (refl, refl, refl)
+none-shown BadTable h = (refl, refl, refl)
+none-shown NoDart h = (refl, refl, refl)
+none-shown NoMatch h = (refl, refl, refl)
+none-shown NoRoom h = (refl, refl, refl)
+none-shown BadFile h = (refl, refl, refl)
+none-shown ShortOutput h = (refl, refl, refl)
+
+enum-known-a : tie.Need-enum-known-a
+enum-known-a c = search needs
+
+enum-known-a-2 : tie.Need-enum-known-a-2
+enum-known-a-2 c = search needs
+
+returns : tie.Need-returns
+returns c = rw (c .before .a .given .1) (refl, refl, refl)
+
+returns-2 : tie.Need-returns-2
+returns-2 c = rw (c .before .a2 .given .1) (refl, refl, refl)
+
+returns-3 : tie.Need-returns-3
+returns-3 c = none-shown (c .before .args .a) (c .match .keys3)
+
+pub shown-spec : {M : Type 1} → statement M
+shown-spec = tie.close (tie.spec enum-known-a enum-known-a-2 returns returns-2 returns-3)

@@ -1,0 +1,27 @@
+-- `bench::writer::field` meets its contract.
+-- Assumes nothing.
+use borrow.Author.Needs.{needs}
+use denote.Ref.{now}
+use Rattle.model.specs.Bench.{decimal}
+use Rattle.file.proofs.PlaceLaws.{put-then}
+use Rattle.bench.proofs.WriterLaws.{room-first, room-left}
+use Rattle.bench.proofs.writer.field.Statement.{statement}
+use Rattle.bench.proofs.writer.field.Tie as tie
+
+text-requires : tie.Need-text-requires
+text-requires c κs = let s = c .before .before .before in room-first (now (s .args .out)) _ (now (s .args .lead)) _ (s .pre)
+
+decimal-requires : tie.Need-decimal-requires
+decimal-requires c κs =
+    let t = c .before .before .before in
+    let s = t .before .before .before .before in
+    room-left (now (s .args .out)) _ (now (s .args .lead)) (decimal (s .args .v)) _ _ (t .text .ensures) (s .pre)
+
+same-length : tie.Need-same-length
+same-length c = search needs
+
+returns : tie.Need-returns
+returns c = put-then _ _ _ _ _ _ _ _ (c .before .before .before .before .before .before .text .ensures) (c .before .before .decimal .ensures)
+
+pub field-spec : {M : Type 1} → statement M
+field-spec = tie.close (tie.spec text-requires decimal-requires same-length returns)

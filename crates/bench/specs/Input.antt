@@ -1,0 +1,30 @@
+-- The framing of the input as the counts that it was read into.
+-- Assumes nothing.
+use Prim.Native.Nat.{ℕ, _+_, _*_, _≤_}
+use mathlib.Core.Path.{_≡_}
+use mathlib.Core.Bool.{false}
+use mathlib.Core.List.{List}
+use lib.ListN.{length}
+use Rattle.model.specs.File.{twoAt}
+use Rattle.model.specs.Bench.{framed}
+use Rattle.bench.specs.declared.framing.Layout.{Layout}
+use Rattle.bench.specs.declared.framing.Framing.{Framing}
+use Rattle.bench.specs.declared.framing.Framing.the-variants.{Framed, Fault}
+
+-- the two-byte number at a place
+unfoldable pub countAt : List ℕ → ℕ → ℕ
+countAt b at = twoAt 0 0 b at
+
+-- l has the counts of b, which are within their limits, and nothing is missing or left over
+pub record Laid (b : List ℕ) (l : Layout) : Type 0 where
+  pub map : l .map ≡ countAt b 0
+  pub scheme : l .scheme ≡ countAt b (2 + l .map)
+  pub darts : l .darts ≡ countAt b (4 + l .map + l .scheme)
+  pub mapFits : l .map ≤ 14345
+  pub schemeFits : l .scheme ≤ 537
+  pub dartsFit : l .darts ≤ 1024
+  pub size : length b ≡ 6 + l .map + l .scheme + 2 * l .darts
+
+abbrev pub FramingOf : List ℕ → Framing → Type 0
+FramingOf b (Framed l) = Laid b l
+FramingOf b Fault = framed b ≡ false

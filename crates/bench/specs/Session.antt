@@ -1,0 +1,39 @@
+-- A run of the bench program, from its input b to its output.
+-- Assumes nothing.
+use Prim.Native.Nat.{ℕ, _+_, _*_, _≤_}
+use mathlib.Core.Path.{_≡_}
+use mathlib.Core.List.{List, _++_}
+use lib.ListN.{length, drop, replicate}
+use Rattle.base.specs.Lists.{joined}
+use Rattle.model.specs.Bench.{dartLine, dartAt, answerAt, mapDimension, mapSlots, tableAfter, printed}
+use Rattle.file.specs.Places.{Put}
+
+-- no output is longer: 1,024 lines of at most 23 bytes each, and a last one of at most 22
+abbrev pub longest : ℕ
+longest = 23574
+
+-- n and N are those of the map file, and the kernel takes so many slots
+pub record Asked (b : List ℕ) (n N : ℕ) : Type 0 where
+  pub dimension : n ≡ mapDimension b
+  pub slots : N ≡ mapSlots b
+  pub few : N ≤ 1024
+
+-- the table t and the store s are as they stand after the first k edits
+pub record Stands (b : List ℕ) (N k : ℕ) (t s : List ℕ) : Type 0 where
+  pub table : t ≡ tableAfter b k
+  pub store : s ≡ replicate (16 * N) 0
+
+-- the lines of the first k darts
+unfoldable pub dartLines : List ℕ → ℕ → List ℕ
+dartLines b k = joined k (λ j. dartLine (dartAt b j) (answerAt b j))
+
+-- r bytes are written at the start of the output, which is as it was behind them: those that the bench program prints for b
+pub record Printed (b out : List ℕ) (r : ℕ) (out′ : List ℕ) : Type 0 where
+  pub count : r ≡ length (printed b)
+  pub output : out′ ≡ printed b ++ drop r out
+  pub few : r ≤ longest
+
+-- the same as a run of stores
+pub record Wrote (b out : List ℕ) (r : ℕ) (out′ : List ℕ) : Type 0 where
+  pub bytes : Put out 0 (printed b) out′ r
+  pub short : r ≤ longest

@@ -1,0 +1,55 @@
+// The framing of the input: map file, scheme and dart list, each after a two-byte count, and nothing after them.
+use file::cursor::Cursor;
+ghost use Rattle.bench.specs.Input.{FramingOf};
+
+// How many bytes the map file and the scheme have, and how many darts are listed.
+pub struct Layout {
+    pub map: usize,
+    pub scheme: usize,
+    pub darts: usize,
+}
+
+pub enum Framing {
+    Framed(Layout),
+    Fault,
+}
+
+pub fn frame(input: &[u8]) -> Framing
+    ensures { λ r. ⌜ FramingOf (now (input .entry)) r ⌝ }
+{
+    if input.len() < 6 {
+        return Framing::Fault;
+    }
+    let left = input.len() - 6;
+    let first = Cursor { at: 0 };
+    let map = first.two(input).value as usize;
+    if left < map {
+        return Framing::Fault;
+    }
+    let second = Cursor { at: 2 + map };
+    let scheme = second.two(input).value as usize;
+    if left - map < scheme {
+        return Framing::Fault;
+    }
+    let third = Cursor {
+        at: 4 + map + scheme,
+    };
+    let darts = third.two(input).value as usize;
+    if left - map - scheme != 2 * darts {
+        return Framing::Fault;
+    }
+    if 14345 < map {
+        return Framing::Fault;
+    }
+    if 537 < scheme {
+        return Framing::Fault;
+    }
+    if 1024 < darts {
+        return Framing::Fault;
+    }
+    Framing::Framed(Layout {
+        map: map,
+        scheme: scheme,
+        darts: darts,
+    })
+}

@@ -1,0 +1,136 @@
+// A session on a map: it is read, edited at each dart in turn, and counted.
+use crate::answer::number;
+use crate::framing::Layout;
+use crate::writer::dart_line;
+use crate::writer::last_line;
+use crate::writer::refused_line;
+use file::cursor::Cursor;
+use model::Answer;
+use table::words::state;
+ghost use mathlib.Core.Path.{_≡_};
+ghost use Prim.Native.Nat.{_+_, _*_, _≤_};
+ghost use lib.Dec.{eqb};
+ghost use lib.ListN.{length, replicate};
+ghost use Rattle.base.specs.Below.{count};
+ghost use Rattle.model.specs.Map.{view};
+ghost use Rattle.model.specs.Calls.{editAnswer, editTable, editStore};
+ghost use Rattle.model.specs.Bench.{schemeBytes, mapAnswer, mapSlots, tableAfter};
+ghost use Rattle.file.specs.Places.{Put};
+ghost use Rattle.table.specs.Words.{Sized};
+ghost use Rattle.bench.specs.Input.{Laid};
+ghost use Rattle.bench.specs.Session.{Asked, Stands, dartLines, longest, Wrote};
+
+fn wide(b: u8) -> u32
+    ensures { λ r. ⌜ r ≡ b ⌝ }
+{
+    b as u32
+}
+
+// Reads the map.
+fn load(input: &[u8], layout: Layout, n: u32, slots: u32, table: &mut [u32]) -> Answer
+    requires { ⌜ Laid (now input) layout ⌝ }
+    requires { ⌜ Asked (now input) n slots ⌝ }
+    requires { ⌜ now table ≡ replicate (6 * slots) 0 ⌝ }
+    ensures { λ r. ⌜ (r ≡ mapAnswer (now (input .entry))) × (now (table .exit) ≡ tableAfter (now (input .entry)) 0) ⌝ }
+{
+    let end = 2 + layout.map;
+    kernel::read(n, slots, table, &input[2..end])
+}
+
+// Edits the map at a dart.
+fn edit(
+    input: &[u8],
+    layout: Layout,
+    n: u32,
+    slots: u32,
+    table: &mut [u32],
+    store: &mut [u32],
+    dart: u32,
+) -> Answer
+    requires { ⌜ Laid (now input) layout ⌝ }
+    ensures { λ r. ⌜ r ≡ editAnswer n slots (now (table .entry)) (now (store .entry)) (schemeBytes (now (input .entry))) dart ⌝ }
+    ensures { λ r. ⌜ now (table .exit) ≡ editTable n slots (now (table .entry)) (now (store .entry)) (schemeBytes (now (input .entry))) dart ⌝ }
+    ensures { λ r. ⌜ now (store .exit) ≡ editStore n slots (now (table .entry)) (now (store .entry)) (schemeBytes (now (input .entry))) dart ⌝ }
+{
+    let start = 4 + layout.map;
+    let end = start + layout.scheme;
+    kernel::edit(n, slots, table, store, &input[start..end], dart)
+}
+
+// Edits at each dart in turn, and prints a line for each.
+fn edits(
+    input: &[u8],
+    layout: Layout,
+    n: u32,
+    slots: u32,
+    table: &mut [u32],
+    store: &mut [u32],
+    out: &mut [u8],
+) -> usize
+    requires { ⌜ Laid (now input) layout ⌝ }
+    requires { ⌜ Asked (now input) n slots ⌝ }
+    requires { ⌜ Stands (now input) slots 0 (now table) (now store) ⌝ }
+    requires { ⌜ 23 * layout .darts ≤ length (now out) ⌝ }
+    ensures { λ r. ⌜ Put (now (out .entry)) 0 (dartLines (now (input .entry)) (layout .darts)) (now (out .exit)) r ⌝ }
+    ensures { λ r. ⌜ r ≤ 23 * layout .darts ⌝ }
+    ensures { λ r. ⌜ now (table .exit) ≡ tableAfter (now (input .entry)) (layout .darts) ⌝ }
+{
+    let darts = layout.darts;
+    let mut from = Cursor {
+        at: 6 + layout.map + layout.scheme,
+    };
+    let mut at = 0;
+    let mut k = 0;
+    while k < darts {
+        let dart = from.two(input);
+        let answer = edit(input, layout, n, slots, table, store, dart.value);
+        at = dart_line(out, at, dart.value, answer);
+        from = dart.next;
+        k += 1;
+    }
+    at
+}
+
+// How many slots have the state s.
+fn tally(slots: usize, table: &[u32], s: u32) -> u32
+    requires { ⌜ Sized slots (now table) ⌝ }
+    ensures { λ r. ⌜ r ≡ count slots (λ x. eqb (view slots (now (table .entry)) .state x) s) ⌝ }
+{
+    let mut found = 0;
+    let mut x = 0;
+    while x < slots {
+        if state(slots, table, x) == s {
+            found += 1;
+        }
+        x += 1;
+    }
+    found
+}
+
+// The session on an input whose map has at least three bytes, with an empty table and store for its slots.
+pub fn session(
+    input: &[u8],
+    layout: Layout,
+    slots: u32,
+    table: &mut [u32],
+    store: &mut [u32],
+    out: &mut [u8],
+) -> usize
+    requires { ⌜ Laid (now input) layout ⌝ }
+    requires { ⌜ (3 ≤ layout .map) × (slots ≡ mapSlots (now input)) × (slots ≤ 1024) ⌝ }
+    requires { ⌜ (now table ≡ replicate (6 * slots) 0) × (now store ≡ replicate (16 * slots) 0) ⌝ }
+    requires { ⌜ longest ≤ length (now out) ⌝ }
+    ensures { λ r. ⌜ Wrote (now (input .entry)) (now (out .entry)) r (now (out .exit)) ⌝ }
+{
+    let n = wide(input[2]);
+    let answer = load(input, layout, n, slots, table);
+    let k = number(answer);
+    if k != 0 {
+        return refused_line(out, 0, k);
+    }
+    let at = edits(input, layout, n, slots, table, store, out);
+    let size = slots as usize;
+    let live = tally(size, table, 1);
+    let unused = tally(size, table, 0);
+    last_line(out, at, live, unused)
+}
