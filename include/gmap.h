@@ -37,7 +37,7 @@ enum {
     GMAP_STORE = 16,         /* words of a working store for each slot */
     GMAP_MAX_SCHEME = 537,   /* bytes of the longest scheme in the form */
     GMAP_MAX_FILE = 14345,   /* bytes of the longest map file */
-    GMAP_STACK = 4096        /* bytes of stack that a call needs at most */
+    GMAP_STACK = 8192        /* bytes of stack that a call needs at most */
 };
 
 /* The words of a slot's record. A state is 1 (live) or 0 (unused); the other
