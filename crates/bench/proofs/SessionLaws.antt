@@ -22,7 +22,7 @@ use Rattle.model.specs.declared.Answer.{Answer}
 use Rattle.model.proofs.AnswerLaws.{answers-same}
 use Rattle.file.specs.Places.{Put}
 use Rattle.file.proofs.PlaceLaws.{put-then}
-use Rattle.kernel.specs.Promises.{MapEdited}
+use Rattle.kernel.specs.Promises.{MapEdited, FileRead}
 use Rattle.bench.specs.Input.{countAt, Laid}
 use Rattle.bench.specs.Session.{Asked, Stands, dartLines}
 use Rattle.bench.specs.declared.framing.Layout.{Layout}
@@ -84,9 +84,9 @@ module _ (b : List ℕ) (n N : ℕ) (asked : Asked b n N) where
       ap₂ (λ (x y : List ℕ). f n N x y) e p ∙ ap₂ (λ (i j : ℕ). f i j (replicate (6 * j) 0) (mapBytes b)) (asked .dimension) (asked .slots)
 
   pub read-map : (t part : List ℕ) (r : Answer) (t′ : List ℕ) → t ≡ replicate (6 * N) 0 → part ≡ mapBytes b
-      → (r ≡ readAnswer n N t part) × (t′ ≡ readTable n N t part) → (r ≡ mapAnswer b) × (t′ ≡ tableAfter b 0)
+      → FileRead n N t part r t′ → (r ≡ mapAnswer b) × (t′ ≡ tableAfter b 0)
   unfolding mapAnswer tableAfter
-  read-map t part r t′ e p x = (x .0 ∙ read-moved readAnswer t part e p, x .1 ∙ read-moved readTable t part e p)
+  read-map t part r t′ e p x = (answers-same (x .answer) ∙ read-moved readAnswer t part e p, x .table ∙ read-moved readTable t part e p)
 
 -- ---- an edit
 

@@ -10,6 +10,9 @@ use native.Mathlib.Omega.{arith}
 use lib.ListN.{length, drop, replicate}
 use lib.Dec.{ltb}
 use borrow.Author.Tests.{lt-ltb, le-ltb}
+use Rattle.model.proofs.AnswerLaws.{answers-of}
+use Rattle.model.specs.declared.Answer.{Answer}
+use Rattle.kernel.specs.Promises.{FileRead, FileWritten}
 use Rattle.base.specs.Below.{count}
 use Rattle.base.specs.First.{when, there, _orElse_}
 use Rattle.base.proofs.TestLaws.{true-or-false}
@@ -139,3 +142,11 @@ module _ (n N : ℕ) (t out : List ℕ) where
     where
       few : sizesOk n N t ≡ true → length (file n (view N t)) < 9223372036854775808
       few s = rw (← write-size s _ refl) (omega (arith, write-few s (count N (live (view N t))) refl))
+
+-- ---- the promises
+
+pub read-kept : {n N : ℕ} {t b : List ℕ} {r : Answer} {t′ : List ℕ} → (r ≡ readAnswer n N t b) × (t′ ≡ readTable n N t b) → FileRead n N t b r t′
+read-kept p = record { answer = answers-of (p .0); table = p .1 }
+
+pub write-kept : {n N : ℕ} {t out : List ℕ} {r : Answer} {out′ : List ℕ} → (r ≡ writeAnswer n N t out) × (out′ ≡ writeOut n N t out) → FileWritten n N t out r out′
+write-kept p = record { answer = answers-of (p .0); output = p .1 }

@@ -2,6 +2,7 @@
 -- Assumes nothing.
 use mathlib.Core.Path.{ap, sym, subst, _∙_}
 use borrow.Author.Needs.{needs}
+use Rattle.model.proofs.AnswerLaws.{answers-same}
 use Rattle.kernel.specs.Word.{packed, Small}
 use Rattle.kernel.proofs.FileCallLaws.{read-small}
 use Rattle.kernel.proofs.gmap_read.Statement.{statement}
@@ -11,13 +12,13 @@ read-requires : tie.Need-read-requires
 read-requires c κs = search needs
 
 pack-requires : tie.Need-pack-requires
-pack-requires c κs = subst Small (sym (c .before .before .read .ensures .0)) (read-small _ _ _ _)
+pack-requires c κs = subst Small (sym (answers-same (c .before .before .read .ensures .answer))) (read-small _ _ _ _)
 
 same-length : tie.Need-same-length
 same-length c = search needs
 
 returns : tie.Need-returns
-returns c = let r = c .before .before .before .read .ensures in (c .pack .ensures ∙ ap packed (r .0), r .1)
+returns c = let r = c .before .before .before .read .ensures in record { word = c .pack .ensures ∙ ap packed (answers-same (r .answer)); table = r .table }
 
 pub gmap-read-spec : {M : Type 1} → statement M
 gmap-read-spec = tie.close (tie.spec read-requires pack-requires same-length returns)

@@ -9,7 +9,7 @@ use Rattle.model.specs.File.{fileForm}
 use Rattle.model.specs.Calls.{sizesOk}
 use Rattle.table.proofs.SurveyLaws.{survey-live, survey-broken}
 use Rattle.kernel.proofs.CallLaws.{sizes-read}
-use Rattle.kernel.proofs.FileCallLaws.{read-0, read-1, read-7, read-11, filled-sizes}
+use Rattle.kernel.proofs.FileCallLaws.{read-kept, read-0, read-1, read-7, read-11, filled-sizes}
 use Rattle.kernel.proofs.read.Statement.{statement}
 use Rattle.kernel.proofs.read.Tie as tie
 
@@ -26,7 +26,7 @@ same-length : tie.Need-same-length
 same-length c = search needs
 
 returns : tie.Need-returns
-returns c = read-1 _ _ _ _ (sym (c .before .sizes .ensures) ∙ not-true _ (c .if1 .taken))
+returns c = read-kept (read-1 _ _ _ _ (sym (c .before .sizes .ensures) ∙ not-true _ (c .if1 .taken)))
 
 load-requires : tie.Need-load-requires
 load-requires c κs = let a = c .before .before .before .before .before .before .args in sizes-read (a .n) (a .slots) (now (a .table)) (sized (c .before))
@@ -37,7 +37,7 @@ same-length-2 c = search needs
 returns-2 : tie.Need-returns-2
 returns-2 c =
     let l = c .before .before .before in
-    read-11 _ _ _ _ (sized (l .before .before)) _ (sym (l .load .ensures .0) ∙ not-true _ (c .if2 .taken)) (l .load .ensures .1)
+    read-kept (read-11 _ _ _ _ (sized (l .before .before)) _ (sym (l .load .ensures .0) ∙ not-true _ (c .if2 .taken)) (l .load .ensures .1))
 
 survey-requires : tie.Need-survey-requires
 survey-requires c κs =
@@ -60,7 +60,7 @@ returns-3 : tie.Need-returns-3
 returns-3 c =
     let s = c .before .before in
     let l = s .before .before .before .before .before in
-    read-0 _ _ _ _ (sized (l .before .before)) _ (formed (s .before .before)) (l .load .ensures .1) (survey-live _ _ _ (s .survey .ensures) (c .enum-told .given .0 .0) (c .enum-told .given .1) .0)
+    read-kept (read-0 _ _ _ _ (sized (l .before .before)) _ (formed (s .before .before)) (l .load .ensures .1) (survey-live _ _ _ (s .survey .ensures) (c .enum-told .given .0 .0) (c .enum-told .given .1) .0))
 
 same-length-4 : tie.Need-same-length-4
 same-length-4 c = search needs
@@ -69,7 +69,7 @@ returns-4 : tie.Need-returns-4
 returns-4 c =
     let s = c .before .before .before .before .before .before in
     let l = s .before .before .before .before .before in
-    read-7 _ _ _ _ (sized (l .before .before)) _ (formed (s .before .before)) (l .load .ensures .1) _ (survey-broken _ _ _ (s .survey .ensures) (c .before .before .before .before .enum-told2 .given .1)) (c .before .before .clear .ensures)
+    read-kept (read-7 _ _ _ _ (sized (l .before .before)) _ (formed (s .before .before)) (l .load .ensures .1) _ (survey-broken _ _ _ (s .survey .ensures) (c .before .before .before .before .enum-told2 .given .1)) (c .before .before .clear .ensures))
 
 pub read-spec : {M : Type 1} → statement M
 read-spec =

@@ -13,7 +13,7 @@ use Rattle.model.specs.WellFormed.{wellFormed}
 use Rattle.model.specs.Calls.{sizesOk}
 use Rattle.table.proofs.SurveyLaws.{survey-live, survey-broken}
 use Rattle.kernel.proofs.CallLaws.{sizes-read}
-use Rattle.kernel.proofs.FileCallLaws.{write-0, write-1, write-7, write-12, write-few, write-fits, write-live}
+use Rattle.kernel.proofs.FileCallLaws.{write-kept, write-0, write-1, write-7, write-12, write-few, write-fits, write-live}
 use Rattle.kernel.proofs.write.Statement.{statement}
 use Rattle.kernel.proofs.write.Tie as tie
 
@@ -31,7 +31,7 @@ sizes-requires : tie.Need-sizes-requires
 sizes-requires c κs = search needs
 
 returns : tie.Need-returns
-returns c = write-1 _ _ _ _ (sym (c .before .sizes .ensures) ∙ not-true _ (c .if1 .taken))
+returns c = write-kept (write-1 _ _ _ _ (sym (c .before .sizes .ensures) ∙ not-true _ (c .if1 .taken)))
 
 survey-requires : tie.Need-survey-requires
 survey-requires c κs = let a = c .before .before .before .before .args in sizes-read (a .n) (a .slots) (now (a .table)) (sized c)
@@ -57,7 +57,7 @@ add-size-3 c = omega (arith, few (c .before))
 returns-2 : tie.Need-returns-2
 returns-2 c =
     let f = surveyed (c .before .before) in
-    write-12 _ _ _ _ (sized (c .before .before .before .before .before)) _ (f .1) (f .0) (c .if2 .taken)
+    write-kept (write-12 _ _ _ _ (sized (c .before .before .before .before .before)) _ (f .1) (f .0) (c .if2 .taken))
 
 write-requires : tie.Need-write-requires
 write-requires c κs =
@@ -79,10 +79,10 @@ same-length c = search needs
 returns-3 : tie.Need-returns-3
 returns-3 c =
     let f = surveyed (c .before .before .before .before .before .before) in
-    write-0 _ _ _ _ (sized (c .before .before .before .before .before .before .before .before .before)) _ (f .1) (f .0) _ (c .before .before .before .before .if2 .left) (c .before .before .write .ensures)
+    write-kept (write-0 _ _ _ _ (sized (c .before .before .before .before .before .before .before .before .before)) _ (f .1) (f .0) _ (c .before .before .before .before .if2 .left) (c .before .before .write .ensures))
 
 returns-4 : tie.Need-returns-4
-returns-4 c = write-7 _ _ _ _ (sized (c .before .before .before)) (survey-broken _ _ _ (c .before .before .survey .ensures) (c .enum-told .given .1))
+returns-4 c = write-kept (write-7 _ _ _ _ (sized (c .before .before .before)) (survey-broken _ _ _ (c .before .before .survey .ensures) (c .enum-told .given .1)))
 
 pub write-spec : {M : Type 1} → statement M
 write-spec =
