@@ -177,10 +177,10 @@ unfolding firstRefusal
 not-first true l h = refl
 not-first false l h = absurd (h refl)
 
-cond-false : {A : Type 0} (s : Bool) (a b : A) → s ≡ false → cond s a b ≡ b
+pub cond-false : {A : Type 0} (s : Bool) (a b : A) → s ≡ false → cond s a b ≡ b
 cond-false s a b e = rw e
 
-cond-true : {A : Type 0} (s : Bool) (a b : A) → s ≡ true → cond s a b ≡ a
+pub cond-true : {A : Type 0} (s : Bool) (a b : A) → s ≡ true → cond s a b ≡ a
 cond-true s a b e = rw e
 
 module _ (n N : ℕ) (t store b : List ℕ) (d : ℕ) where

@@ -1,0 +1,332 @@
+-- The customer's three demands hold of the five calls.
+-- Assumes nothing.
+use Prim.Native.Nat.{ℕ, zero, suc, _≤_, _<_}
+use mathlib.Core.Path.{_≡_, refl, sym, ap, _∙_, subst}
+use mathlib.Core.Logic.{_↔_, _⊎_, ⊎-elim, inl, inr}
+use mathlib.Core.Bool.{Bool, true, false, not, cond}
+use mathlib.Core.Option.{Option, none, some, Option·getD}
+use mathlib.Core.List.{List, [], _∷_}
+use native.Mathlib.Omega.{arith}
+use lib.ListN.{length, getD, take, replicate}
+use lib.Dec.{ltb}
+use borrow.Author.Tests.{eqb-true, eqb-false, eq-eqb, ne-eqb, ltb-false, le-ltb, leb-true}
+use Rattle.base.specs.First.{when, there, _orElse_}
+use Rattle.base.proofs.TestLaws.{true-or-false, and-left, and-right, or-cases}
+use Rattle.base.proofs.FirstLaws.{or-else-none, when-none, when-at, some-not-none}
+use Rattle.model.specs.Map.{Map, view, words, live, recordOf}
+use Rattle.model.specs.Alike.{Alike}
+use Rattle.model.specs.File.{file, fileForm, fileMap}
+use Rattle.model.specs.WellFormed.{WellFormed, wellFormed}
+use Rattle.model.specs.Scheme.{inForm, schemeOf}
+use Rattle.model.specs.Conditions.{hookFault, incidenceFault, cycleFault, schemeFault, noted}
+use Rattle.model.specs.Accepted.{Accepted}
+use Rattle.model.specs.Edit.{orbitSize, addedDarts, deletedDarts, dartOf, edited}
+use Rattle.model.specs.Answer.{number, values}
+use Rattle.model.specs.Rewriting.{Rewriting}
+use Rattle.model.specs.Calls.{sizesOk, orbitOf, tableFault, checkTable, bytesFault, checkScheme, roomFault, editFault, editAnswer, readFault, readAnswer, readTable, writeFault, writeAnswer, writeOut}
+use Rattle.model.specs.Sequence.{Holds, AlikeTables, outcomeOf, writtenFile}
+use Rattle.model.specs.declared.Scheme.{Scheme}
+use Rattle.model.specs.declared.Answer.{Answer}
+use Rattle.model.specs.declared.Answer.the-variants.{Done, Edited, Written, BadHook, BadIncidence}
+use Rattle.model.proofs.AnswerLaws.{answers-same}
+use Rattle.model.proofs.SchemeLaws.{formed}
+use Rattle.model.proofs.AcceptedLaws.{accepted-iff}
+use Rattle.model.proofs.WellFormedLaws.{wellFormed-iff}
+use Rattle.model.proofs.MatchLaws.{match-assigns}
+use Rattle.model.proofs.MatchIff.{good-orbit}
+use Rattle.model.proofs.RewritingLaws.{rewriting}
+use Rattle.model.proofs.CallLaws.{passed, granted, edit-table}
+use Rattle.model.proofs.HoldsLaws.{holds-free, holds-iff, sizes-too, edit-holds, read-holds, written-file, dimension-small}
+use Rattle.model.proofs.FileLaws.{same-file}
+use Rattle.model.proofs.AlikeLaws.{alike-sym, alike-trans, words-alike, well-alike}
+use Rattle.file.proofs.RoundTrip.{written-form, read-back, written-back}
+use Rattle.model.proofs.SequenceLaws.{alike-throughout}
+use Rattle.kernel.specs.Promises.{TableChecked, SchemeChecked, MapEdited, FileRead, FileWritten}
+use Rattle.kernel.specs.Demands.{Demand1, EditDone, Demand2, Demand3}
+use Rattle.kernel.proofs.RefusalLaws.{table-order, scheme-order, edit-order, read-order, write-order, refused-keeps, after-one, after-others, cycle-number, cond-true, cond-false}
+
+-- ---- demand 1
+
+pub demand1 : Demand1
+demand1 = record {
+  tableOrder = λ n N t r p. p .answer .sameNumber ∙ table-order n N t;
+  schemeOrder = λ b r p. p .answer .sameNumber ∙ scheme-order b;
+  editOrder = λ n N t store b d r t′ store′ p. p .answer .sameNumber ∙ edit-order n N t store b d;
+  readOrder = λ n N t b r t′ p. p .answer .sameNumber ∙ read-order n N t b;
+  writeOrder = λ n N t out r out′ p. p .answer .sameNumber ∙ write-order n N t out;
+  refusedEdit = λ n N t store b d r t′ store′ p h. p .table ∙ refused-keeps n N t store b d (λ e. h (p .answer .sameNumber ∙ e));
+  afterOne = λ n N t store b d r t′ store′ p e.
+      let kept = after-one n N t store b d (sym (p .answer .sameNumber) ∙ e) in (p .table ∙ kept .0, p .cleared ∙ kept .1);
+  afterOthers = λ n N t store b d r t′ store′ p h. p .cleared ∙ after-others n N t store b d (λ e. h (p .answer .sameNumber ∙ e));
+}
+
+-- ---- demand 2
+
+-- whatever a chain of refusals gives is a refusal
+abbrev Refuses : Option Answer → Type 0
+Refuses o = (a : Answer) → o ≡ some a → number a ≡ 0 → ⊥
+
+refuses-when : (t : Bool) (a : Answer) → (number a ≡ 0 → ⊥) → Refuses (when t a)
+refuses-when t a h b e z = h (ap number (when-at _ e .1) ∙ z)
+
+refuses-or : (o p : Option Answer) → Refuses o → Refuses p → Refuses (o orElse p)
+unfolding _orElse_
+refuses-or none p f g = g
+refuses-or (some x) p f g = f
+
+refuses-noted : (f : ℕ → Answer) (s : Option ℕ) → ((k : ℕ) → number (f k) ≡ 0 → ⊥) → Refuses (noted f s)
+refuses-noted f none h a e z = absurd (some-not-none e refl)
+refuses-noted f (some k) h a e z = let same : f k ≡ a = cc in h k (ap number same ∙ z)
+
+-- an answer 0 comes of no refusal
+done-none : (o : Option Answer) (done : Answer) → Refuses o → number (Option·getD o done) ≡ 0 → o ≡ none
+done-none none done f e = refl
+done-none (some a) done f e = absurd (f a refl e)
+
+refuses-bytes : (b : List ℕ) → Refuses (bytesFault b)
+unfolding bytesFault schemeFault
+refuses-bytes b = refuses-or _ _ (refuses-when _ _ (λ e. omega arith)) (refuses-or _ _
+    (refuses-noted BadHook (hookFault (schemeOf b)) (λ k e. omega arith)) (refuses-or _ _
+    (refuses-noted BadIncidence (incidenceFault (schemeOf b)) (λ k e. omega arith))
+    (λ a e z. let five = cycle-number (schemeOf b) a e in omega arith)))
+
+refuses-edit : (n N : ℕ) (t store b : List ℕ) (d : ℕ) → Refuses (editFault n N t store b d)
+unfolding editFault roomFault
+refuses-edit n N t store b d = refuses-or _ _ (refuses-when _ _ (λ e. omega arith)) (refuses-or _ _ (refuses-bytes b) (refuses-or _ _
+    (refuses-when _ _ (λ e. omega arith)) (refuses-or _ _ (refuses-when _ _ (λ e. omega arith)) (refuses-or _ _
+    (refuses-when _ _ (λ e. omega arith)) (refuses-or _ _ (refuses-when _ _ (λ e. omega arith)) (refuses-when _ _ (λ e. omega arith)))))))
+
+refuses-read : (n N : ℕ) (t b : List ℕ) → Refuses (readFault n N t b)
+unfolding readFault
+refuses-read n N t b = refuses-or _ _ (refuses-when _ _ (λ e. omega arith)) (refuses-or _ _
+    (refuses-when _ _ (λ e. omega arith)) (refuses-when _ _ (λ e. omega arith)))
+
+refuses-write : (n N : ℕ) (t out : List ℕ) → Refuses (writeFault n N t out)
+unfolding writeFault tableFault
+refuses-write n N t out = refuses-or _ _ (refuses-or _ _ (refuses-when _ _ (λ e. omega arith)) (refuses-when _ _ (λ e. omega arith)))
+    (refuses-when _ _ (λ e. omega arith))
+
+-- ---- a scheme
+
+module _ (b : List ℕ) where
+  bytes-free : inForm b ≡ true → schemeFault (schemeOf b) ≡ none → bytesFault b ≡ none
+  unfolding bytesFault when _orElse_
+  bytes-free f q = rw (f, q) refl
+
+  scheme-accepted : number (checkScheme b) ≡ 0 → (inForm b ≡ true) × Accepted (schemeOf b)
+  unfolding checkScheme bytesFault
+  scheme-accepted e =
+      let parts = or-else-none _ _ (done-none (bytesFault b) Done (refuses-bytes b) e) in
+      let form = passed _ _ (parts .0) in
+      (form, accepted-iff (schemeOf b) (formed b form) .0 (parts .1))
+
+  accepted-scheme : (inForm b ≡ true) × Accepted (schemeOf b) → number (checkScheme b) ≡ 0
+  unfolding checkScheme
+  accepted-scheme p = ap (λ (o : Option Answer). number (Option·getD o Done))
+      (bytes-free (p .0) (accepted-iff (schemeOf b) (p .1 .formed) .1 (p .1)))
+
+-- ---- an edit that is done
+
+module _ (n N : ℕ) (t store b : List ℕ) (d : ℕ) (e : number (editAnswer n N t store b d) ≡ 0) where
+  unrefused : editFault n N t store b d ≡ none
+  unfolding editAnswer
+  unrefused = done-none _ _ (refuses-edit n N t store b d) e
+
+  abbrev O : ℕ → Bool
+  O = orbitOf n N t store b d
+
+  published : Rewriting (view N t) (edited (view N t) (schemeOf b) O) (schemeOf b) O (dartOf (view N t) (schemeOf b) O)
+  unfolding orbitOf
+  published =
+      let g = granted n N t store b d unrefused in
+      let m = view N t in
+      let good = accepted-iff (schemeOf b) (formed b (g .form)) .0 (g .accepted) in
+      let rules = wellFormed-iff (schemeOf b .n) m .0 (ap (λ (k : ℕ). wellFormed k m) (g .dimension) ∙ g .well) in
+      let orb = good-orbit m (schemeOf b) d good rules (g .slot) (g .alive) in
+      rewriting m (schemeOf b) _ good orb (match-assigns m (schemeOf b) good _ orb rules (g .match)) (g .room)
+
+  counted : values (editAnswer n N t store b d) ≡ orbitSize (view N t) (schemeOf b) O ∷ addedDarts (view N t) (schemeOf b) O
+      ∷ deletedDarts (view N t) (schemeOf b) O ∷ []
+  unfolding editAnswer
+  counted = ap (λ (o : Option Answer). values (Option·getD o (Edited (orbitSize (view N t) (schemeOf b) O)
+      (addedDarts (view N t) (schemeOf b) O) (deletedDarts (view N t) (schemeOf b) O)))) unrefused
+
+  edit-done : (r : Answer) (t′ store′ : List ℕ) → MapEdited n N t store b d r t′ store′ → EditDone n N t store b d r t′
+  edit-done r t′ store′ p = record {
+    new = edited (view N t) (schemeOf b) O;
+    dart = dartOf (view N t) (schemeOf b) O;
+    table = p .table ∙ edit-table n N t store b d unrefused;
+    rewriting = published;
+    counts = p .answer .sameValues ∙ counted;
+    well = subst (Holds n N) (sym (p .table)) (edit-holds n N t store b d unrefused);
+  }
+
+-- ---- files
+
+-- what a record of a map holds, word by word
+same-record : (m k : Map) (x : ℕ) → recordOf m x ≡ recordOf k x
+    → (m .state x ≡ k .state x) × ((i : ℕ) → i ≤ 3 → m .link i x ≡ k .link i x) × (m .tag x ≡ k .tag x)
+same-record m k x e = (
+  ap (λ (l : List ℕ). getD l 0 0) e,
+  λ i h. upTo3 (λ i. m .link i x ≡ k .link i x) (ap (λ (l : List ℕ). getD l 1 0) e) (ap (λ (l : List ℕ). getD l 2 0) e)
+      (ap (λ (l : List ℕ). getD l 3 0) e) (ap (λ (l : List ℕ). getD l 4 0) e) i h,
+  ap (λ (l : List ℕ). getD l 5 0) e,
+)
+  where
+    upTo3 : (P : ℕ → Type 0) → P 0 → P 1 → P 2 → P 3 → (i : ℕ) → i ≤ 3 → P i
+    upTo3 P a b c d zero h = a
+    upTo3 P a b c d (suc zero) h = b
+    upTo3 P a b c d (suc (suc zero)) h = c
+    upTo3 P a b c d (suc (suc (suc zero))) h = d
+    upTo3 P a b c d (suc (suc (suc (suc i)))) h = absurd (omega arith)
+
+dimension-of : (n N : ℕ) (t : List ℕ) → sizesOk n N t ≡ true → (n ≡ 2) ⊎ (n ≡ 3)
+dimension-of n N t s = ⊎-elim (λ e. inl (eqb-true n 2 e)) (λ e. inr (eqb-true n 3 e)) (or-cases _ _ (and-left _ _ (and-left _ _ (and-left _ _ s))))
+
+few-slots : (n N : ℕ) (t : List ℕ) → sizesOk n N t ≡ true → N ≤ 1024
+few-slots n N t s = leb-true _ _ (and-right _ _ (and-left _ _ s))
+
+-- the map in the file of a well-formed map is like it
+module _ (n N : ℕ) (t : List ℕ) (h : Holds n N t) (small : (i : ℕ) → getD t i 0 < 4294967296) where
+  abbrev m : Map
+  m = view N t
+
+  abbrev k : Map
+  k = fileMap n N (file n m)
+
+  back : (x : ℕ) → x < N → recordOf k x ≡ cond (live m x) (recordOf m x) (replicate 6 0)
+  back = read-back n m (omega (arith, dimension-small n N t (h .sizes))) (few-slots n N t (h .sizes)) (dimension-of n N t (h .sizes)) (h .well)
+      (λ x g l. small _)
+
+  back-live : (x : ℕ) → x < N → m .state x ≡ 1 → recordOf m x ≡ recordOf k x
+  back-live x g l = sym (back x g ∙ cond-true (live m x) _ _ (eq-eqb _ _ l))
+
+  back-unused : (x : ℕ) → x < N → (m .state x ≡ 1 → ⊥) → k .state x ≡ 0
+  back-unused x g l = ap (λ (w : List ℕ). getD w 0 0) (back x g ∙ cond-false (live m x) _ _ (ne-eqb _ _ l))
+
+  file-alike : Alike m k
+  unfolding fileMap
+  file-alike = record {
+    slots = refl;
+    live = λ x g. (
+      λ l. sym (same-record m k x (back-live x g l) .0) ∙ l,
+      λ l. ⊎-elim (λ e. eqb-true _ _ e) (λ e. let z = back-unused x g (eqb-false _ _ e) in absurd (omega arith)) (true-or-false (live m x)),
+    );
+    link = λ x g l. same-record m k x (back-live x g l) .1;
+    tag = λ x g l. same-record m k x (back-live x g l) .2;
+  }
+
+  file-well : WellFormed n k
+  unfolding fileMap
+  file-well = well-alike n (dimension-small n N t (h .sizes)) m k file-alike (h .well)
+      (λ x g. ⊎-elim (λ e. inr (sym (same-record m k x (back-live x g (eqb-true _ _ e)) .0) ∙ eqb-true _ _ e))
+      (λ e. inl (back-unused x g (eqb-false _ _ e))) (true-or-false (live m x)))
+
+  table-alike : Alike m (view N (words k))
+  unfolding fileMap
+  table-alike = alike-trans file-alike (alike-sym (words-alike k))
+
+  -- reading the file is not refused
+  read-free : (u : List ℕ) → sizesOk n N u ≡ true → readFault n N u (file n m) ≡ none
+  unfolding readFault _orElse_ when
+  read-free u s =
+      let form = written-form n m (omega (arith, dimension-small n N t (h .sizes))) (few-slots n N t (h .sizes)) in
+      let well = wellFormed-iff n k .1 file-well in
+      rw (s, form, well) refl
+
+-- the file of the table that a read leaves is the file of the map that was read
+one-file : (n N : ℕ) (b : List ℕ) → n ≤ 3 → file n (view N (words (fileMap n N b))) ≡ file n (fileMap n N b)
+unfolding fileMap
+one-file n N b small = same-file n small (view N (words (fileMap n N b))) (fileMap n N b) (words-alike (fileMap n N b))
+
+-- a read that is not refused leaves the map of the file
+read-table : (n N : ℕ) (t b : List ℕ) → sizesOk n N t ≡ true → readFault n N t b ≡ none → readTable n N t b ≡ words (fileMap n N b)
+unfolding readTable there
+read-table n N t b s q = rw (s, q) refl
+
+-- a write that is not refused has room for the file of a well-formed map, and leaves it
+module _ (n N : ℕ) (t out : List ℕ) where
+  write-holds : writeFault n N t out ≡ none → Holds n N t
+  unfolding writeFault checkTable
+  write-holds q = holds-iff n N t .1 (ap (λ (o : Option Answer). Option·getD o Done) (or-else-none _ _ q .0))
+
+  write-room : writeFault n N t out ≡ none → ltb (length out) (length (file n (view N t))) ≡ false
+  unfolding writeFault
+  write-room q = when-none _ _ (or-else-none _ _ q .1)
+
+  write-free : Holds n N t → ltb (length out) (length (file n (view N t))) ≡ false → writeFault n N t out ≡ none
+  unfolding writeFault _orElse_ when
+  write-free h room = rw (holds-free n N t h, room) refl
+
+  write-leaves : Holds n N t → ltb (length out) (length (file n (view N t))) ≡ false → writtenFile n N t out ≡ file n (view N t)
+  write-leaves h room = written-file n N t out h ∙ cond-false _ _ _ room
+
+-- what a promised write leaves in the output, by the count that it answers
+promised-file : (n N : ℕ) (t out : List ℕ) (r : Answer) (out′ : List ℕ) → FileWritten n N t out r out′
+    → take (getD (values r) 0 0) out′ ≡ writtenFile n N t out
+unfolding writtenFile
+promised-file n N t out r out′ p i = take (getD (p .answer .sameValues i) 0 0) (p .output i)
+
+written-read : (n N : ℕ) (t out : List ℕ) (r : Answer) (out′ : List ℕ) → FileWritten n N t out r out′ → number r ≡ 0
+    → ((i : ℕ) → getD t i 0 < 4294967296)
+    → (u : List ℕ) (r₂ : Answer) (u′ : List ℕ) → length u ≡ length t → FileRead n N u (take (getD (values r) 0 0) out′) r₂ u′
+    → (number r₂ ≡ 0) × AlikeTables n N t u′
+unfolding writeAnswer readAnswer
+written-read n N t out r out′ p e small u r₂ u′ len q =
+    let free : writeFault n N t out ≡ none = done-none _ _ (refuses-write n N t out) (sym (p .answer .sameNumber) ∙ e) in
+    let h = write-holds n N t out free in
+    let b : List ℕ = file n (view N t) in
+    let taken : take (getD (values r) 0 0) out′ ≡ b = promised-file n N t out r out′ p ∙ write-leaves n N t out h (write-room n N t out free) in
+    let p₂ : FileRead n N u b r₂ u′ = subst (λ (l : List ℕ). FileRead n N u l r₂ u′) taken q in
+    let sized = sizes-too n N t (h .sizes) u len in
+    let free₂ = read-free n N t h small u sized in
+    let table : u′ ≡ words (fileMap n N b) = p₂ .table ∙ read-table n N u b sized free₂ in (
+      p₂ .answer .sameNumber ∙ ap (λ (o : Option Answer). number (Option·getD o Done)) free₂,
+      record {
+        one = h;
+        other = subst (Holds n N) (sym (p₂ .table)) (read-holds n N u b sized);
+        alike = subst (λ (l : List ℕ). Alike (view N t) (view N l)) (sym table) (table-alike n N t h small);
+      },
+    )
+
+read-written : (n N : ℕ) (t b : List ℕ) (r : Answer) (t′ : List ℕ) → FileRead n N t b r t′ → number r ≡ 0
+    → ((i : ℕ) → getD b i 0 < 256)
+    → (out : List ℕ) (r₂ : Answer) (out′ : List ℕ) → length b ≤ length out → FileWritten n N t′ out r₂ out′
+    → (number r₂ ≡ 0) × (take (getD (values r₂) 0 0) out′ ≡ b)
+unfolding readAnswer readFault writeAnswer
+read-written n N t b r t′ p e bytes out r₂ out′ len q =
+    let free : readFault n N t b ≡ none = done-none _ _ (refuses-read n N t b) (sym (p .answer .sameNumber) ∙ e) in
+    let parts = or-else-none _ _ free in
+    let sized : sizesOk n N t ≡ true = passed _ _ (parts .0) in
+    let form : fileForm n N b ≡ true = passed _ _ (or-else-none _ _ (parts .1) .0) in
+    let table : t′ ≡ words (fileMap n N b) = p .table ∙ read-table n N t b sized free in
+    let h : Holds n N t′ = subst (Holds n N) (sym (p .table)) (read-holds n N t b sized) in
+    let same : file n (view N t′) ≡ b = ap (λ (l : List ℕ). file n (view N l)) table ∙ one-file n N b (dimension-small n N t sized) ∙ written-back n N b form bytes in
+    let room : ltb (length out) (length (file n (view N t′))) ≡ false = ap (λ (l : List ℕ). ltb (length out) (length l)) same ∙ le-ltb _ _ len in (
+      q .answer .sameNumber ∙ ap (λ (o : Option Answer). number (Option·getD o (Written (length (file n (view N t′)))))) (write-free n N t′ out h room),
+      promised-file n N t′ out r₂ out′ q ∙ write-leaves n N t′ out h room ∙ same,
+    )
+
+pub demand2 : Demand2
+demand2 = record {
+  accepted = λ b r p. (
+    λ e. scheme-accepted b (sym (p .answer .sameNumber) ∙ e),
+    λ a. p .answer .sameNumber ∙ accepted-scheme b a,
+  );
+  edits = λ n N t store b d r t′ store′ p e. edit-done n N t store b d (sym (p .answer .sameNumber) ∙ e) r t′ store′ p;
+  writtenRead = written-read;
+  readWritten = read-written;
+}
+
+-- ---- demand 3
+
+pub demand3 : Demand3
+unfolding outcomeOf
+demand3 = record {
+  throughout = alike-throughout;
+  tableOutcome = λ n N t l r p. answers-same (p .answer);
+  schemeOutcome = λ n N t l b r p. answers-same (p .answer);
+  editOutcome = λ n N t store b d r t′ store′ p. (answers-same (p .answer), p .table);
+  readOutcome = λ n N t l b r t′ p. (answers-same (p .answer), p .table);
+  writeOutcome = λ n N t out r out′ p. (answers-same (p .answer), promised-file n N t out r out′ p);
+}
