@@ -1,12 +1,12 @@
--- The round trip: a map that is written and read again is the same, an accepted file is written back byte for byte, and maps
--- that agree in their live records have one file. The length of a file is `length-file` of proofs/SectionLaws.antt.
+-- The round trip: a map that is written and read again is the same, and an accepted file is written back byte for byte.
+-- The length of a file is `length-file` of proofs/SectionLaws.antt; that maps which are alike have one file is `same-file` of the model.
 -- Assumes nothing.
-use Prim.Native.Nat.{ℕ, suc, _+_, _*_, _≤_, _<_}
-use mathlib.Core.Path.{_≡_, refl, sym, ap, ap₂, _∙_}
+use Prim.Native.Nat.{ℕ, _+_, _*_, _≤_, _<_}
+use mathlib.Core.Path.{_≡_, refl, sym, ap, _∙_}
 use mathlib.Core.Logic.{_⊎_, ⊎-elim}
-use mathlib.Core.Bool.{Bool, true, false, cond, true≢false}
+use mathlib.Core.Bool.{true, false, cond, true≢false}
 use mathlib.Core.Option.{none, some}
-use mathlib.Core.List.{List, [], _∷_, _++_}
+use mathlib.Core.List.{List, [], _∷_}
 use native.Mathlib.Nat.{eq-or-lt-of-le}
 use native.Mathlib.Omega.{arith}
 use lib.ListN.{getD, replicate}
@@ -16,12 +16,12 @@ use Rattle.base.specs.Below.{count}
 use Rattle.base.specs.Lists.{joined}
 use Rattle.base.specs.Digits.{numberAt}
 use Rattle.base.proofs.TestLaws.{and-of, true-or-false}
-use Rattle.base.proofs.BelowLaws.{all-of, count-lt, count-same, count-reaches}
+use Rattle.base.proofs.BelowLaws.{all-of, count-lt, count-reaches}
 use Rattle.base.proofs.FirstLaws.{some-not-none, least-only, least-none-of}
 use Rattle.base.proofs.ListLaws.{joined-same}
 use Rattle.model.specs.Map.{Map, live, recordOf, words}
 use Rattle.model.specs.WellFormed.{WellFormed}
-use Rattle.model.specs.File.{twoBytes, fourBytes, liveDarts, section, file, placeOf, fileForm, fileMap}
+use Rattle.model.specs.File.{liveDarts, file, placeOf, fileForm, fileMap}
 use Rattle.table.proofs.SlotLaws.{two-le}
 use Rattle.file.specs.Form.{headOk, countsOk, frameOk, slotOf, slotsOk}
 use Rattle.file.specs.Records.{linkWord, linkPlace, tagPlace, rowOf}
@@ -133,34 +133,3 @@ module _ (n : ℕ) (m : Map) (h : n < 256) (few : m .slots ≤ 1024) where
 -- a file in the form, well-formed or not, is the file of the map that it holds
 pub written-back : (n N : ℕ) (b : List ℕ) → fileForm n N b ≡ true → ((i : ℕ) → getD b i 0 < 256) → file n (fileMap n N b) ≡ b
 written-back n N b t bytes = all-bytes n N b t bytes
-
--- ---- one file for a map
-
--- k has the slots, live slots and live records of m
-pub record Alike (n : ℕ) (m k : Map) : Type 0 where
-  pub slots : m .slots ≡ k .slots
-  pub alive : (x : ℕ) → x < m .slots → live m x ≡ live k x
-  pub links : (x : ℕ) → x < m .slots → live m x ≡ true → (i : ℕ) → i ≤ n → m .link i x ≡ k .link i x
-  pub tags : (x : ℕ) → x < m .slots → live m x ≡ true → m .tag x ≡ k .tag x
-
-module _ (n : ℕ) (m k : Map) (a : Alike n m k) where
-  section-same : (f g : ℕ → List ℕ) → ((x : ℕ) → x < m .slots → live m x ≡ true → f x ≡ g x) → section n m f ≡ section n k g
-  unfolding section liveDarts
-  section-same f g e = ap₂ (λ (c : ℕ) (l : List ℕ). twoBytes c ++ l)
-      (count-same (m .slots) _ _ (a .alive) ∙ ap (λ (z : ℕ). count z (live k)) (a .slots))
-      (joined-same (m .slots) _ _ (λ x l. each x l (live m x) refl)
-      ∙ ap (λ (z : ℕ). joined z (λ x. cond (live k x) (g x) [])) (a .slots))
-    where
-      each : (x : ℕ) → x < m .slots → (t : Bool) → live m x ≡ t → cond (live m x) (f x) [] ≡ cond (live k x) (g x) []
-      each x l true q = rw (← a .alive x l, q) (e x l q)
-      each x l false q = rw (← a .alive x l, q) refl
-
-  -- maps that agree in their live records have one file
-  pub file-same : file n m ≡ file n k
-  unfolding file
-  file-same =
-      let slots = section-same twoBytes twoBytes (λ x l e. refl) in
-      let tags = section-same (λ x. fourBytes (m .tag x)) (λ x. fourBytes (k .tag x)) (λ x l e. ap fourBytes (a .tags x l e)) in
-      let links = section-same (λ x. joined (suc n) (λ i. twoBytes (m .link i x))) (λ x. joined (suc n) (λ i. twoBytes (k .link i x)))
-      (λ x l e. joined-same (suc n) _ _ (λ i g. ap twoBytes (a .links x l e i (omega arith)))) in
-      λ i. n ∷ twoBytes (a .slots i) ++ slots i ++ tags i ++ links i

@@ -12,7 +12,7 @@ use lib.ListN.{length, drop, replicate}
 use lib.Dec.{eqb}
 use Rattle.base.specs.Test.{_and_}
 use Rattle.base.specs.First.{when, _orElse_, there}
-use Rattle.base.proofs.FirstLaws.{first-at, when-at}
+use Rattle.base.proofs.FirstLaws.{first-at, when-at, or-else-last}
 use Rattle.model.specs.Answer.{number}
 use Rattle.model.specs.Scheme.{inForm, schemeOf}
 use Rattle.model.specs.Map.{view}
@@ -63,11 +63,6 @@ unfolding _orElse_
 regroup none b c = refl
 regroup (some x) b c = refl
 
-or-none : (a : Option Answer) → a orElse none ≡ a
-unfolding _orElse_
-or-none none = refl
-or-none (some x) = refl
-
 pub cycle-number : (S : Scheme) (a : Answer) → cycleFault S ≡ some a → number a ≡ 5
 unfolding cycleFault
 cycle-number S a e =
@@ -115,7 +110,7 @@ none-chosen = refl
 module _ (b : List ℕ) where
   scheme-chain : chosen (bytesFault b) Done ≡ firstRefusal (schemeRefusals b)
   unfolding schemeRefusals
-  scheme-chain = ap (λ (x : Option Answer). chosen x Done) (sym (or-none (bytesFault b))) ∙ bytes-first b none Done [] none-chosen
+  scheme-chain = ap (λ (x : Option Answer). chosen x Done) (sym (or-else-last (bytesFault b))) ∙ bytes-first b none Done [] none-chosen
 
   pub scheme-order : number (checkScheme b) ≡ firstRefusal (schemeRefusals b)
   unfolding checkScheme chosen
