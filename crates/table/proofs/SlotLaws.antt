@@ -3,104 +3,103 @@
 use Prim.Native.Nat.{ℕ, suc, _+_, _*_, _≤_, _<_}
 use mathlib.Core.Path.{_≡_, refl, sym, ap, _∙_}
 use mathlib.Core.Logic.{_⊎_, inl, inr, ⊎-elim}
-use mathlib.Core.Bool.{Bool, true, false, not, true≢false}
+use mathlib.Core.Bool.{Bool, true, false, not, _&&_, true≢false}
 use native.Mathlib.Omega.{arith}
-use lib.Dec.{eqb, leb}
+use lib.Dec.{eqb, ltb, leb}
 use borrow.Author.Tests.{eqb-true, eqb-false, eq-eqb, ne-eqb, ltb-true, lt-ltb, le-ltb, leb-true, le-leb, not-true, not-false}
 use Rattle.base.specs.Test.{_and_, _or_, _⇒_}
 use Rattle.base.specs.Below.{all, count}
 use Rattle.model.specs.Map.{Map, live, unused}
 use Rattle.model.specs.WellFormed.{WellFormed, wellFormed, linkOk, allPairs}
-use Rattle.base.proofs.TestLaws.{and-left, and-right, and-of, or-cases, or-left, or-right, if-so, if-of, true-or-false}
+use Rattle.base.proofs.TestLaws.{and-left, and-right, and-of, and-assoc, and-no-left, and-no-right, or-cases, or-left, or-right, if-so, if-of, true-or-false, same-test, eqb-same, refuted, impossible}
 use Rattle.base.proofs.BelowLaws.{all-at, all-of, all-step, count-le, count-step}
 use Rattle.model.proofs.WellFormedLaws.{wellFormed-iff}
-use Rattle.table.specs.Slots.{cornerOk, frontOk, farOk, cornersOk, slotOk, surveyed}
+use Rattle.table.specs.Slots.{cornerOk, frontOk, insideOk, nearOk, farOk, cornersOk, slotOk, surveyed}
 use Rattle.table.specs.declared.Finding.the-variants.{Live, Broken}
 
--- ---- a link, test by test
+-- ---- tests taken together
 
-module _ (m : Map) (x i y : ℕ) (e : y ≡ m .link i x) where
-  pub link-out : m .slots ≤ y → false ≡ linkOk m x i
-  unfolding linkOk _and_
-  link-out h = rw (← e, le-ltb _ _ h)
+-- two tests joined by `&` are the tests that they stand for, joined
+pub both : {a b p q : Bool} → a ≡ p → b ≡ q → (a && b) ≡ (p and q)
+unfolding _and_
+both {a} {b} {p} {q} e f = rw (e, f) (joined p q)
+  where
+    joined : (s t : Bool) → (s && t) ≡ (s and t)
+    joined true t = refl
+    joined false t = refl
 
-  pub link-dead : (s : ℕ) → y < m .slots → s ≡ m .state y → (s ≡ 1 → ⊥) → false ≡ linkOk m x i
-  unfolding linkOk _and_
-  link-dead s h q d = rw (← e, ← q, lt-ltb _ _ h, ne-eqb s 1 d)
-
-  pub link-back : (s z : ℕ) → y < m .slots → s ≡ m .state y → s ≡ 1 → z ≡ m .link i y → eqb z x ≡ linkOk m x i
-  unfolding linkOk _and_
-  link-back s z h q l b = rw (← e, ← q, lt-ltb _ _ h, eq-eqb s 1 l, ← b)
+-- the last two of three tests may change places
+and-swap : (a b c : Bool) → (a and b and c) ≡ (a and c and b)
+unfolding _and_
+and-swap true true true = refl
+and-swap true true false = refl
+and-swap true false true = refl
+and-swap true false false = refl
+and-swap false b c = refl
 
 -- ---- two words in one comparison
-
-and-no-left : (a b : Bool) → a ≡ false → (a and b) ≡ false
-unfolding _and_
-and-no-left a b e = rw e
-
-and-no-right : (a b : Bool) → b ≡ false → (a and b) ≡ false
-unfolding _and_
-and-no-right true b e = e
-and-no-right false b e = refl
 
 pair-eq : (a b v : ℕ) → a < 4294967296 → eqb (a + b * 4294967296) (1 + v * 4294967296) ≡ (eqb a 1 and eqb b v)
 pair-eq a b v h = ⊎-elim
     (λ p. ⊎-elim
     (λ q. let e = eqb-true a 1 p in let f = eqb-true b v q in eq-eqb (a + b * 4294967296) (1 + v * 4294967296) (omega arith) ∙ sym (and-of p q))
-    (λ q. ne-eqb (a + b * 4294967296) (1 + v * 4294967296) (λ e. eqb-false b v q (omega arith)) ∙ sym (and-no-right (eqb a 1) (eqb b v) q))
+    (λ q. ne-eqb (a + b * 4294967296) (1 + v * 4294967296) (λ e. eqb-false b v q (omega arith)) ∙ sym (and-no-right (eqb a 1) q))
     (true-or-false (eqb b v)))
-    (λ p. ne-eqb (a + b * 4294967296) (1 + v * 4294967296) (λ e. eqb-false a 1 p (omega arith)) ∙ sym (and-no-left (eqb a 1) (eqb b v) p))
+    (λ p. ne-eqb (a + b * 4294967296) (1 + v * 4294967296) (λ e. eqb-false a 1 p (omega arith)) ∙ sym (and-no-left (eqb b v) p))
     (true-or-false (eqb a 1))
-
-eqb-swap : (a b : ℕ) → eqb a b ≡ eqb b a
-eqb-swap a b = ⊎-elim
-    (λ p. p ∙ sym (eq-eqb b a (sym (eqb-true a b p))))
-    (λ p. p ∙ sym (ne-eqb b a (λ e. eqb-false a b p (sym e))))
-    (true-or-false (eqb a b))
 
 pub front-is : (m : Map) (y v a b w : ℕ) → a < 4294967296 → a ≡ m .state y → b ≡ m .link 0 y → w ≡ v
     → eqb (a + b * 4294967296) (1 + w * 4294967296) ≡ frontOk m y v
 unfolding frontOk
 front-is m y v a b w h p q e = rw (← p, ← q, ← e) (pair-eq a b w h)
 
-and3-no : (l b c : Bool) → (l and c) ≡ false → false ≡ (l and b and c)
-unfolding _and_
-and3-no true true c e = sym e
-and3-no true false c e = refl
-and3-no false b c e = refl
+-- ---- where the links lead
 
-and3-last : (l b c : Bool) → (l and c) ≡ true → b ≡ (l and b and c)
-unfolding _and_
-and3-last true true c e = sym e
-and3-last true false c e = refl
-and3-last false b c e = absurd (true≢false (sym e))
+module _ (m : Map) (x : ℕ) where
+  -- a right link leads to a slot
+  link-below : (i : ℕ) → linkOk m x i ≡ true → m .link i x < m .slots
+  unfolding linkOk
+  link-below i e = ltb-true _ _ (and-left _ _ (and-left _ _ e))
 
-module _ (m : Map) (x i y : ℕ) (e : y ≡ m .link i x) where
-  pub far-out : m .slots ≤ y → false ≡ farOk m x i
-  unfolding farOk _and_
-  far-out h = rw (← link-out m x i y e h)
+  -- past the test, each of the links 0, 1 and 2 leads to a slot
+  pub inside-below : (r : Bool) → r ≡ insideOk m x → not r ≡ false → (i : ℕ) → i < 3 → m .link i x < m .slots
+  unfolding insideOk
+  inside-below r e h i l = ltb-true _ _ (all-at 3 (λ j. ltb (m .link j x) (m .slots)) (sym e ∙ not-false r h) i l)
 
-  module _ (z v : ℕ) (h : y < m .slots) (p : z ≡ m .link 0 x) (q : v ≡ m .link i z) where
-    -- what is left of `farOk` once y is below the slots
-    far-is : (live m y and eqb (m .link i y) x and eqb (m .link 0 y) v) ≡ farOk m x i
-    unfolding farOk linkOk cornerOk _and_
-    far-is = rw (← e, ← p, ← q, lt-ltb _ _ h, eqb-swap v (m .link 0 y))
+  -- one link that leads to no slot refutes the test
+  pub inside-out : (i y : ℕ) → i < 3 → y ≡ m .link i x → m .slots ≤ y → false ≡ insideOk m x
+  unfolding insideOk
+  inside-out i y l e h =
+      sym (refuted (λ w. all-at 3 (λ j. ltb (m .link j x) (m .slots)) w i l) (rw (← e) (le-ltb _ _ h)))
 
-    pub far-dead : (r : Bool) → r ≡ frontOk m y v → not r ≡ true → false ≡ farOk m x i
-    unfolding frontOk
-    far-dead r f n = and3-no _ _ _ (sym f ∙ not-true r n) ∙ far-is
+  -- where the links 0 and 1 lead to slots, the test is that of the 2-link
+  pub inside-last : (y z v : ℕ) → y ≡ m .link 0 x → z ≡ m .link 1 x → v ≡ m .link 2 x → y < m .slots → z < m .slots
+      → ltb v (m .slots) ≡ insideOk m x
+  unfolding insideOk all _and_
+  inside-last y z v e f g h k = rw (← e, ← f, ← g, lt-ltb _ _ h, lt-ltb _ _ k)
 
-    pub far-back : (r : Bool) (w : ℕ) → r ≡ frontOk m y v → not r ≡ false → w ≡ m .link i y → eqb w x ≡ farOk m x i
-    unfolding frontOk
-    far-back r w f n b = rw b (and3-last _ _ _ (sym f ∙ not-false r n) ∙ far-is)
+  -- a link to a slot is right where it leads to a live dart, and back
+  link-is : (i : ℕ) → m .link i x < m .slots → (live m (m .link i x) and eqb (m .link i (m .link i x)) x) ≡ linkOk m x i
+  unfolding linkOk _and_
+  link-is i h = rw (lt-ltb _ _ h)
 
-pub link-front : (m : Map) (x y : ℕ) (r : Bool) → y ≡ m .link 0 x → y < m .slots → r ≡ frontOk m y x → r ≡ linkOk m x 0
-unfolding linkOk frontOk _and_
-link-front m x y r e h q = rw (← e, lt-ltb _ _ h) q
+  -- links 0 and 1 to slots are right by the tests of `near`
+  pub near-is : (y z : ℕ) → y ≡ m .link 0 x → z ≡ m .link 1 x → m .link 0 x < m .slots → m .link 1 x < m .slots
+      → (frontOk m y x and live m z and eqb (m .link 1 z) x) ≡ nearOk m x
+  unfolding nearOk frontOk
+  near-is y z e f h k = rw (e, f, ← link-is 0 h, ← link-is 1 k) (and-assoc _ _ _)
 
-pub link-below : (m : Map) (x i : ℕ) → linkOk m x i ≡ true → m .link i x < m .slots
-unfolding linkOk
-link-below m x i e = ltb-true _ _ (and-left _ _ (and-left _ _ e))
+  -- an i-link to a slot is right, and commutes with the 0-link, by the tests of `far`
+  pub far-is : (i y z v : ℕ) → y ≡ m .link i x → z ≡ m .link 0 x → v ≡ m .link i z → m .link i x < m .slots
+      → (frontOk m y v and eqb (m .link i y) x) ≡ farOk m x i
+  unfolding farOk frontOk cornerOk
+  far-is i y z v e f g h =
+      rw (g, f, e, ← link-is i h, eqb-same (m .link i (m .link 0 x)) (m .link 0 (m .link i x)) (m .link 0 (m .link i x)) (m .link i (m .link 0 x)) sym sym) (and-swap _ _ _)
+
+  -- two links commute where the words that both ways end at are the same
+  pub corner-is : (i j y z u v : ℕ) → y ≡ m .link i x → z ≡ m .link j x → u ≡ m .link j y → v ≡ m .link i z → eqb u v ≡ cornerOk m x i j
+  unfolding cornerOk
+  corner-is i j y z u v e f g h = rw (g, h, e, f)
 
 -- ---- a slot of a well-formed table
 
@@ -133,15 +132,24 @@ module _ (n : ℕ) (m : Map) (w : WellFormed n m) where
 
 -- ---- the tests of a dart
 
-pub far-link : (m : Map) (x i : ℕ) → farOk m x i ≡ true → linkOk m x i ≡ true
-unfolding farOk
-far-link m x i e = and-left _ _ e
-
-far-corner : (m : Map) (x i : ℕ) → farOk m x i ≡ true → cornerOk m x 0 i ≡ true
-unfolding farOk
-far-corner m x i e = and-right _ _ e
-
 module _ (n : ℕ) (m : Map) (x : ℕ) where
+  -- what the tests joined in `nearOk` and `farOk` say one by one
+  near-0 : nearOk m x ≡ true → linkOk m x 0 ≡ true
+  unfolding nearOk
+  near-0 e = and-left _ _ e
+
+  near-1 : nearOk m x ≡ true → linkOk m x 1 ≡ true
+  unfolding nearOk
+  near-1 e = and-right _ _ e
+
+  far-link : (i : ℕ) → farOk m x i ≡ true → linkOk m x i ≡ true
+  unfolding farOk
+  far-link i e = and-left _ _ e
+
+  far-corner : (i : ℕ) → farOk m x i ≡ true → cornerOk m x 0 i ≡ true
+  unfolding farOk
+  far-corner i e = and-right _ _ e
+
   module _ (w : cornersOk n m x ≡ true) where
     links-of : (i : ℕ) → i ≤ n → linkOk m x i ≡ true
     unfolding cornersOk
@@ -156,29 +164,50 @@ module _ (n : ℕ) (m : Map) (x : ℕ) where
     corners-of i j ij jn = if-so (leb (i + 2) j)
         (all-at (suc n) _ (all-at (suc n) _ (and-right _ _ w) i (omega arith)) j (omega arith)) (le-leb (i + 2) j ij)
 
-  refuted : {b : Bool} → (cornersOk n m x ≡ true → b ≡ true) → b ≡ false → false ≡ cornersOk n m x
-  refuted f e = ⊎-elim (λ w. absurd (true≢false (sym (f w) ∙ e))) (λ w. sym w) (true-or-false (cornersOk n m x))
+  -- where one of the links 0, 1 and 2 leads to no slot, the dart is wrong
+  pub no-inside : (r : Bool) → 2 ≤ n → r ≡ insideOk m x → not r ≡ true → false ≡ cornersOk n m x
+  unfolding insideOk
+  no-inside r l e h = sym
+      (refuted (λ w. all-of 3 (λ i. ltb (m .link i x) (m .slots)) (λ i k. lt-ltb _ _ (link-below m x i (links-of w i (omega arith))))) (sym e ∙ not-true r h))
 
-  pub no-link : (i : ℕ) (r : Bool) → i ≤ n → r ≡ linkOk m x i → not r ≡ true → false ≡ cornersOk n m x
-  no-link i r l e h = refuted (λ w. links-of w i l) (sym e ∙ not-true r h)
+  -- where the i-link leads to no slot, the dart is wrong
+  pub no-link : (i y : ℕ) → i ≤ n → y ≡ m .link i x → m .slots ≤ y → false ≡ cornersOk n m x
+  no-link i y l e h = sym (impossible (cornersOk n m x) (λ w. let k = link-below m x i (links-of w i l) in absurd (omega arith)))
 
-  pub no-far : (i : ℕ) (r : Bool) → 2 ≤ i → i ≤ n → r ≡ farOk m x i → not r ≡ true → false ≡ cornersOk n m x
+  -- the links 0 and 1 of a right dart are right
+  near-of : cornersOk n m x ≡ true → 2 ≤ n → nearOk m x ≡ true
+  unfolding nearOk
+  near-of w l = and-of (links-of w 0 (omega arith)) (links-of w 1 (omega arith))
+
+  -- each link but 0 and 1 of a right dart is right, and commutes with the 0-link
+  far-of : cornersOk n m x ≡ true → (i : ℕ) → 2 ≤ i → i ≤ n → farOk m x i ≡ true
   unfolding farOk
-  no-far i r g l e h = refuted (λ w. and-of (links-of w i l) (corners-of w 0 i g l)) (sym e ∙ not-true r h)
+  far-of w i g l = and-of (links-of w i l) (corners-of w 0 i g l)
 
-  pub last-2 : (y : ℕ) → n ≡ 2 → linkOk m x 0 ≡ true → linkOk m x 1 ≡ true → farOk m x 2 ≡ true → y ≡ m .link 3 x → eqb y x ≡ cornersOk n m x
+  -- for n = 2 three tests make a dart right
+  two-of : n ≡ 2 → nearOk m x ≡ true → farOk m x 2 ≡ true → eqb (m .link 3 x) x ≡ true → cornersOk n m x ≡ true
   unfolding cornersOk allPairs all _and_ _⇒_
-  last-2 y two a b c e = rw (two, a, b, far-link m x 2 c, far-corner m x 2 c, ← e) (last (eqb y x))
-    where
-      last : (b : Bool) → b ≡ (b and true)
-      last true = refl
-      last false = refl
+  two-of two a b c = rw (two, near-0 a, near-1 a, far-link 2 b, far-corner 2 b, c)
 
-  pub last-3 : (r : Bool) → n ≡ 3 → linkOk m x 0 ≡ true → linkOk m x 1 ≡ true → farOk m x 2 ≡ true → farOk m x 3 ≡ true
-      → r ≡ cornerOk m x 1 3 → r ≡ cornersOk n m x
+  -- for n = 2 the tests of a dart are those three, joined
+  pub corners-2 : n ≡ 2 → (nearOk m x and farOk m x 2 and eqb (m .link 3 x) x) ≡ cornersOk n m x
+  corners-2 two = same-test _ _
+      (λ w. two-of two (and-left _ _ (and-left _ _ w)) (and-right _ _ (and-left _ _ w)) (and-right _ _ w))
+      (λ w. and-of (and-of (near-of w (omega arith)) (far-of w 2 (omega arith) (omega arith))) (flat-of w two))
+
+  -- for n = 3 four tests make a dart right
+  three-of : n ≡ 3 → nearOk m x ≡ true → farOk m x 2 ≡ true → farOk m x 3 ≡ true → cornerOk m x 1 3 ≡ true → cornersOk n m x ≡ true
   unfolding cornersOk allPairs all _and_ _⇒_
-  last-3 true three a b c d q = rw (three, a, b, far-link m x 2 c, far-corner m x 2 c, far-link m x 3 d, far-corner m x 3 d, ← q)
-  last-3 false three a b c d q = rw (three, a, b, far-link m x 2 c, far-corner m x 2 c, far-link m x 3 d, far-corner m x 3 d, ← q)
+  three-of three a b c d = rw (three, near-0 a, near-1 a, far-link 2 b, far-corner 2 b, far-link 3 c, far-corner 3 c, d)
+
+  -- for n = 3 the tests of a dart are those four, joined
+  pub corners-3 : n ≡ 3 → (nearOk m x and farOk m x 2 and farOk m x 3 and cornerOk m x 1 3) ≡ cornersOk n m x
+  corners-3 three = same-test _ _
+      (λ w. let v = and-left _ _ w in let u = and-left _ _ v in
+      three-of three (and-left _ _ u) (and-right _ _ u) (and-right _ _ v) (and-right _ _ w))
+      (λ w. and-of
+      (and-of (and-of (near-of w (omega arith)) (far-of w 2 (omega arith) (omega arith))) (far-of w 3 (omega arith) (omega arith)))
+      (corners-of w 1 3 (omega arith) (omega arith)))
 
 pub not-two : {n : ℕ} → (n ≡ 2) ⊎ (n ≡ 3) → (n ≡ 2 → ⊥) → n ≡ 3
 not-two (inl e) h = absurd (h e)
@@ -187,9 +216,6 @@ not-two (inr e) h = e
 pub two-le : {n : ℕ} → (n ≡ 2) ⊎ (n ≡ 3) → 2 ≤ n
 two-le (inl e) = omega arith
 two-le (inr e) = omega arith
-
-pub held : {a : Bool} (r : Bool) → r ≡ a → not r ≡ false → a ≡ true
-held r e h = sym e ∙ not-false r h
 
 -- ---- a table whose slots are right
 

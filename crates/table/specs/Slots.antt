@@ -3,7 +3,7 @@
 -- Assumes nothing.
 use Prim.Native.Nat.{ℕ, suc}
 use mathlib.Core.Bool.{Bool, cond}
-use lib.Dec.{eqb}
+use lib.Dec.{eqb, ltb}
 use Rattle.base.specs.Test.{_and_, _or_, _⇒_}
 use Rattle.base.specs.Below.{all, count}
 use Rattle.model.specs.Map.{Map, live, unused}
@@ -18,6 +18,14 @@ cornerOk m x i j = eqb (m .link j (m .link i x)) (m .link i (m .link j x))
 -- y is live, and its 0-link is v
 unfoldable pub frontOk : Map → ℕ → ℕ → Bool
 frontOk m y v = live m y and eqb (m .link 0 y) v
+
+-- the links 0, 1 and 2 of x lead to slots
+unfoldable pub insideOk : Map → ℕ → Bool
+insideOk m x = all 3 (λ i. ltb (m .link i x) (m .slots))
+
+-- the 0-link and the 1-link of x are right
+unfoldable pub nearOk : Map → ℕ → Bool
+nearOk m x = linkOk m x 0 and linkOk m x 1
 
 -- the i-link of x is right, and commutes with the 0-link
 unfoldable pub farOk : Map → ℕ → ℕ → Bool
