@@ -12,7 +12,8 @@ use lib.Dec.{eqb}
 use borrow.Author.Tests.{eqb-true, ne-eqb}
 use Rattle.base.specs.Below.{count}
 use Rattle.base.specs.First.{first, least, when}
-use Rattle.base.proofs.TestLaws.{and-right, or-cases}
+use Rattle.base.specs.Test.{_or_}
+use Rattle.base.proofs.TestLaws.{and-left, and-right}
 use Rattle.base.proofs.BelowLaws.{count-same}
 use Rattle.base.proofs.FirstLaws.{first-at, when-at, least-at, least-same}
 use Rattle.base.proofs.ListLaws.{getD-inside}
@@ -22,6 +23,7 @@ use Rattle.model.specs.Formed.{Formed, FormedSide}
 use Rattle.model.specs.declared.Scheme.{Scheme}
 use Rattle.model.proofs.AcceptedLaws.{small}
 use Rattle.conditions.specs.Arcs.{arcCode, entry, partOf, readsOf, over, Joins, Filled, Coded, Counted, ArcTables}
+use Rattle.conditions.specs.Tree.{Ends, ByArc, Aimed}
 use Rattle.conditions.specs.declared.arcs.Arcs.{Arcs}
 
 -- a side's lists, as a scheme holds them
@@ -61,6 +63,23 @@ code-of (some t) (some p) h = let l = h t refl in rw (ne-eqb t 255 (λ e. absurd
 code-of none none h = refl
 code-of none (some p) h = refl
 
+-- the far end of an arc is joined by that arc
+by-arc : (part : ℕ → ℕ → ℕ) (c s i t : ℕ) → farEnd part c s i ≡ some t → ByArc part c i s t
+unfolding farEnd _or_
+by-arc part c s i t e =
+    let r = first-at c _ t e in
+    let w = when-at _ (r .2) in
+    record {
+      arc = r .0;
+      below = r .1;
+      dimIs = eqb-true _ _ (and-left _ _ (w .0));
+      ends = go (eqb (part (r .0) 1) s) refl (w .1) (and-right _ _ (w .0));
+    }
+  where
+    go : {a : ℕ} (b : Bool) → eqb (part a 1) s ≡ b → cond b (part a 2) (part a 1) ≡ t → (b or eqb (part a 2) s) ≡ true → Ends part a s t
+    go true q u v = inl (eqb-true _ _ q, u)
+    go false q u v = inr (u, eqb-true _ _ v)
+
 module _ (S : Scheme) (f : Formed S) (side : Side) where
   places-few : S .places ≤ 4
   places-few = let a = f .placesFew in let b = small S f in omega arith
@@ -73,6 +92,18 @@ module _ (S : Scheme) (f : Formed S) (side : Side) where
     from = λ a h. let n = f .nodesFew in let d = f .sides side .from a h .0 in subst (λ (part : ℕ → ℕ → ℕ). part a 1 < 16) (part-is S side) (omega arith);
     to = λ a h. let n = f .nodesFew in let d = f .sides side .to a h .0 in subst (λ (part : ℕ → ℕ → ℕ). part a 2 < 16) (part-is S side) (omega arith);
   }
+
+  -- its targets are the far ends of arcs
+  pub aimed : length (targetsOf S side) ≡ 64 → Aimed (targetsOf S side) (arcsOf S side) (arcs S side)
+  aimed long = record {
+    at = λ s i h k l. subst (λ (part : ℕ → ℕ → ℕ). ByArc part (arcs S side) i s (entry (targetsOf S side) s i)) (part-is S side)
+        (go (farEnd (arcPart S side) (arcs S side) s i) refl (sym (target-is S side s i long h k) ∙ f .sides side .targets s i h k) l);
+  }
+    where
+      go : {s i e : ℕ} (o : Option ℕ) → farEnd (arcPart S side) (arcs S side) s i ≡ o → e ≡ Option·getD o 255 → e < 16
+          → ByArc (arcPart S side) (arcs S side) i s e
+      go none q u l = absurd (omega arith)
+      go (some t) q u l = rw u (by-arc (arcPart S side) (arcs S side) _ _ t q)
 
   end-below : (s i t : ℕ) → farEnd (arcPart S side) (arcs S side) s i ≡ some t → t < S .nodes
   unfolding farEnd

@@ -21,7 +21,7 @@ use Rattle.model.specs.declared.Answer.{Answer}
 use Rattle.model.specs.declared.Answer.the-variants.{Done, BadHook, BadIncidence, BadCycle}
 use Rattle.model.proofs.AcceptedLaws as AcceptedLaws
 use Rattle.conditions.specs.Arcs.{Joins, ArcTables}
-use Rattle.conditions.specs.Tree.{Spanning}
+use Rattle.conditions.specs.Tree.{Aimed, Lefts, Spanning}
 use Rattle.conditions.specs.Hook.{hookedBy, leftOut, foundOf, HookBy, wrongHook, leftOver}
 use Rattle.conditions.specs.Incidence.{offends, arcsAnswer}
 use Rattle.conditions.specs.Cycles.{Coding, atNode, cycleAnswer}
@@ -29,29 +29,26 @@ use Rattle.conditions.specs.declared.arcs.Arcs.{Arcs}
 use Rattle.conditions.specs.declared.hook.Found.{Found}
 use Rattle.conditions.specs.declared.hook.Found.the-variants.{Node, Nothing}
 use Rattle.conditions.specs.declared.tree.Tree.{Tree}
-use Rattle.conditions.proofs.CodeLaws.{joins}
+use Rattle.conditions.proofs.CodeLaws.{joins, aimed}
 use Rattle.conditions.proofs.SpanLaws.{tree-of}
-use Rattle.conditions.proofs.HookLaws.{hook-is, unreached-is}
+use Rattle.conditions.proofs.HookLaws.{found-node, found-nothing, lefts, hook-is, unreached-is}
 use Rattle.conditions.proofs.IncidenceLaws.{incidence-is}
 use Rattle.conditions.proofs.CycleIsLaws.{coding, cycle-is}
 
-found-node : (o : Option ℕ) (x : ℕ) → foundOf o ≡ Node x → o ≡ some x
-found-node none x e = absurd (let z : _≡_ {A = ℕ} 0 1 = cc in omega arith)
-found-node (some y) x e = let q : y ≡ x = cc in ap {B = Option ℕ} some q
-
-found-nothing : (o : Option ℕ) → foundOf o ≡ Nothing → o ≡ none
-found-nothing none e = refl
-found-nothing (some y) e = absurd (let z : _≡_ {A = ℕ} 0 1 = cc in omega arith)
-
 -- ---- hook
 
+-- what the tree of a scheme's left arcs is built from
+pub tree-asks : (S : Scheme) (f : Formed S) (n c : ℕ) → n ≡ S .nodes → c ≡ S .lcount → length (S .ltargets) ≡ 64
+    → (n ≤ 16) × (Joins (S .larcs) c × (Aimed (S .ltargets) (S .larcs) c × Lefts n (S .kinds) (S .larcs) c))
+tree-asks S f n c en ec long = rw (ec, en) (f .nodesFew, (joins S f left, (aimed S f left long, lefts S f)))
+
 module _ (S : Scheme) (f : Formed S) (long : length (S .lwords) ≡ 64) (p n c : ℕ) (ep : p ≡ S .places) (en : n ≡ S .nodes) (ec : c ≡ S .lcount) where
-  pub hook-asks : ((p ≤ 4) × (n ≤ 16)) × Joins (S .larcs) c
-  hook-asks =
+  pub hook-asks : length (S .ltargets) ≡ 64 → ((p ≤ 4) × (n ≤ 16)) × (Joins (S .larcs) c × (Aimed (S .ltargets) (S .larcs) c × Lefts n (S .kinds) (S .larcs) c))
+  hook-asks longTargets =
       let a = AcceptedLaws.small S f in
       let b = f .placesFew in
-      let d = f .nodesFew in
-      ((omega arith, omega arith), subst (Joins (S .larcs)) (sym ec) (joins S f left))
+      let t = tree-asks S f n c en ec longTargets in
+      ((omega arith, t .0), t .1)
 
   right-is : hookRight S ≡ hookedBy p (S .orbit) (S .kinds) (S .lwords)
   right-is = hook-is S f long ∙ ap (λ (k : ℕ). hookedBy k (S .orbit) (S .kinds) (S .lwords)) (sym ep)

@@ -2,8 +2,8 @@
 -- Assumes nothing.
 use Prim.Native.Nat.{ℕ, _+_, _*_, _≤_, _<_}
 use mathlib.Core.Path.{_≡_, refl, sym, ap, ap₂, _∙_}
-use mathlib.Core.Logic.{⊎-elim}
-use mathlib.Core.Bool.{Bool, true, false, not}
+use mathlib.Core.Logic.{_⊎_, inl, inr, ⊎-elim}
+use mathlib.Core.Bool.{Bool, true, false, not, cond, true≢false}
 use mathlib.Core.Option.{Option, none, some}
 use mathlib.Core.List.{List}
 use native.Mathlib.Omega.{arith}
@@ -14,7 +14,7 @@ use Rattle.base.specs.Test.{_and_, _or_}
 use Rattle.base.specs.Below.{all, count}
 use Rattle.base.specs.First.{least, there}
 use Rattle.base.proofs.BelowLaws.{all-not, all-same, count-same, count-not}
-use Rattle.base.proofs.FirstLaws.{least-hit, least-same}
+use Rattle.base.proofs.FirstLaws.{least-hit, least-same, least-none}
 use Rattle.base.proofs.ListLaws.{getD-inside}
 use Rattle.base.proofs.TestLaws.{or-left, or-right, true-or-false}
 use Rattle.model.specs.Scheme.{left, onSide, kind, orbitDim, has, added}
@@ -22,9 +22,9 @@ use Rattle.model.specs.Conditions.{pathTo, hookRight}
 use Rattle.model.specs.Formed.{Formed}
 use Rattle.model.specs.declared.Scheme.{Scheme}
 use Rattle.model.proofs.AcceptedLaws as AcceptedLaws
-use Rattle.conditions.specs.Tree.{TreeOf}
+use Rattle.conditions.specs.Tree.{Lefts, TreeOf}
 use Rattle.conditions.specs.declared.tree.Tree.{Tree}
-use Rattle.conditions.specs.Hook.{hookedBy, leftOut, foundOf}
+use Rattle.conditions.specs.Hook.{hookedBy, leftOut, foundOf, settledAt}
 use Rattle.conditions.specs.declared.hook.Found.{Found}
 use Rattle.conditions.specs.declared.hook.Found.the-variants.{Node, Nothing}
 
@@ -56,6 +56,14 @@ found-none n k p l h e = let same : k ≡ n = omega arith in let f : least n p �
 pub found-at : (n k : ℕ) (p : ℕ → Bool) → k < n → least k p ≡ none → p k ≡ true → Node k ≡ foundOf (least n p)
 found-at n k p h e f = rw (least-hit n p k h e f)
 
+pub found-node : (o : Option ℕ) (x : ℕ) → foundOf o ≡ Node x → o ≡ some x
+found-node none x e = absurd (let z : _≡_ {A = ℕ} 0 1 = cc in omega arith)
+found-node (some y) x e = let q : y ≡ x = cc in ap {B = Option ℕ} some q
+
+pub found-nothing : (o : Option ℕ) → foundOf o ≡ Nothing → o ≡ none
+found-nothing none e = refl
+found-nothing (some y) e = absurd (let z : _≡_ {A = ℕ} 0 1 = cc in omega arith)
+
 module _ (kinds : List ℕ) (reached : List Bool) (s : ℕ) where
   pub out-added : getD kinds s 0 ≡ 3 → leftOut kinds reached s ≡ false
   unfolding leftOut _and_
@@ -64,6 +72,36 @@ module _ (kinds : List ℕ) (reached : List Bool) (s : ℕ) where
   pub out-left : (getD kinds s 0 ≡ 3 → ⊥) → leftOut kinds reached s ≡ not (getD reached s false)
   unfolding leftOut _and_
   out-left ne = rw (ne-eqb _ _ ne)
+
+-- ---- whether the walk over targets was enough
+
+module _ (nodes : ℕ) (kinds : List ℕ) (reached : List Bool) (size : ℕ) where
+  pub settled-all : (f : Found) → f ≡ foundOf (least nodes (leftOut kinds reached)) → f ≡ Nothing → size ≡ settledAt nodes kinds reached size
+  unfolding settledAt there
+  settled-all f e q = let none-out = found-nothing (least nodes (leftOut kinds reached)) (sym e ∙ q) in rw none-out
+
+  pub settled-not : (f : Found) (x : ℕ) → f ≡ foundOf (least nodes (leftOut kinds reached)) → f ≡ Node x → 0 ≡ settledAt nodes kinds reached size
+  unfolding settledAt there
+  settled-not f x e q = let one-out = found-node (least nodes (leftOut kinds reached)) x (sym e ∙ q) in rw one-out
+
+  -- it was not, or no left node is left out
+  pub settled-cases : (settledAt nodes kinds reached size ≡ 0)
+      ⊎ ((settledAt nodes kinds reached size ≡ size) × (least nodes (leftOut kinds reached) ≡ none))
+  unfolding settledAt there
+  settled-cases = go (least nodes (leftOut kinds reached)) refl
+    where
+      go : (o : Option ℕ) → least nodes (leftOut kinds reached) ≡ o
+          → (cond (there o) 0 size ≡ 0) ⊎ ((cond (there o) 0 size ≡ size) × (o ≡ none))
+      go none e = inr (refl, refl)
+      go (some x) e = inl refl
+
+  -- a left node that is not left out is reached
+  pub none-out : least nodes (leftOut kinds reached) ≡ none → (s : ℕ) → s < nodes → (getD kinds s 0 ≡ 3 → ⊥) → getD reached s false ≡ true
+  none-out e s h ne = go (getD reached s false) (sym (out-left kinds reached s ne) ∙ least-none nodes (leftOut kinds reached) e s h)
+    where
+      go : (b : Bool) → not b ≡ false → b ≡ true
+      go true q = refl
+      go false q = sym q
 
 -- ---- what they say of a scheme
 
@@ -81,6 +119,16 @@ left-is k l h = go (eqb k 3) refl
 module _ (S : Scheme) (f : Formed S) where
   side-left : (s : ℕ) → s < S .nodes → has S left s ≡ not (eqb (kind S s) 3)
   side-left s h = let k = f .kinds s h in left-is (kind S s) (k .0) (k .1)
+
+  -- left arcs join nodes that are not added
+  pub lefts : Lefts (S .nodes) (S .kinds) (S .larcs) (S .lcount)
+  lefts = record {
+    from = λ a h. let e = f .sides left .from a h in (e .0, not-added _ (e .0) (e .1));
+    to = λ a h. let e = f .sides left .to a h in (e .0, not-added _ (e .0) (e .1));
+  }
+    where
+      not-added : (s : ℕ) → s < S .nodes → has S left s ≡ true → getD (S .kinds) s 0 ≡ 3 → ⊥
+      not-added s h e q = true≢false (sym e ∙ side-left s h ∙ ap not (eq-eqb _ _ q))
 
   pub hook-is : length (S .lwords) ≡ 64 → hookRight S ≡ hookedBy (S .places) (S .orbit) (S .kinds) (S .lwords)
   unfolding hookRight hookedBy

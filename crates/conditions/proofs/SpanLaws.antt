@@ -67,7 +67,7 @@ module _ (S : Scheme) (f : Formed S) where
   module _ (t : Tree) (g : Spanning (S .larcs) (S .lcount) t) where
     node-below : (k : ℕ) → k < t .size → getD (t .node) k 0 < S .nodes
     node-below zero h = rw (g .spans .root) (f .nodesSome)
-    node-below (suc k) h = let b = g .spans .branch (suc k) (omega arith) h in end-below (b .arc) _ _ (b .below) (b .ends)
+    node-below (suc k) h = let b = g .spans .branch (suc k) (omega arith) h in end-below (b .joined .arc) _ _ (b .joined .below) (b .joined .ends)
 
     -- an entry is reached, since an earlier one is
     entry-path : (n k : ℕ) → k < n → k < t .size → there (pathTo S (getD (t .node) k 0)) ≡ true
@@ -77,7 +77,7 @@ module _ (S : Scheme) (f : Formed S) where
         let b = g .spans .branch (suc k) (omega arith) l in
         let e = b .earlier in
         let q = b .before in
-        let s = arc-step (b .arc) _ _ (b .below) (subst (λ (z : ℕ). Ends (arcPart S left) (b .arc) z (getD (t .node) (suc k) 0)) (sym (b .parentIs)) (b .ends)) in
+        let s = arc-step (b .joined .arc) _ _ (b .joined .below) (subst (λ (z : ℕ). Ends (arcPart S left) (b .joined .arc) z (getD (t .node) (suc k) 0)) (sym (b .parentIs)) (b .joined .ends)) in
         path-step (getD (t .node) e 0) (getD (t .node) (suc k) 0) (s .0) (node-below e (omega arith)) (node-below (suc k) l)
         (entry-path n e (omega arith) (omega arith)) (s .1)
 
@@ -111,7 +111,7 @@ module _ (S : Scheme) (f : Formed S) where
     pub tree-of : TreeOf S t
     tree-of = record {
       some = g .spans .some;
-      few = few _ _ _ _ _ _ _ (g .spans);
+      few = few _ _ _ _ _ _ (g .spans);
       root = g .spans .root;
       below = node-below;
       branch = g .spans .branch;

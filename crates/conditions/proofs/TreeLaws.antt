@@ -6,16 +6,18 @@ use mathlib.Core.Logic.{_⊎_, inl, inr, ⊎-elim}
 use mathlib.Core.Bool.{Bool, true, false, true≢false}
 use mathlib.Core.List.{List, [], _∷_}
 use native.Mathlib.Omega.{arith}
-use lib.ListN.{length, getD, set, replicate, length-set, getD-replicate}
+use lib.ListN.{length, getD, set, replicate, length-set, getD-replicate, List·getD-eq-default}
 use lib.Seq.{getD-set-same, getD-set-other}
-use lib.Dec.{eqb}
-use borrow.Author.Tests.{eqb-true, eqb-false}
+use lib.Dec.{eqb, leb}
+use borrow.Author.Tests.{eqb-true, eqb-false, leb-true, leb-false}
 use Rattle.base.specs.Below.{count}
 use Rattle.base.proofs.TestLaws.{true-or-false}
 use Rattle.base.proofs.BelowLaws.{below-step, count-more, count-le, count-some}
 use Rattle.base.proofs.ListLaws.{getD-replicate-all}
-use Rattle.conditions.specs.Arcs.{partOf, Joins}
-use Rattle.conditions.specs.Tree.{Ends, Branch, Spans, Even, Joined, Grown, Spanning}
+use Rattle.conditions.specs.Arcs.{entry, partOf, Joins}
+use Rattle.conditions.specs.Hook.{settledAt}
+use Rattle.conditions.proofs.HookLaws.{settled-cases, none-out}
+use Rattle.conditions.specs.Tree.{Ends, ByArc, ByTarget, Branch, TreeBy, Reaching, Aimed, Lefts, Spans, Even, Joined, Grown, Spanning}
 
 mark-keeps : (l : List Bool) (y z : ℕ) → y < length l → getD l z false ≡ true → getD (set l y true) z false ≡ true
 mark-keeps l y z h e = ⊎-elim
@@ -29,7 +31,7 @@ mark-was l y z e = ⊎-elim
     (λ q. inr (sym (getD-set-other l y z true false (eqb-false z y q)) ∙ e))
     (true-or-false (eqb z y))
 
-module _ (arcs : List ℕ) (c : ℕ) (node parent dim : List ℕ) (reached : List Bool) (size : ℕ) (s : Spans arcs c node parent dim reached size) where
+module _ (J : ℕ → ℕ → ℕ → Type 0) (node parent dim : List ℕ) (reached : List Bool) (size : ℕ) (s : TreeBy J node parent dim reached size) where
   module _ (y : ℕ) (hy : y < 16) (ry : getD reached y false ≡ false) where
     more : count 16 (λ z. getD reached z false) < count 16 (λ z. getD (set reached y true) z false)
     more =
@@ -43,46 +45,35 @@ module _ (arcs : List ℕ) (c : ℕ) (node parent dim : List ℕ) (reached : Lis
   kept : (l : List ℕ) (v j : ℕ) → j < size → getD (set l size v) j 0 ≡ getD l j 0
   kept l v j h = getD-set-other l size j v 0 (λ e. absurd (omega arith))
 
-  module _ (a x y : ℕ) (b : a < c) (ends : Ends (partOf arcs) a x y) (rx : getD reached x false ≡ true) (ry : getD reached y false ≡ false) (hy : y < 16) where
-    fits : size < 16
-    fits = room y hy ry
-
+  module _ (i x y : ℕ) (joins : J i x y) (rx : getD reached x false ≡ true) (ry : getD reached y false ≡ false) (hy : y < 16) where
     new : (l : List ℕ) (v : ℕ) → length l ≡ 16 → getD (set l size v) size 0 ≡ v
-    new l v e = let h = fits in getD-set-same l size v 0 (omega arith)
+    new l v e = let h = room y hy ry in getD-set-same l size v 0 (omega arith)
 
-    old-branch : (k : ℕ) → 1 ≤ k → k < size → Branch (partOf arcs) c (set node size y) (set parent size x) (set dim size (partOf arcs a 0)) k
+    old-branch : (k : ℕ) → 1 ≤ k → k < size → Branch J (set node size y) (set parent size x) (set dim size i) k
     old-branch k l h =
         let o = s .branch k l h in
         record {
           earlier = o .earlier;
           before = o .before;
           parentIs = kept node y (o .earlier) (omega (arith, o .before)) ∙ o .parentIs ∙ sym (kept parent x k h);
-          arc = o .arc;
-          below = o .below;
-          dimIs = o .dimIs ∙ sym (kept dim (partOf arcs a 0) k h);
-          ends = subst (λ (v : ℕ). Ends (partOf arcs) (o .arc) v (getD (set node size y) k 0)) (sym (kept parent x k h))
-              (subst (λ (v : ℕ). Ends (partOf arcs) (o .arc) (getD parent k 0) v) (sym (kept node y k h)) (o .ends));
+          joined = rw (kept dim i k h, kept parent x k h, kept node y k h) (o .joined);
         }
 
-    new-branch : Branch (partOf arcs) c (set node size y) (set parent size x) (set dim size (partOf arcs a 0)) size
+    new-branch : Branch J (set node size y) (set parent size x) (set dim size i) size
     new-branch =
         let o = s .found x rx in
         record {
           earlier = o .0;
           before = o .1;
           parentIs = kept node y (o .0) (o .1) ∙ o .2 ∙ sym (new parent x (s .longParent));
-          arc = a;
-          below = b;
-          dimIs = sym (new dim (partOf arcs a 0) (s .longDim));
-          ends = subst (λ (v : ℕ). Ends (partOf arcs) a v (getD (set node size y) size 0)) (sym (new parent x (s .longParent)))
-              (subst (λ (v : ℕ). Ends (partOf arcs) a x v) (sym (new node y (s .longNode))) ends);
+          joined = rw (new dim i (s .longDim), new parent x (s .longParent), new node y (s .longNode)) joins;
         }
 
     not-there : (j : ℕ) → j < size → getD node j 0 ≡ y → ⊥
     not-there j h e = true≢false (sym (s .marked j h) ∙ ap (λ (z : ℕ). getD reached z false) e ∙ ry)
 
-    -- y, which arc a joins to x, becomes an entry
-    pushed : Spans arcs c (set node size y) (set parent size x) (set dim size (partOf arcs a 0)) (set reached y true) (size + 1)
+    -- y, which is joined to x, becomes an entry
+    pushed : TreeBy J (set node size y) (set parent size x) (set dim size i) (set reached y true) (size + 1)
     pushed =
         let long : y < length reached = omega (arith, s .longReached) in
         record {
@@ -115,17 +106,75 @@ module _ (arcs : List ℕ) (c : ℕ) (node parent dim : List ℕ) (reached : Lis
               (below-step h);
         }
 
-    pub joined-push : (i : ℕ) → i ≡ partOf arcs a 0 → (node′ parent′ dim′ : List ℕ) (reached′ : List Bool)
+    pub tree-push : (node′ parent′ dim′ : List ℕ) (reached′ : List Bool)
         → node′ ≡ set node size y → parent′ ≡ set parent size x → dim′ ≡ set dim size i → reached′ ≡ set reached y true
-        → Joined arcs c a node′ parent′ dim′ reached reached′ size (size + 1)
-    joined-push i ei node′ parent′ dim′ reached′ en ep ed er = record {
-      spans = rw (en, ep, ed, er, ei) pushed;
-      longer = omega arith;
-      even = λ e. absurd (omega arith);
-    }
+        → TreeBy J node′ parent′ dim′ reached′ (size + 1)
+    tree-push node′ parent′ dim′ reached′ en ep ed er = rw (en, ep, ed, er) pushed
+
+  pub entry-small : (k : ℕ) → k < size → getD node k 0 < 16
+  entry-small k h = ⊎-elim
+      (λ l. absurd (true≢false (sym (s .marked k h) ∙ List·getD-eq-default reached false (rw (s .longReached) (leb-true 16 (getD node k 0) l)))))
+      (λ l. leb-false 16 (getD node k 0) l)
+      (true-or-false (leb 16 (getD node k 0)))
 
   pub few : size ≤ 16
   few = let a = count-le 16 (λ z. getD reached z false) in omega (arith, s .total)
+
+-- a tree whose branches are of J is one of any K that has them
+pub tree-weaker : (J K : ℕ → ℕ → ℕ → Type 0) (node parent dim : List ℕ) (reached : List Bool) (size : ℕ) → TreeBy J node parent dim reached size
+    → ((k : ℕ) → 1 ≤ k → k < size → J (getD dim k 0) (getD parent k 0) (getD node k 0) → K (getD dim k 0) (getD parent k 0) (getD node k 0))
+    → TreeBy K node parent dim reached size
+tree-weaker J K node parent dim reached size s f = record {
+  longNode = s .longNode;
+  longParent = s .longParent;
+  longDim = s .longDim;
+  longReached = s .longReached;
+  some = s .some;
+  total = s .total;
+  root = s .root;
+  branch = λ k l h. let b = s .branch k l h in record { earlier = b .earlier; before = b .before; parentIs = b .parentIs; joined = f k l h (b .joined) };
+  marked = s .marked;
+  found = s .found;
+  once = s .once;
+}
+
+-- ---- the walk over targets
+
+-- the target of s at dimension i becomes an entry
+pub reach-push : (targets node parent dim : List ℕ) (reached : List Bool) (size s : ℕ) → Reaching targets node parent dim reached size s → s < 16
+    → (i t : ℕ) → i < 4 → t ≡ entry targets s i → t < 16 → getD reached t false ≡ false → (node′ parent′ dim′ : List ℕ) (reached′ : List Bool)
+    → node′ ≡ set node size t → parent′ ≡ set parent size s → dim′ ≡ set dim size i → reached′ ≡ set reached t true
+    → Reaching targets node′ parent′ dim′ reached′ (size + 1) s
+reach-push targets node parent dim reached size s r h i t hi e ht rt node′ parent′ dim′ reached′ en ep ed er = record {
+  tree = tree-push _ _ _ _ _ _ (r .tree) i s t (record { node = h; dim = hi; is = sym e }) (r .at) rt ht _ _ _ _ en ep ed er;
+  at = rw er (mark-keeps reached t s (omega (arith, r .tree .longReached)) (r .at));
+}
+
+-- an entry of a tree over targets is reached
+pub reach-entry : (targets node parent dim : List ℕ) (reached : List Bool) (size : ℕ) → TreeBy (ByTarget targets) node parent dim reached size
+    → (k s : ℕ) → k < size → s ≡ getD node k 0 → (s < 16) × Reaching targets node parent dim reached size s
+reach-entry targets node parent dim reached size t k s h e =
+    (rw e (entry-small _ _ _ _ _ _ t k h), record { tree = t; at = rw e (t .marked k h) })
+
+-- what is reached over targets is reached over arcs
+pub tree-aimed : (targets arcs : List ℕ) (c : ℕ) → Aimed targets arcs c → (node parent dim : List ℕ) (reached : List Bool) (size : ℕ)
+    → TreeBy (ByTarget targets) node parent dim reached size → Spans arcs c node parent dim reached size
+tree-aimed targets arcs c a node parent dim reached size s = tree-weaker _ _ _ _ _ _ _ s (λ k l h j.
+    subst (ByArc (partOf arcs) c _ _) (j .is) (a .at _ _ (j .node) (j .dim) (subst (λ (z : ℕ). z < 16) (sym (j .is)) (entry-small _ _ _ _ _ _ s k h))))
+
+-- ---- the passes over the arcs
+
+module _ (arcs : List ℕ) (c : ℕ) (node parent dim : List ℕ) (reached : List Bool) (size : ℕ) (s : Spans arcs c node parent dim reached size) where
+  -- the far end of arc a becomes an entry
+  pub joined-push : (a x y : ℕ) → a < c → Ends (partOf arcs) a x y → getD reached x false ≡ true → getD reached y false ≡ false → y < 16
+      → (i : ℕ) → i ≡ partOf arcs a 0 → (node′ parent′ dim′ : List ℕ) (reached′ : List Bool)
+      → node′ ≡ set node size y → parent′ ≡ set parent size x → dim′ ≡ set dim size i → reached′ ≡ set reached y true
+      → Joined arcs c a node′ parent′ dim′ reached reached′ size (size + 1)
+  joined-push a x y b ends rx ry hy i ei node′ parent′ dim′ reached′ en ep ed er = record {
+    spans = tree-push _ _ _ _ _ _ s i x y (record { arc = a; below = b; dimIs = sym ei; ends = ends }) rx ry hy _ _ _ _ en ep ed er;
+    longer = omega arith;
+    even = λ e. absurd (omega arith);
+  }
 
   -- an arc with both ends reached, or none, adds nothing
   pub joined-same : (a x y : ℕ) → x ≡ partOf arcs a 1 → y ≡ partOf arcs a 2 → getD reached x false ≡ getD reached y false
@@ -154,9 +203,25 @@ grown-more arcs c k node parent dim node′ parent′ dim′ reached reached′ 
       ⊎-elim (λ q. rw q (r .1)) (λ q. rw (r .0) (g .even (omega arith) a q)) (below-step h);
 }
 
+-- after the walk over targets nothing is left to pass over where no left node is left out, since arcs join left nodes
+pub grown-walk : (arcs : List ℕ) (c nodes : ℕ) (kinds node parent dim : List ℕ) (reached : List Bool) (size last : ℕ)
+    → Spans arcs c node parent dim reached size → Lefts nodes kinds arcs c → last ≡ settledAt nodes kinds reached size
+    → Grown arcs c c node parent dim reached last size
+grown-walk arcs c nodes kinds node parent dim reached size last s l e = ⊎-elim
+    (λ q. record { spans = s; longer = omega arith; even = λ f. absurd (let some = s .some in omega arith) })
+    (λ q. record {
+      spans = s;
+      longer = omega arith;
+      even = λ f a h.
+          let from = l .from a h in
+          let to = l .to a h in
+          none-out nodes kinds reached size (q .1) _ (from .0) (from .1) ∙ sym (none-out nodes kinds reached size (q .1) _ (to .0) (to .1));
+    })
+    (settled-cases nodes kinds reached size)
+
 -- node 0 alone
-pub spans-start : (arcs : List ℕ) (c : ℕ) → Spans arcs c (replicate 16 0) (replicate 16 0) (replicate 16 0) (set (replicate 16 false) 0 true) 1
-spans-start arcs c = record {
+pub tree-start : (J : ℕ → ℕ → ℕ → Type 0) → TreeBy J (replicate 16 0) (replicate 16 0) (replicate 16 0) (set (replicate 16 false) 0 true) 1
+tree-start J = record {
   longNode = refl;
   longParent = refl;
   longDim = refl;
@@ -172,6 +237,3 @@ spans-start arcs c = record {
       (mark-was (replicate 16 false) 0 z e);
   once = λ j k h l e. omega arith;
 }
-
-pub grown-start : (arcs : List ℕ) (c : ℕ) → Grown arcs c c (replicate 16 0) (replicate 16 0) (replicate 16 0) (set (replicate 16 false) 0 true) 0 1
-grown-start arcs c = record { spans = spans-start arcs c; longer = omega arith; even = λ e. absurd (omega arith) }

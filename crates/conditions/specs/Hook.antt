@@ -2,14 +2,14 @@
 -- Assumes nothing.
 use Prim.Native.Nat.{ℕ}
 use mathlib.Core.Path.{_≡_}
-use mathlib.Core.Bool.{Bool, true, false, not}
+use mathlib.Core.Bool.{Bool, true, false, not, cond}
 use mathlib.Core.Option.{Option, none, some}
 use mathlib.Core.List.{List}
 use lib.ListN.{getD}
 use lib.Dec.{eqb}
 use Rattle.base.specs.Test.{_and_}
 use Rattle.base.specs.Below.{all}
-use Rattle.base.specs.First.{least}
+use Rattle.base.specs.First.{least, there}
 use Rattle.conditions.specs.Tree.{Spanning}
 use Rattle.conditions.specs.declared.tree.Tree.{Tree}
 use Rattle.conditions.specs.declared.hook.Found.{Found}
@@ -26,6 +26,10 @@ leftOut kinds reached s = not (eqb (getD kinds s 0) 3) and not (getD reached s f
 abbrev pub foundOf : Option ℕ → Found
 foundOf none = Nothing
 foundOf (some s) = Node s
+
+-- `size` where no left node is left out, else 0
+unfoldable pub settledAt : ℕ → List ℕ → List Bool → ℕ → ℕ
+settledAt nodes kinds reached size = cond (there (least nodes (leftOut kinds reached))) 0 size
 
 -- the hook's fault: node 0, or what the tree of the left arcs does not reach
 pub data HookBy (places nodes : ℕ) (orbit kinds words : List ℕ) (c : ℕ) (arcs : List ℕ) (r : Found) : Type 0 where

@@ -11,25 +11,35 @@ use Rattle.base.specs.First.{there}
 use Rattle.model.specs.Scheme.{left, arcs, arcPart}
 use Rattle.model.specs.Conditions.{pathTo}
 use Rattle.model.specs.declared.Scheme.{Scheme}
-use Rattle.conditions.specs.Arcs.{partOf}
+use Rattle.conditions.specs.Arcs.{entry, partOf}
 use Rattle.conditions.specs.declared.tree.Tree.{Tree}
 
 -- x and y are the two ends of arc a, in this order or the other
 abbrev pub Ends : (ℕ → ℕ → ℕ) → ℕ → ℕ → ℕ → Type 0
 Ends part a x y = ((part a 1 ≡ x) × (part a 2 ≡ y)) ⊎ ((part a 1 ≡ y) × (part a 2 ≡ x))
 
--- entry k is joined to an earlier one by one of the first c arcs
-pub record Branch (part : ℕ → ℕ → ℕ) (c : ℕ) (node parent dim : List ℕ) (k : ℕ) : Type 0 where
+-- one of the first c arcs, of dimension i, joins x and y
+pub record ByArc (part : ℕ → ℕ → ℕ) (c i x y : ℕ) : Type 0 where
+  pub arc : ℕ
+  pub below : arc < c
+  pub dimIs : part arc 0 ≡ i
+  pub ends : Ends part arc x y
+
+-- the target of x at dimension i is y
+pub record ByTarget (targets : List ℕ) (i x y : ℕ) : Type 0 where
+  pub node : x < 16
+  pub dim : i < 4
+  pub is : entry targets x i ≡ y
+
+-- entry k is joined to an earlier one
+pub record Branch (J : ℕ → ℕ → ℕ → Type 0) (node parent dim : List ℕ) (k : ℕ) : Type 0 where
   pub earlier : ℕ
   pub before : earlier < k
   pub parentIs : getD node earlier 0 ≡ getD parent k 0
-  pub arc : ℕ
-  pub below : arc < c
-  pub dimIs : part arc 0 ≡ getD dim k 0
-  pub ends : Ends part arc (getD parent k 0) (getD node k 0)
+  pub joined : J (getD dim k 0) (getD parent k 0) (getD node k 0)
 
--- the first `size` entries are a tree of the first c arcs, and `reached` marks its nodes
-pub record Spans (arcs : List ℕ) (c : ℕ) (node parent dim : List ℕ) (reached : List Bool) (size : ℕ) : Type 0 where
+-- the first `size` entries are a tree whose branches are of J, and `reached` marks its nodes
+pub record TreeBy (J : ℕ → ℕ → ℕ → Type 0) (node parent dim : List ℕ) (reached : List Bool) (size : ℕ) : Type 0 where
   pub longNode : length node ≡ 16
   pub longParent : length parent ≡ 16
   pub longDim : length dim ≡ 16
@@ -37,10 +47,28 @@ pub record Spans (arcs : List ℕ) (c : ℕ) (node parent dim : List ℕ) (reach
   pub some : 1 ≤ size
   pub total : size ≤ count 16 (λ s. getD reached s false)
   pub root : getD node 0 0 ≡ 0
-  pub branch : (k : ℕ) → 1 ≤ k → k < size → Branch (partOf arcs) c node parent dim k
+  pub branch : (k : ℕ) → 1 ≤ k → k < size → Branch J node parent dim k
   pub marked : (k : ℕ) → k < size → getD reached (getD node k 0) false ≡ true
   pub found : (s : ℕ) → getD reached s false ≡ true → (k : ℕ) × (k < size) × (getD node k 0 ≡ s)
   pub once : (j k : ℕ) → j < size → k < size → getD node j 0 ≡ getD node k 0 → j ≡ k
+
+-- a tree over targets that has reached s
+pub record Reaching (targets node parent dim : List ℕ) (reached : List Bool) (size s : ℕ) : Type 0 where
+  pub tree : TreeBy (ByTarget targets) node parent dim reached size
+  pub at : getD reached s false ≡ true
+
+-- a tree of the first c arcs
+abbrev pub Spans : List ℕ → ℕ → List ℕ → List ℕ → List ℕ → List Bool → ℕ → Type 0
+Spans arcs c = TreeBy (ByArc (partOf arcs) c)
+
+-- targets are the far ends of arcs
+pub record Aimed (targets arcs : List ℕ) (c : ℕ) : Type 0 where
+  pub at : (s i : ℕ) → s < 16 → i < 4 → entry targets s i < 16 → ByArc (partOf arcs) c i s (entry targets s i)
+
+-- arcs join nodes that are not added
+pub record Lefts (nodes : ℕ) (kinds arcs : List ℕ) (c : ℕ) : Type 0 where
+  pub from : (a : ℕ) → a < c → (partOf arcs a 1 < nodes) × (getD kinds (partOf arcs a 1) 0 ≡ 3 → ⊥)
+  pub to : (a : ℕ) → a < c → (partOf arcs a 2 < nodes) × (getD kinds (partOf arcs a 2) 0 ≡ 3 → ⊥)
 
 -- both ends of arc a are reached, or none
 abbrev pub Even : List ℕ → List Bool → ℕ → Type 0
@@ -69,7 +97,7 @@ pub record TreeOf (S : Scheme) (t : Tree) : Type 0 where
   pub few : t .size ≤ 16
   pub root : getD (t .node) 0 0 ≡ 0
   pub below : (k : ℕ) → k < t .size → getD (t .node) k 0 < S .nodes
-  pub branch : (k : ℕ) → 1 ≤ k → k < t .size → Branch (arcPart S left) (arcs S left) (t .node) (t .parent) (t .dim) k
+  pub branch : (k : ℕ) → 1 ≤ k → k < t .size → Branch (ByArc (arcPart S left) (arcs S left)) (t .node) (t .parent) (t .dim) k
   pub once : (j k : ℕ) → j < t .size → k < t .size → getD (t .node) j 0 ≡ getD (t .node) k 0 → j ≡ k
   pub path : (k : ℕ) → k < t .size → there (pathTo S (getD (t .node) k 0)) ≡ true
   pub entry : (s : ℕ) → there (pathTo S s) ≡ true → (k : ℕ) × (k < t .size) × (getD (t .node) k 0 ≡ s)

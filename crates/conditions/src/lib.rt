@@ -24,6 +24,7 @@ ghost use lib.ListN.{getD};
 ghost use mathlib.Core.Option.{Option·getD};
 ghost use Rattle.model.specs.Conditions.{schemeFault};
 ghost use Rattle.conditions.specs.Arcs.{Joins};
+ghost use Rattle.conditions.specs.Tree.{Aimed, Lefts};
 ghost use Rattle.conditions.specs.Hook.{HookBy};
 ghost use Rattle.conditions.specs.Cycles.{Coding};
 ghost use Rattle.conditions.specs.Incidence.{arcsAnswer};
@@ -37,17 +38,20 @@ fn hook_fault<'a>(
     orbit: &'a [u8; 4],
     kinds: &'a [u8; 16],
     words: &'a [u8; 64],
+    targets: &'a [u8; 64],
     count: usize,
     arcs: &'a [u8; 192],
 ) -> Found
     requires { ⌜ (places ≤ 4) × (nodes ≤ 16) ⌝ }
     requires { ⌜ Joins (now arcs) count ⌝ }
+    requires { ⌜ Aimed (now targets) (now arcs) count ⌝ }
+    requires { ⌜ Lefts nodes (now kinds) (now arcs) count ⌝ }
     ensures { λ r. ⌜ HookBy places nodes (now (orbit .entry)) (now (kinds .entry)) (now (words .entry)) count (now (arcs .entry)) r ⌝ }
 {
     if !hooked(places, orbit, kinds, words) {
         return Found::Node(0);
     }
-    let t = tree_of(count, arcs);
+    let t = tree_of(nodes, kinds, targets, count, arcs);
     unreached(nodes, kinds, &t.reached)
 }
 
@@ -86,6 +90,7 @@ pub fn fault(s: Scheme) -> Answer
         &s.orbit,
         &s.kinds,
         &s.lwords,
+        &s.ltargets,
         lcount,
         &s.larcs,
     );

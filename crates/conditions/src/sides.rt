@@ -15,7 +15,9 @@ pub fn left_tree(s: Scheme) -> Tree
     requires { ⌜ Formed s ⌝ }
     ensures { λ r. ⌜ TreeOf s r ⌝ }
 {
-    tree_of(wide(s.lcount), &s.larcs)
+    let nodes = wide(s.nodes);
+    let count = wide(s.lcount);
+    tree_of(nodes, &s.kinds, &s.ltargets, count, &s.larcs)
 }
 
 // The tables of a scheme's left side.

@@ -1,11 +1,15 @@
 // The tree of left arcs that reaches from node 0.
 use crate::arcs::part;
+use crate::arcs::wide;
+use crate::hook::Found;
+use crate::hook::unreached;
 ghost use mathlib.Core.Path.{_≡_};
-ghost use Prim.Native.Nat.{_+_, _<_};
-ghost use mathlib.Core.Bool.{true};
-ghost use lib.ListN.{set};
+ghost use Prim.Native.Nat.{_+_, _<_, _≤_};
+ghost use mathlib.Core.Bool.{true, false};
+ghost use lib.ListN.{getD, set};
 ghost use Rattle.conditions.specs.Arcs.{Joins};
-ghost use Rattle.conditions.specs.Tree.{Spans, Joined, Grown, Spanning};
+ghost use Rattle.conditions.specs.Tree.{ByTarget, TreeBy, Reaching, Aimed, Lefts, Spans, Joined, Grown, Spanning};
+ghost use Rattle.conditions.specs.Hook.{settledAt};
 
 // What is reached from node 0 over left arcs, as a tree: its first `size` entries. Entry 0 is node 0; any other is a node, with an
 // earlier one to which a left arc of dimension `dim` joins it. `reached` tells of each node whether it is an entry.
@@ -96,9 +100,102 @@ fn grow<'a>(
     k
 }
 
-// The tree of the first `count` arcs: passes over them, until one adds nothing.
-pub fn tree_of(count: usize, arcs: &[u8; 192]) -> Tree
+// The target of node s at dimension i, where it is a node that is not reached, becomes an entry. It returns the new number of entries.
+fn meet<'a>(
+    targets: &[u8; 64],
+    node: &'a mut [u8; 16],
+    parent: &'a mut [u8; 16],
+    dim: &'a mut [u8; 16],
+    reached: &'a mut [bool; 16],
+    size: usize,
+    s: usize,
+    i: usize,
+) -> usize
+    requires { ⌜ (s < 16) × (i < 4) ⌝ }
+    requires { ⌜ Reaching (now targets) (now node) (now parent) (now dim) (now reached) size s ⌝ }
+    ensures { λ r. ⌜ Reaching (now (targets .entry)) (now (node .exit)) (now (parent .exit)) (now (dim .exit)) (now (reached .exit)) r s ⌝ }
+{
+    let t = wide(targets[4 * s + i]);
+    if 16 <= t {
+        return size;
+    }
+    if reached[t] {
+        return size;
+    }
+    push(node, parent, dim, reached, size, i, s, t);
+    size + 1
+}
+
+// The targets of node s become entries. It returns the new number of entries.
+fn spread<'a>(
+    targets: &[u8; 64],
+    node: &'a mut [u8; 16],
+    parent: &'a mut [u8; 16],
+    dim: &'a mut [u8; 16],
+    reached: &'a mut [bool; 16],
+    size: usize,
+    s: usize,
+) -> usize
+    requires { ⌜ s < 16 ⌝ }
+    requires { ⌜ Reaching (now targets) (now node) (now parent) (now dim) (now reached) size s ⌝ }
+    ensures { λ r. ⌜ Reaching (now (targets .entry)) (now (node .exit)) (now (parent .exit)) (now (dim .exit)) (now (reached .exit)) r s ⌝ }
+{
+    let mut k = size;
+    let mut i = 0;
+    while i < 4 {
+        k = meet(targets, node, parent, dim, reached, k, s, i);
+        i += 1;
+    }
+    k
+}
+
+// The tree over targets, from node 0, the only entry at first. It returns the number of entries.
+fn walk<'a>(
+    targets: &[u8; 64],
+    node: &'a mut [u8; 16],
+    parent: &'a mut [u8; 16],
+    dim: &'a mut [u8; 16],
+    reached: &'a mut [bool; 16],
+) -> usize
+    requires { ⌜ TreeBy (ByTarget (now targets)) (now node) (now parent) (now dim) (now reached) 1 ⌝ }
+    ensures { λ r. ⌜ TreeBy (ByTarget (now (targets .entry))) (now (node .exit)) (now (parent .exit)) (now (dim .exit)) (now (reached .exit)) r ⌝ }
+{
+    let mut size = 1;
+    let mut k = 0;
+    while k < size {
+        let s = wide(node[k]);
+        size = spread(targets, node, parent, dim, reached, size, s);
+        k += 1;
+    }
+    size
+}
+
+// How far the arcs have to be passed over: not at all, where all left nodes are entries, since arcs join left nodes.
+fn settled<'a>(nodes: usize, kinds: &'a [u8; 16], reached: &'a [bool; 16], size: usize) -> usize
+    requires { ⌜ nodes ≤ 16 ⌝ }
+    ensures { λ r. ⌜ r ≡ settledAt nodes (now (kinds .entry)) (now (reached .entry)) size ⌝ }
+{
+    let out = unreached(nodes, kinds, reached);
+    match out {
+        Found::Nothing => size,
+        Found::Node(_) => 0,
+    }
+}
+
+// The tree of the first `count` arcs. Each node's target of a dimension is the far end of its first arc of that dimension, so the
+// targets reach all left nodes unless one is reached by a second arc alone, or not at all: then the arcs are passed over, until a
+// pass adds nothing.
+pub fn tree_of<'a>(
+    nodes: usize,
+    kinds: &'a [u8; 16],
+    targets: &'a [u8; 64],
+    count: usize,
+    arcs: &'a [u8; 192],
+) -> Tree
+    requires { ⌜ nodes ≤ 16 ⌝ }
     requires { ⌜ Joins (now arcs) count ⌝ }
+    requires { ⌜ Aimed (now targets) (now arcs) count ⌝ }
+    requires { ⌜ Lefts nodes (now kinds) (now arcs) count ⌝ }
     ensures { λ r. ⌜ Spanning (now (arcs .entry)) count r ⌝ }
 {
     let mut node = [0u8; 16];
@@ -106,8 +203,8 @@ pub fn tree_of(count: usize, arcs: &[u8; 192]) -> Tree
     let mut dim = [0u8; 16];
     let mut reached = [false; 16];
     reached[0] = true;
-    let mut last = 0;
-    let mut size = 1;
+    let mut size = walk(targets, &mut node, &mut parent, &mut dim, &mut reached);
+    let mut last = settled(nodes, kinds, &reached, size);
     while last < size {
         last = size;
         size = grow(

@@ -37,7 +37,7 @@ module _ (S : Scheme) (A : Accepted S) where
     entry-left : (k : ℕ) → k < t .size → has S left (getD (t .node) k 0) ≡ true
     entry-left k h = by-cases (ℕ-discrete k 0)
         (λ e. ap (λ (z : ℕ). has S left (getD (t .node) z 0)) e ∙ ap (has S left) (T .root) ∙ A .hookKind)
-        (λ ne. let b = T .branch k (omega arith) h in end-left (b .arc) _ _ (b .below) (b .ends))
+        (λ ne. let b = T .branch k (omega arith) h in end-left (b .joined .arc) _ _ (b .joined .below) (b .joined .ends))
 
     pub rooted : Rooted S (t .size) (t .node) (t .parent) (t .dim)
     rooted = record {
@@ -47,7 +47,7 @@ module _ (S : Scheme) (A : Accepted S) where
       onLeft = λ k h. (T .below k h, entry-left k h);
       arc = λ k l h.
           let b = T .branch k l h in
-          (subst (λ (i : ℕ). i ≤ S .n) (b .dimIs) (A .formed .sides left .dims (b .arc) (b .below)), end-arc (b .arc) _ _ _ (b .below) (b .dimIs) (b .ends));
+          (subst (λ (i : ℕ). i ≤ S .n) (b .joined .dimIs) (A .formed .sides left .dims (b .joined .arc) (b .joined .below)), end-arc (b .joined .arc) _ _ _ (b .joined .below) (b .joined .dimIs) (b .joined .ends));
       earlier = λ k l h. let b = T .branch k l h in (b .earlier, b .before, b .parentIs);
       once = T .once;
       every = λ s h l. T .entry s (reached-found S (A .formed) (A .reach s h l));

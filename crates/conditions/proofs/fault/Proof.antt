@@ -47,7 +47,7 @@ module _ (w : tie.After-wide3) where
 -- what the three calls have shown
 module _ (c : tie.After-hook-fault) where
   abbrev read : tie.After-wide3
-  read = c .before .before .before .before .before .before
+  read = c .before .before .before .before .before .before .before
 
   hook-found : c .hook-fault .result ≡ foundOf (hookFault (scheme read))
   hook-found = hook-of (scheme read) (start read .pre) (long-lwords read) _ _ _ (places-is read) (nodes-is read) (count-is read) _ (c .hook-fault .ensures)
@@ -80,7 +80,7 @@ wide-requires-3 : tie.Need-wide-requires-3
 wide-requires-3 c κs = search needs
 
 hook-fault-requires : tie.Need-hook-fault-requires
-hook-fault-requires c κs = let w = c .before .before .before .before .before in hook-asks (scheme w) (start w .pre) (long-lwords w) _ _ _ (places-is w) (nodes-is w) (count-is w)
+hook-fault-requires c κs = let w = c .before .before .before .before .before .before in hook-asks (scheme w) (start w .pre) (long-lwords w) _ _ _ (places-is w) (nodes-is w) (count-is w) (long-ltargets w)
 
 enum-known-hook : tie.Need-enum-known-hook
 enum-known-hook c = search needs

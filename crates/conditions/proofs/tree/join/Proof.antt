@@ -47,13 +47,13 @@ push-requires : tie.Need-push-requires
 push-requires c κs =
     let e = c .before .before .before .before in
     let d = e .before .before .before .before in
-    (room _ _ _ _ _ _ _ (start d .pre .1 .1) _ (to-small d) (e .if2 .left), dim-small d, from-small d, to-small d)
+    (room _ _ _ _ _ _ (start d .pre .1 .1) _ (to-small d) (e .if2 .left), dim-small d, from-small d, to-small d)
 
 add-result : tie.Need-add-result
 add-result c =
     let e = c .before .before .before .before .before in
     let d = e .before .before .before .before in
-    omega (arith, room _ _ _ _ _ _ _ (start d .pre .1 .1) _ (to-small d) (e .if2 .left))
+    omega (arith, room _ _ _ _ _ _ (start d .pre .1 .1) _ (to-small d) (e .if2 .left))
 
 returns-2 : tie.Need-returns-2
 returns-2 c =
@@ -71,13 +71,13 @@ push-requires-2 : tie.Need-push-requires-2
 push-requires-2 c κs =
     let e = c .before .before .before .before in
     let d = e .before .before .before .before in
-    (room _ _ _ _ _ _ _ (start d .pre .1 .1) _ (from-small d) (e .before .before .if1 .left), dim-small d, to-small d, from-small d)
+    (room _ _ _ _ _ _ (start d .pre .1 .1) _ (from-small d) (e .before .before .if1 .left), dim-small d, to-small d, from-small d)
 
 add-result-2 : tie.Need-add-result-2
 add-result-2 c =
     let e = c .before .before .before .before .before in
     let d = e .before .before .before .before in
-    omega (arith, room _ _ _ _ _ _ _ (start d .pre .1 .1) _ (from-small d) (e .before .before .if1 .left))
+    omega (arith, room _ _ _ _ _ _ (start d .pre .1 .1) _ (from-small d) (e .before .before .if1 .left))
 
 returns-3 : tie.Need-returns-3
 returns-3 c =
