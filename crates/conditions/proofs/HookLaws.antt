@@ -24,7 +24,7 @@ use Rattle.model.specs.declared.Scheme.{Scheme}
 use Rattle.model.proofs.AcceptedLaws as AcceptedLaws
 use Rattle.conditions.specs.Tree.{Lefts, TreeOf}
 use Rattle.conditions.specs.declared.tree.Tree.{Tree}
-use Rattle.conditions.specs.Hook.{hookedBy, leftOut, foundOf, settledAt}
+use Rattle.conditions.specs.Hook.{hookedBy, leftOut, foundOf, settledAt, hookBy}
 use Rattle.conditions.specs.declared.hook.Found.{Found}
 use Rattle.conditions.specs.declared.hook.Found.the-variants.{Node, Nothing}
 
@@ -72,6 +72,18 @@ module _ (kinds : List ℕ) (reached : List Bool) (s : ℕ) where
   pub out-left : (getD kinds s 0 ≡ 3 → ⊥) → leftOut kinds reached s ≡ not (getD reached s false)
   unfolding leftOut _and_
   out-left ne = rw (ne-eqb _ _ ne)
+
+-- ---- the hook's fault
+
+module _ (places nodes : ℕ) (orbit kinds words : List ℕ) (reached : List Bool) where
+  pub hook-wrong : hookedBy places orbit kinds words ≡ false → Node 0 ≡ foundOf (hookBy places nodes orbit kinds words reached)
+  unfolding hookBy
+  hook-wrong q = rw q
+
+  pub hook-left : hookedBy places orbit kinds words ≡ true → (r : Found) → r ≡ foundOf (least nodes (leftOut kinds reached))
+      → r ≡ foundOf (hookBy places nodes orbit kinds words reached)
+  unfolding hookBy
+  hook-left q r e = rw q e
 
 -- ---- whether the walk over targets was enough
 

@@ -10,8 +10,6 @@ use lib.Dec.{eqb}
 use Rattle.base.specs.Test.{_and_}
 use Rattle.base.specs.Below.{all}
 use Rattle.base.specs.First.{least, there}
-use Rattle.conditions.specs.Tree.{Spanning}
-use Rattle.conditions.specs.declared.tree.Tree.{Tree}
 use Rattle.conditions.specs.declared.hook.Found.{Found}
 use Rattle.conditions.specs.declared.hook.Found.the-variants.{Node, Nothing}
 
@@ -31,8 +29,6 @@ foundOf (some s) = Node s
 unfoldable pub settledAt : ℕ → List ℕ → List Bool → ℕ → ℕ
 settledAt nodes kinds reached size = cond (there (least nodes (leftOut kinds reached))) 0 size
 
--- the hook's fault: node 0, or what the tree of the left arcs does not reach
-pub data HookBy (places nodes : ℕ) (orbit kinds words : List ℕ) (c : ℕ) (arcs : List ℕ) (r : Found) : Type 0 where
-  wrongHook : hookedBy places orbit kinds words ≡ false → r ≡ Node 0 → HookBy places nodes orbit kinds words c arcs r
-  leftOver : hookedBy places orbit kinds words ≡ true → (t : Tree) → Spanning arcs c t
-      → r ≡ foundOf (least nodes (leftOut kinds (t .reached))) → HookBy places nodes orbit kinds words c arcs r
+-- the hook's fault: node 0, or the least left node that is not reached
+unfoldable pub hookBy : ℕ → ℕ → List ℕ → List ℕ → List ℕ → List Bool → Option ℕ
+hookBy places nodes orbit kinds words reached = cond (hookedBy places orbit kinds words) (least nodes (leftOut kinds reached)) (some 0)

@@ -1,6 +1,8 @@
 pub mod Arcs
 pub mod Tree
+pub mod Sides
 pub mod Hook
 pub mod Cycles
 pub mod Incidence
 pub mod Nodes
+pub mod Verdict

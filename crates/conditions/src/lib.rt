@@ -16,20 +16,16 @@ use hook::hooked;
 use hook::unreached;
 use incidence::unbalanced;
 use model::Answer;
-use model::Scheme;
+use sides::Sides;
 use tree::tree_of;
 ghost use mathlib.Core.Path.{_≡_};
 ghost use Prim.Native.Nat.{ℕ, _<_, _≤_};
-ghost use lib.ListN.{getD};
-ghost use mathlib.Core.Option.{Option·getD};
-ghost use Rattle.model.specs.Conditions.{schemeFault};
-ghost use Rattle.conditions.specs.Arcs.{Joins};
-ghost use Rattle.conditions.specs.Tree.{Aimed, Lefts};
-ghost use Rattle.conditions.specs.Hook.{HookBy};
+ghost use lib.ListN.{length, getD};
+ghost use Rattle.model.specs.Formed.{Formed};
+ghost use Rattle.conditions.specs.Hook.{foundOf, hookBy};
 ghost use Rattle.conditions.specs.Cycles.{Coding};
 ghost use Rattle.conditions.specs.Incidence.{arcsAnswer};
-ghost use Rattle.model.specs.Formed.{Formed};
-ghost use Rattle.model.specs.declared.Answer.the-variants.{Done};
+ghost use Rattle.conditions.specs.Verdict.{faultBy, schemeBy, VerdictOf};
 
 // The hook's fault: node 0, or the least left node that is not reached from it.
 fn hook_fault<'a>(
@@ -38,21 +34,15 @@ fn hook_fault<'a>(
     orbit: &'a [u8; 4],
     kinds: &'a [u8; 16],
     words: &'a [u8; 64],
-    targets: &'a [u8; 64],
-    count: usize,
-    arcs: &'a [u8; 192],
+    reached: &'a [bool; 16],
 ) -> Found
     requires { ⌜ (places ≤ 4) × (nodes ≤ 16) ⌝ }
-    requires { ⌜ Joins (now arcs) count ⌝ }
-    requires { ⌜ Aimed (now targets) (now arcs) count ⌝ }
-    requires { ⌜ Lefts nodes (now kinds) (now arcs) count ⌝ }
-    ensures { λ r. ⌜ HookBy places nodes (now (orbit .entry)) (now (kinds .entry)) (now (words .entry)) count (now (arcs .entry)) r ⌝ }
+    ensures { λ r. ⌜ r ≡ foundOf (hookBy places nodes (now (orbit .entry)) (now (kinds .entry)) (now (words .entry)) (now (reached .entry))) ⌝ }
 {
     if !hooked(places, orbit, kinds, words) {
         return Found::Node(0);
     }
-    let t = tree_of(nodes, kinds, targets, count, arcs);
-    unreached(nodes, kinds, &t.reached)
+    unreached(nodes, kinds, reached)
 }
 
 // The fault of incidence, or else that of the cycles.
@@ -76,29 +66,72 @@ fn arcs_fault<'a>(
     cycle_fault(n, nodes, orbit, kinds, &left.codes, &right.codes)
 }
 
-// The first fault of a scheme: refusal 3, 4 or 5, or done where it is accepted.
-pub fn fault(s: Scheme) -> Answer
-    requires { ⌜ Formed s ⌝ }
-    ensures { λ r. ⌜ r ≡ Option·getD (schemeFault s) Done ⌝ }
+// The first fault, from the tree of left arcs and the tables of both sides.
+fn fault<'a>(
+    n: u8,
+    places: usize,
+    nodes: usize,
+    orbit: &'a [u8; 4],
+    kinds: &'a [u8; 16],
+    words: &'a [u8; 64],
+    reached: &'a [bool; 16],
+    left: Arcs,
+    right: Arcs,
+) -> Answer
+    requires { ⌜ (n ≤ 3) × (places ≤ 4) × (nodes ≤ 16) ⌝ }
+    requires { ⌜ ((s : ℕ) → s < nodes → (1 ≤ getD (now kinds) s 0) × (getD (now kinds) s 0 ≤ 3)) ⌝ }
+    requires { ⌜ Coding nodes (left .codes) × Coding nodes (right .codes) ⌝ }
+    ensures { λ r. ⌜ r ≡ faultBy n places nodes (now (orbit .entry)) (now (kinds .entry)) (now (words .entry)) (now (reached .entry)) (left .counts) (right .counts) (left .codes) (right .codes) ⌝ }
 {
-    let places = wide(s.places);
-    let nodes = wide(s.nodes);
-    let lcount = wide(s.lcount);
-    let hook = hook_fault(
-        places,
-        nodes,
-        &s.orbit,
-        &s.kinds,
-        &s.lwords,
-        &s.ltargets,
-        lcount,
-        &s.larcs,
-    );
+    let hook = hook_fault(places, nodes, orbit, kinds, words, reached);
     if let Found::Node(x) = hook {
         return Answer::BadHook(x);
     }
-    let rcount = wide(s.rcount);
-    let left = arcs_of(places, nodes, &s.ltargets, &s.lwords, lcount, &s.larcs);
-    let right = arcs_of(places, nodes, &s.rtargets, &s.rwords, rcount, &s.rarcs);
-    arcs_fault(s.n, nodes, &s.orbit, &s.kinds, left, right)
+    arcs_fault(n, nodes, orbit, kinds, left, right)
+}
+
+// What is known of a scheme: its first fault of refusals 3 to 5, or done where it is accepted, and what an edit needs of its sides.
+pub struct Verdict {
+    pub answer: Answer,
+    pub sides: Sides,
+}
+
+// Judges a scheme, which is lent in its parts: it is long to copy.
+pub fn judge<'a>(
+    n: u8,
+    places: u8,
+    nodes: u8,
+    orbit: &'a [u8; 4],
+    kinds: &'a [u8; 16],
+    lwords: &'a [u8; 64],
+    rwords: &'a [u8; 64],
+    ltargets: &'a [u8; 64],
+    rtargets: &'a [u8; 64],
+    lcount: u8,
+    larcs: &'a [u8; 192],
+    rcount: u8,
+    rarcs: &'a [u8; 192],
+) -> Verdict
+    requires { ⌜ (length (now lwords) ≡ 64) × (length (now rwords) ≡ 64) × (length (now ltargets) ≡ 64) × (length (now rtargets) ≡ 64) ⌝ }
+    requires { ⌜ Formed (schemeBy n places nodes (now orbit) (now kinds) (now lwords) (now rwords) (now ltargets) (now rtargets) lcount (now larcs) rcount (now rarcs)) ⌝ }
+    ensures { λ r. ⌜ VerdictOf (schemeBy n places nodes (now (orbit .entry)) (now (kinds .entry)) (now (lwords .entry)) (now (rwords .entry)) (now (ltargets .entry)) (now (rtargets .entry)) lcount (now (larcs .entry)) rcount (now (rarcs .entry))) r ⌝ }
+{
+    let k = wide(places);
+    let c = wide(nodes);
+    let lefts = wide(lcount);
+    let rights = wide(rcount);
+    let tree = tree_of(c, kinds, ltargets, lefts, larcs);
+    let left = arcs_of(k, c, ltargets, lwords, lefts, larcs);
+    let right = arcs_of(k, c, rtargets, rwords, rights, rarcs);
+    let answer = fault(n, k, c, orbit, kinds, lwords, &tree.reached, left, right);
+    let lcodes = left.codes;
+    let rcodes = right.codes;
+    Verdict {
+        answer: answer,
+        sides: Sides {
+            tree: tree,
+            lcodes: lcodes,
+            rcodes: rcodes,
+        },
+    }
 }

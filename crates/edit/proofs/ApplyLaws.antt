@@ -1,9 +1,8 @@
 -- From one phase of an edit to the next, and what its ends come to.
 -- Assumes nothing.
 use Prim.Native.Nat.{ℕ, _*_, _≤_, _<_}
-use mathlib.Core.Path.{_≡_, refl, sym, ap, ap₂, _∙_, subst}
-use mathlib.Core.Bool.{Bool, true, false, not}
-use mathlib.Core.Option.{none, some}
+use mathlib.Core.Path.{_≡_, refl, sym, ap₂, _∙_, subst}
+use mathlib.Core.Bool.{Bool, true, false}
 use mathlib.Core.List.{List}
 use native.Mathlib.Nat.{mul-le-mul-left, mul-le-mul-right}
 use native.Mathlib.Omega.{arith}
@@ -13,27 +12,26 @@ use borrow.Author.Tests.{lt-ltb, le-ltb}
 use Rattle.base.specs.Below.{count}
 use Rattle.base.proofs.BelowLaws.{count-le}
 use Rattle.base.specs.First.{when, _orElse_, there, nth}
-use Rattle.model.specs.Map.{view, unused}
-use Rattle.model.specs.Scheme.{left, right, orbitDim, added, deleted}
+use Rattle.model.specs.Map.{view, words, unused}
+use Rattle.model.specs.Scheme.{orbitDim, added}
 use Rattle.model.specs.Match.{image, matches, Assignment}
-use Rattle.model.specs.Edit.{orbitSize, addedDarts, deletedDarts}
+use Rattle.model.specs.Edit.{orbitSize, addedDarts, deletedDarts, edited}
 use Rattle.model.specs.Calls.{roomFault}
 use Rattle.model.specs.declared.Scheme.{Scheme}
 use Rattle.model.specs.declared.Answer.the-variants.{Edited, NoMatch, NoRoom}
 use Rattle.model.proofs.AcceptedLaws.{small}
 use Rattle.model.proofs.MatchLaws.{match-assigns}
 use Rattle.model.proofs.MatchIff.{good-orbit}
-use Rattle.conditions.specs.Arcs.{Coded}
 use Rattle.conditions.specs.Nodes.{isKind, Listed}
-use Rattle.conditions.specs.Tree.{TreeOf}
-use Rattle.conditions.specs.declared.tree.Tree.{Tree}
+use Rattle.conditions.specs.Sides.{SidesOf}
+use Rattle.conditions.specs.declared.sides.Sides.{Sides}
 use Rattle.edit.specs.Store.{Taken, Walked}
 use Rattle.edit.specs.Walk as W
 use Rattle.edit.specs.Columns as C
 use Rattle.edit.specs.Grant as G
 use Rattle.edit.specs.Links as L
 use Rattle.edit.specs.Links.{orbitFor}
-use Rattle.edit.specs.Apply.{At, Walking, Fitting, Roomy, Granted, Applied, rewritten}
+use Rattle.edit.specs.Apply.{At, Walking, Settling, Applied, rewritten}
 use Rattle.edit.proofs.RootedLaws.{rooted}
 use Rattle.edit.proofs.WalkLaws.{walked-kept}
 
@@ -49,9 +47,12 @@ module _ (slots : ℕ) (t : List ℕ) (S : Scheme) (d : ℕ) (A : At slots t S d
 -- ---- the ends
 
 module _ (slots : ℕ) (t : List ℕ) (S : Scheme) (d : ℕ) where
-  pub no-match : matches (view slots t) S (orbitFor (view slots t) S d) ≡ false → Applied slots t S d NoMatch t
+  pub no-match : {store store′ cols : List ℕ} {size : ℕ} {answer : Bool} → C.Matched S d slots t store store′ cols size answer → answer ≡ false
+      → Applied slots t S d NoMatch t
   unfolding roomFault when _orElse_ there
-  no-match e = record { answer = rw e refl; table = rw e refl }
+  no-match m e =
+      let q : matches (view slots t) S (orbitFor (view slots t) S d) ≡ false = sym (m .is) ∙ e in
+      record { answer = rw q refl; table = rw q refl }
 
 -- ---- from one phase to the next
 
@@ -75,145 +76,138 @@ walking slots t store S size d k A e w o = record {
   taken = o;
 }
 
--- the match can be looked for, with the tree and the codes of the scheme
-abbrev pub match-ready : (slots : ℕ) (t store : List ℕ) (S : Scheme) (size d : ℕ) (cols : List ℕ) → Walking slots t store S size d → (tree : Tree) → TreeOf S tree
-    → (codes : List ℕ) → Coded S left codes → length cols ≡ 16
-    → C.Posed slots t store size (tree .node) (tree .parent) (tree .dim) (tree .size) codes cols
-match-ready slots t store S size d cols w tree T codes k wide = record {
-  ready = record {
-    scheme = S;
-    dart = d;
-    accepted = w .at .accepted;
-    sized = w .at .sized;
-    formed = w .at .well;
-    below = w .at .slot;
-    alive = w .at .alive;
-    walked = w .walked;
-    taken = w .taken;
-    rooted = rooted S (w .at .accepted) tree T;
-  };
-  coded = k;
-  colsLong = wide;
-}
-
--- the darts of the added pairs can be given
-abbrev pub give-ready : (slots : ℕ) (t store : List ℕ) (S : Scheme) (size d : ℕ) (cols nodes : List ℕ) (many : ℕ) → Fitting slots t store S size d cols
-    → Roomy slots t S d nodes many → G.Ready slots t store size nodes many cols
-give-ready slots t store S size d cols nodes many f r = record {
-  scheme = S;
-  dart = d;
-  formed = f .at .accepted .formed;
-  sized = f .at .sized;
-  long = f .long;
-  well = f .at .well;
-  slot = f .at .slot;
-  alive = f .at .alive;
-  walked = f .walked;
-  assigned = f .assigned;
-  listed = r .listed;
-  wide = f .wide;
-  room = r .room;
-}
-
--- and every pair has its dart then
-abbrev pub given-all : (slots : ℕ) (t store : List ℕ) (S : Scheme) (size d : ℕ) (cols nodes : List ℕ) (many : ℕ) (t′ store′ cols′ : List ℕ)
-    → Fitting slots t store S size d cols → Roomy slots t S d nodes many
-    → G.Granted (view slots t) S (orbitFor (view slots t) S d) t store t′ store′ cols′ size → Granted slots t′ store′ S size cols′
-given-all slots t store S size d cols nodes many t′ store′ cols′ f r g = record {
-  dart = d;
-  before = t;
-  at = f .at;
-  sized = record { few = f .at .sized .few; long = g .given .long ∙ f .at .sized .long };
-  long = g .kept .long ∙ f .long;
-  walked = walked-kept _ _ _ _ store store′ size (places-few slots t S d (f .at)) (f .walked) (g .kept);
-  match = f .match;
-  room = r .room;
-  given = g .given;
-  darts = g .darts;
-}
-
--- the links can be rewritten
-abbrev pub link-ready : (slots : ℕ) (t store : List ℕ) (S : Scheme) (size : ℕ) (cols kinds codes : List ℕ) (c : ℕ) (g : Granted slots t store S size cols)
-    → kinds ≡ S .kinds → Coded S right codes → c ≡ S .nodes → L.Ready slots t store size kinds codes c cols
-link-ready slots t store S size cols kinds codes c g k o n = record {
-  scheme = S;
-  dart = g .dart;
-  before = g .before;
-  accepted = g .at .accepted;
-  sized = g .sized;
-  stored = g .long;
-  walked = g .walked;
-  darts = g .darts;
-  match = assignment slots (g .before) S (g .dart) (g .at) (g .match);
-  room = g .room;
-  given = g .given;
-  nodes = n;
-  kinded = k;
-  coded = o;
-}
-
--- what fits goes on to the rewriting
-pub fit-on : (slots : ℕ) (t store store′ : List ℕ) (S : Scheme) (size d : ℕ) (cols : List ℕ) → Walking slots t store S size d
-    → (answer : Bool) → C.Matched S d slots t store store′ cols size answer → answer ≡ true → Fitting slots t store′ S size d cols
-fit-on slots t store store′ S size d cols w answer m e = record {
-  at = w .at;
-  long = m .long ∙ w .taken .long;
-  walked = walked-kept _ _ _ _ store store′ size (places-few slots t S d (w .at)) (w .walked) (m .kept e);
-  match = sym (m .is) ∙ e;
-  assigned = m .assigned e;
-  wide = m .wide e;
-}
-
--- ---- the numbers of an edit
-
--- the nodes of a kind among all nodes of the scheme
-pub kind-count : (S : Scheme) (k c : ℕ) (node : List ℕ) (many : ℕ) → Listed c (S .kinds) k node many → c ≡ S .nodes → many ≡ count (S .nodes) (isKind (S .kinds) k)
-kind-count S k c node many n e = n .total ∙ ap (λ (z : ℕ). count z (isKind (S .kinds) k)) e
-
-pub kind-listed : (S : Scheme) (c : ℕ) (node : List ℕ) (many : ℕ) → Listed c (S .kinds) 3 node many → c ≡ S .nodes → G.Listed S node many
-kind-listed S c node many n e = record {
-  every = kind-count S 3 c node many n e;
-  node = λ a h. ap (λ (z : ℕ). nth z (isKind (S .kinds) 3) a) (sym e) ∙ n .each a h;
-}
-
--- the darts of the nodes of a kind are few
-pub pairs-few : (slots : ℕ) (t store : List ℕ) (S : Scheme) (size d : ℕ) (cols : List ℕ) → Fitting slots t store S size d cols
-    → (k c : ℕ) (node : List ℕ) (many : ℕ) → Listed c (S .kinds) k node many → c ≡ S .nodes → (size ≤ 1024) × (size * many ≤ 16384)
-pairs-few slots t store S size d cols f k c node many n e =
-    let few : size ≤ 1024 = omega (arith, f .walked .fits, f .at .sized .few) in
-    let below : many ≤ c = rw (n .total) (count-le c (isKind (S .kinds) k)) in
-    let nodes : many ≤ 16 = omega (arith, f .at .accepted .formed .nodesFew) in
-    (few, omega (arith, mul-le-mul-right many few, mul-le-mul-left 1024 nodes))
-
--- ---- the ends of an edit that fits
-
-module _ (slots : ℕ) (t store : List ℕ) (S : Scheme) (size d : ℕ) (cols : List ℕ) (f : Fitting slots t store S size d cols)
-    (room : ℕ) (free : room ≡ count slots (unused (view slots t))) (c : ℕ) (e : c ≡ S .nodes)
-    (node : List ℕ) (many : ℕ) (new : Listed c (S .kinds) 3 node many) where
-  added-is : size * many ≡ addedDarts (view slots t) S (orbitFor (view slots t) S d)
-  unfolding addedDarts orbitSize
-  added-is = ap₂ _*_ (sym (f .walked .counted)) (kind-count S 3 c node many new e)
-
-  pub no-room : room < size * many → Applied slots t S d NoRoom t
-  unfolding roomFault when _orElse_ there
-  no-room h =
-      let short : ltb (count slots (unused (view slots t))) (addedDarts (view slots t) S (orbitFor (view slots t) S d)) ≡ true =
-      ap₂ ltb (sym free) (sym added-is) ∙ lt-ltb room (size * many) h in
-      record { answer = rw (f .match, short) refl; table = rw (f .match, short) refl }
-
-  pub roomy : size * many ≤ room → Roomy slots t S d node many
-  roomy h = record {
-    listed = kind-listed S c node many new e;
-    room = subst (λ (k : ℕ). k ≤ count slots (unused (view slots t))) added-is (subst (λ (k : ℕ). size * many ≤ k) free h);
+-- the match can be looked for, with the scheme's sides; what fits goes on to its end
+module _ {slots : ℕ} {t store : List ℕ} {S : Scheme} {size d : ℕ} (w : Walking slots t store S size d) {p : Sides} (P : SidesOf S p) where
+  abbrev pub match-ready : (cols : List ℕ) → length cols ≡ 16
+      → C.Posed slots t store size (p .tree .node) (p .tree .parent) (p .tree .dim) (p .tree .size) (p .lcodes) cols
+  match-ready cols wide = record {
+    ready = record {
+      scheme = S;
+      dart = d;
+      accepted = w .at .accepted;
+      sized = w .at .sized;
+      formed = w .at .well;
+      below = w .at .slot;
+      alive = w .at .alive;
+      walked = w .walked;
+      taken = w .taken;
+      rooted = rooted S (w .at .accepted) (p .tree) (P .tree);
+    };
+    coded = P .lefts;
+    colsLong = wide;
   }
 
-  pub done : (other : List ℕ) (gone : ℕ) → Listed c (S .kinds) 1 other gone → size * many ≤ room → (t′ : List ℕ) → t′ ≡ rewritten slots t S d
-      → Applied slots t S d (Edited size (size * many) (size * gone)) t′
-  unfolding roomFault when _orElse_ there addedDarts deletedDarts orbitSize
-  done other gone old h t′ q =
-      let s = f .walked .counted in
-      let n = kind-count S 3 c node many new e in
-      let g = kind-count S 1 c other gone old e in
-      let wide : ltb (count slots (unused (view slots t))) (count slots (orbitFor (view slots t) S d) * count (S .nodes) (added S)) ≡ false =
-      ap₂ ltb (sym free) (ap₂ _*_ s (sym n)) ∙ le-ltb room (size * many) h in
-      record { answer = rw (f .match, wide, s, ← n, ← g) refl; table = rw (f .match, wide) q }
+  abbrev pub settle-ready : (store′ cols′ : List ℕ) (answer : Bool) → C.Matched S d slots t store store′ cols′ size answer → answer ≡ true
+      → (c : ℕ) → c ≡ S .nodes → (room : ℕ) → room ≡ count slots (unused (view slots t))
+      → Settling slots t store′ c (S .kinds) (p .rcodes) size room d cols′
+  settle-ready store′ cols′ answer m e c n room free = record {
+    scheme = S;
+    fitting = record {
+      at = w .at;
+      long = m .long ∙ w .taken .long;
+      walked = walked-kept _ _ _ _ store store′ size (places-few slots t S d (w .at)) (w .walked) (m .kept e);
+      match = sym (m .is) ∙ e;
+      assigned = m .assigned e;
+      wide = m .wide e;
+    };
+    nodes = n;
+    kinded = refl;
+    coded = P .rights;
+    free = free;
+  }
+
+-- ---- the end of an edit
+
+module _ {slots : ℕ} {t store : List ℕ} {c : ℕ} {kinds codes : List ℕ} {size room d : ℕ} {cols : List ℕ}
+    (E : Settling slots t store c kinds codes size room d cols) where
+  abbrev orbitOf : ℕ → Bool
+  orbitOf = orbitFor (view slots t) (E .scheme) d
+
+  nodes-few : c ≤ 16
+  nodes-few = omega (arith, E .nodes, E .fitting .at .accepted .formed .nodesFew)
+
+  -- the nodes of a kind are those of the scheme, and their darts are few
+  module _ {k : ℕ} {node : List ℕ} {many : ℕ} (n : Listed c kinds k node many) where
+    kind-count : many ≡ count (E .scheme .nodes) (isKind (E .scheme .kinds) k)
+    kind-count = n .total ∙ ap₂ (λ (z : ℕ) (l : List ℕ). count z (isKind l k)) (E .nodes) (E .kinded)
+
+    pub pairs-few : (size ≤ 1024) × (size * many ≤ 16384)
+    pairs-few =
+        let few : size ≤ 1024 = omega (arith, E .fitting .walked .fits, E .fitting .at .sized .few) in
+        let below : many ≤ c = rw (n .total) (count-le c (isKind kinds k)) in
+        let nodes : many ≤ 16 = omega (arith, nodes-few) in
+        (few, omega (arith, mul-le-mul-right many few, mul-le-mul-left 1024 nodes))
+
+  -- the added nodes are listed
+  module _ {node : List ℕ} {many : ℕ} (new : Listed c kinds 3 node many) where
+    added-is : size * many ≡ addedDarts (view slots t) (E .scheme) orbitOf
+    unfolding addedDarts orbitSize
+    added-is = ap₂ _*_ (sym (E .fitting .walked .counted)) (kind-count new)
+
+    pub no-room : room < size * many → Applied slots t (E .scheme) d NoRoom t
+    unfolding roomFault when _orElse_ there
+    no-room h =
+        let short : ltb (count slots (unused (view slots t))) (addedDarts (view slots t) (E .scheme) orbitOf) ≡ true =
+        ap₂ ltb (sym (E .free)) (sym added-is) ∙ lt-ltb room (size * many) h in
+        record { answer = rw (E .fitting .match, short) refl; table = rw (E .fitting .match, short) refl }
+
+    -- and there is room for their darts
+    module _ (h : size * many ≤ room) where
+      pub roomy : addedDarts (view slots t) (E .scheme) orbitOf ≤ count slots (unused (view slots t))
+      roomy = subst (λ (k : ℕ). k ≤ count slots (unused (view slots t))) added-is (subst (λ (k : ℕ). size * many ≤ k) (E .free) h)
+
+      pub listed : G.Listed (E .scheme) node many
+      listed = record {
+        every = kind-count new;
+        node = λ a l. sym (ap₂ (λ (z : ℕ) (q : List ℕ). nth z (isKind q 3) a) (E .nodes) (E .kinded)) ∙ new .each a l;
+      }
+
+      -- the darts of the added pairs can be given
+      abbrev pub give-ready : G.Ready slots t store size node many cols
+      give-ready = record {
+        scheme = E .scheme;
+        dart = d;
+        formed = E .fitting .at .accepted .formed;
+        sized = E .fitting .at .sized;
+        long = E .fitting .long;
+        well = E .fitting .at .well;
+        slot = E .fitting .at .slot;
+        alive = E .fitting .at .alive;
+        walked = E .fitting .walked;
+        assigned = E .fitting .assigned;
+        listed = listed;
+        wide = E .fitting .wide;
+        room = roomy;
+      }
+
+      -- and with them the links can be rewritten
+      abbrev pub link-ready : (t′ store′ cols′ : List ℕ) → G.Granted (view slots t) (E .scheme) orbitOf t store t′ store′ cols′ size
+          → L.Ready slots t′ store′ size kinds codes c cols′
+      link-ready t′ store′ cols′ g = record {
+        scheme = E .scheme;
+        dart = d;
+        before = t;
+        accepted = E .fitting .at .accepted;
+        sized = record { few = E .fitting .at .sized .few; long = g .given .long ∙ E .fitting .at .sized .long };
+        stored = g .kept .long ∙ E .fitting .long;
+        walked = walked-kept _ _ _ _ store store′ size (places-few slots t (E .scheme) d (E .fitting .at)) (E .fitting .walked) (g .kept);
+        darts = g .darts;
+        match = assignment slots t (E .scheme) d (E .fitting .at) (E .fitting .match);
+        room = roomy;
+        given = g .given;
+        nodes = E .nodes;
+        kinded = E .kinded;
+        coded = E .coded;
+      }
+
+      pub done : {other : List ℕ} {gone : ℕ} → Listed c kinds 1 other gone → (t′ : List ℕ) → t′ ≡ words (edited (view slots t) (E .scheme) orbitOf)
+          → Applied slots t (E .scheme) d (Edited size (size * many) (size * gone)) t′
+      unfolding roomFault when _orElse_ there addedDarts deletedDarts orbitSize rewritten
+      done old t′ q =
+          let f = E .fitting in
+          let s = f .walked .counted in
+          let n = kind-count new in
+          let g = kind-count old in
+          let wide : ltb (count slots (unused (view slots t))) (count slots orbitOf * count (E .scheme .nodes) (added (E .scheme))) ≡ false =
+          ap₂ ltb (sym (E .free)) (ap₂ _*_ s (sym n)) ∙ le-ltb room (size * many) h in
+          record { answer = rw (f .match, wide, s, ← n, ← g) refl; table = rw (f .match, wide) q }

@@ -223,16 +223,16 @@ fn arcs(
 }
 
 // Whether the scheme of the tree and the codes matches at the orbit in the store; where it does, the columns of its left nodes.
-pub(crate) fn assign(
+pub(crate) fn assign<'a>(
     slots: usize,
     table: &[u32],
     store: &mut [u32],
     size: usize,
-    nodes: &[u8; 16],
-    parents: &[u8; 16],
-    dims: &[u8; 16],
+    nodes: &'a [u8; 16],
+    parents: &'a [u8; 16],
+    dims: &'a [u8; 16],
     count: usize,
-    codes: &[u8; 64],
+    codes: &'a [u8; 64],
     cols: &mut [usize; 16],
 ) -> bool
     requires { ⌜ Posed slots (now table) (now store) size (now nodes) (now parents) (now dims) count (now codes) (now cols) ⌝ }

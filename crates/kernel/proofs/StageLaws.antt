@@ -16,11 +16,13 @@ use Rattle.base.specs.Below.{count}
 use Rattle.base.specs.First.{when, _orElse_, there}
 use Rattle.base.proofs.TestLaws.{true-or-false, and-of, and-no-left, and-no-right}
 use Rattle.base.proofs.BelowLaws.{count-same, count-not}
+use Rattle.base.proofs.ListLaws.{length-list}
 use Rattle.base.proofs.FirstLaws.{some-not-none, when-at, when-none, or-else-cases, or-else-none}
 use Rattle.model.specs.Answer.{number}
 use Rattle.model.specs.Map.{Map, view, live, unused}
 use Rattle.model.specs.WellFormed.{WellFormed, wellFormed}
-use Rattle.model.specs.Scheme.{inForm, schemeOf, orbitDim}
+use Rattle.model.specs.Scheme.{inForm, wordsOf, targetsOf, schemeOf, orbitDim}
+use Rattle.model.specs.Formed.{Formed}
 use Rattle.model.specs.Conditions.{hookFault, incidenceFault, cycleFault, schemeFault, noted}
 use Rattle.model.specs.Accepted.{Accepted}
 use Rattle.model.specs.Calls.{zeros, sizesOk, bytesFault, roomFault, orbitOf, editFault, editAnswer, editTable, editStore}
@@ -36,8 +38,7 @@ use Rattle.scheme.specs.declared.Reading.{Reading}
 use Rattle.edit.specs.Apply.{At, Applied, rewritten}
 use Rattle.table.specs.Words.{Sized}
 use Rattle.kernel.specs.Promises.{MapEdited}
-use Rattle.kernel.specs.Stages.{Judged, dartFault, dartDone, dartTable, Settled, AppliedAt, Staged}
-use Rattle.kernel.specs.declared.stages.Verdict.{Verdict}
+use Rattle.kernel.specs.Stages.{dartFault, dartDone, dartTable, Settled, AppliedAt, Staged}
 use Rattle.kernel.proofs.RefusalLaws.{cycle-number}
 
 -- ---- the scheme's bytes
@@ -69,14 +70,27 @@ module _ (b : List ℕ) (r : Reading) (e : r ≡ reading b) where
   unfolding reading
   read-scheme q = ap (λ (x : Reading). x .scheme) e ∙ rw q refl
 
-pub judged-bad : (b : List ℕ) (S : Scheme) → inForm b ≡ false → Judged b (record { answer = BadForm; scheme = S })
-unfolding bytesFault when _orElse_
-judged-bad b S e = record { answer = rw e refl; scheme = λ q. absurd (let z : _≡_ {A = ℕ} 0 2 = ap number (sym q) in omega arith) }
+-- refusals 2 to 5, or done
+unfoldable pub judged : List ℕ → Answer
+judged b = Option·getD (bytesFault b) Done
 
-pub judged-good : (b : List ℕ) (S : Scheme) (a : Answer) → inForm b ≡ true → S ≡ schemeOf b → a ≡ Option·getD (schemeFault S) Done
-    → Judged b (record { answer = a; scheme = S })
+pub form-refused : (b : List ℕ) → inForm b ≡ false → bytesFault b ≡ some BadForm
 unfolding bytesFault when _orElse_
-judged-good b S a e s f = record { answer = f ∙ rw (e, s) refl; scheme = λ q. s }
+form-refused b e = rw e
+
+pub judged-bad : (b : List ℕ) → inForm b ≡ false → BadForm ≡ judged b
+unfolding judged
+judged-bad b e = rw (form-refused b e)
+
+module _ (b : List ℕ) (S : Scheme) (e : inForm b ≡ true) (s : S ≡ schemeOf b) where
+  pub judged-good : (a : Answer) → a ≡ Option·getD (schemeFault S) Done → a ≡ judged b
+  unfolding judged bytesFault when _orElse_
+  judged-good a f = f ∙ rw (e, s)
+
+  -- what the conditions ask of a scheme that was read
+  pub judge-asks : ((length (S .lwords) ≡ 64) × (length (S .rwords) ≡ 64) × (length (S .ltargets) ≡ 64) × (length (S .rtargets) ≡ 64)) × Formed S
+  unfolding schemeOf wordsOf targetsOf
+  judge-asks = rw s ((length-list 64 _, length-list 64 _, length-list 64 _, length-list 64 _), formed b e)
 
 -- no refusal of the bytes is done
 noted-number : (f : ℕ → Answer) (k : ℕ) → ((x : ℕ) → number (f x) ≡ k) → (o : Option ℕ) (a : Answer) → noted f o ≡ some a → number a ≡ k
@@ -97,20 +111,22 @@ fault-number b a e z = ⊎-elim
     (or-else-cases _ _ a e)
 
 -- bytes judged done have no fault, and any other answer is their fault
-module _ (b : List ℕ) (v : Verdict) (j : Judged b v) where
-  pub no-fault : v .answer ≡ Done → bytesFault b ≡ none
+module _ (b : List ℕ) (r : Answer) (j : r ≡ judged b) where
+  pub no-fault : r ≡ Done → bytesFault b ≡ none
+  unfolding judged
   no-fault e = go (bytesFault b) refl
     where
       go : (o : Option Answer) → bytesFault b ≡ o → bytesFault b ≡ none
       go none q = q
-      go (some a) q = absurd (fault-number b a q (ap number (ap (λ (o : Option Answer). Option·getD o Done) (sym q) ∙ sym (j .answer) ∙ e)))
+      go (some a) q = absurd (fault-number b a q (ap number (ap (λ (o : Option Answer). Option·getD o Done) (sym q) ∙ sym j ∙ e)))
 
-  pub its-fault : (v .answer ≡ Done → ⊥) → bytesFault b ≡ some (v .answer)
+  pub its-fault : (r ≡ Done → ⊥) → bytesFault b ≡ some r
+  unfolding judged
   its-fault n = go (bytesFault b) refl
     where
-      go : (o : Option Answer) → bytesFault b ≡ o → bytesFault b ≡ some (v .answer)
-      go none q = absurd (n (j .answer ∙ ap (λ (o : Option Answer). Option·getD o Done) q))
-      go (some a) q = q ∙ ap {B = Option Answer} some (sym (j .answer ∙ ap (λ (o : Option Answer). Option·getD o Done) q))
+      go : (o : Option Answer) → bytesFault b ≡ o → bytesFault b ≡ some r
+      go none q = absurd (n (j ∙ ap (λ (o : Option Answer). Option·getD o Done) q))
+      go (some a) q = q ∙ ap {B = Option Answer} some (sym (j ∙ ap (λ (o : Option Answer). Option·getD o Done) q))
 
 -- ---- the dart
 

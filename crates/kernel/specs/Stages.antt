@@ -16,13 +16,7 @@ use Rattle.model.specs.Edit.{orbitSize, addedDarts, deletedDarts, edited}
 use Rattle.model.specs.Calls.{bytesFault, roomFault}
 use Rattle.model.specs.declared.Scheme.{Scheme}
 use Rattle.model.specs.declared.Answer.{Answer}
-use Rattle.model.specs.declared.Answer.the-variants.{Done, Edited, OtherDimension, BadTable, NoDart}
-use Rattle.kernel.specs.declared.stages.Verdict.{Verdict}
-
--- bytes judged: refusals 2 to 5, and the scheme where there is none
-pub record Judged (b : List ℕ) (v : Verdict) : Type 0 where
-  pub answer : v .answer ≡ Option·getD (bytesFault b) Done
-  pub scheme : v .answer ≡ Done → v .scheme ≡ schemeOf b
+use Rattle.model.specs.declared.Answer.the-variants.{Edited, OtherDimension, BadTable, NoDart}
 
 module _ (n N : ℕ) (t : List ℕ) (S : Scheme) (d : ℕ) where
   -- refusals 6 to 10

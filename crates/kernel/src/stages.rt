@@ -1,4 +1,5 @@
 // The stages of an edit behind the test of its sizes: refusals 2 to 5, then 6 to 8, then the edit at the dart.
+use conditions::sides::Sides;
 use model::Answer;
 use model::Scheme;
 use table::Finding;
@@ -9,31 +10,8 @@ ghost use Prim.Native.Nat.{_*_};
 ghost use lib.ListN.{length};
 ghost use Rattle.model.specs.Accepted.{Accepted};
 ghost use Rattle.table.specs.Words.{Sized};
-ghost use Rattle.kernel.specs.Stages.{Judged, AppliedAt, Staged};
-
-// What is known of bytes that were judged: the first of refusals 2 to 5, or done with the scheme.
-pub(crate) struct Verdict {
-    pub(crate) answer: Answer,
-    pub(crate) scheme: Scheme,
-}
-
-// Refusals 2 to 5.
-pub(crate) fn judge(bytes: &[u8]) -> Verdict
-    ensures { λ r. ⌜ Judged (now (bytes .entry)) r ⌝ }
-{
-    let r = scheme::read(bytes);
-    let s = r.scheme;
-    if !r.ok {
-        return Verdict {
-            answer: Answer::BadForm,
-            scheme: s,
-        };
-    }
-    Verdict {
-        answer: conditions::fault(s),
-        scheme: s,
-    }
-}
+ghost use Rattle.conditions.specs.Sides.{SidesOf};
+ghost use Rattle.kernel.specs.Stages.{AppliedAt, Staged};
 
 fn wide(x: u8) -> u32
     ensures { λ r. ⌜ r ≡ x ⌝ }
@@ -48,10 +26,12 @@ fn apply_at(
     table: &mut [u32],
     store: &mut [u32],
     s: Scheme,
+    p: Sides,
     dart: usize,
 ) -> Answer
     requires { ⌜ (n ≡ 2) ⊎ (n ≡ 3) ⌝ }
     requires { ⌜ Accepted s ⌝ }
+    requires { ⌜ SidesOf s p ⌝ }
     requires { ⌜ Sized slots (now table) ⌝ }
     requires { ⌜ length (now store) ≡ 16 * slots ⌝ }
     ensures { λ r. ⌜ AppliedAt n slots (now (table .entry)) s dart r (now (table .exit)) ⌝ }
@@ -69,7 +49,7 @@ fn apply_at(
     if state(slots, table, dart) != 1 {
         return Answer::NoDart;
     }
-    edit::apply(slots, table, store, s, slots - live, dart)
+    edit::apply(slots, table, store, s, p, slots - live, dart)
 }
 
 // Refusals 2 to 10, and the edit.
@@ -86,11 +66,30 @@ pub(crate) fn staged(
     requires { ⌜ length (now store) ≡ 16 * slots ⌝ }
     ensures { λ r. ⌜ Staged n slots (now (table .entry)) (now (bytes .entry)) dart r (now (table .exit)) ⌝ }
 {
-    let v = judge(bytes);
+    let r = scheme::read(bytes);
+    if !r.ok {
+        return Answer::BadForm;
+    }
+    let v = conditions::judge(
+        r.scheme.n,
+        r.scheme.places,
+        r.scheme.nodes,
+        &r.scheme.orbit,
+        &r.scheme.kinds,
+        &r.scheme.lwords,
+        &r.scheme.rwords,
+        &r.scheme.ltargets,
+        &r.scheme.rtargets,
+        r.scheme.lcount,
+        &r.scheme.larcs,
+        r.scheme.rcount,
+        &r.scheme.rarcs,
+    );
     let answer = v.answer;
-    let s = v.scheme;
+    let s = r.scheme;
+    let p = v.sides;
     match answer {
-        Answer::Done => apply_at(n, slots, table, store, s, dart),
+        Answer::Done => apply_at(n, slots, table, store, s, p, dart),
         _ => answer,
     }
 }

@@ -1,8 +1,8 @@
 -- `conditions::hook_fault` meets its contract.
 -- Assumes nothing.
-use mathlib.Core.Path.{refl, sym, _∙_}
+use mathlib.Core.Path.{sym, _∙_}
 use borrow.Author.Tests.{not-true, not-false}
-use Rattle.conditions.specs.Hook.{wrongHook, leftOver}
+use Rattle.conditions.proofs.HookLaws.{hook-wrong, hook-left}
 use borrow.Author.Needs.{needs}
 use Rattle.conditions.proofs.hook_fault.Statement.{statement}
 use Rattle.conditions.proofs.hook_fault.Tie as tie
@@ -11,19 +11,13 @@ hooked-requires : tie.Need-hooked-requires
 hooked-requires c κs = search needs
 
 returns : tie.Need-returns
-returns c = wrongHook (sym (c .before .hooked .ensures) ∙ not-true _ (c .if1 .taken)) refl
-
-tree-of-requires : tie.Need-tree-of-requires
-tree-of-requires c κs = search needs
+returns c = hook-wrong _ _ _ _ _ _ (sym (c .before .hooked .ensures) ∙ not-true _ (c .if1 .taken))
 
 unreached-requires : tie.Need-unreached-requires
 unreached-requires c κs = search needs
 
 returns-2 : tie.Need-returns-2
-returns-2 c =
-    let t = c .before .before .before in
-    leftOver (sym (t .before .before .hooked .ensures) ∙ not-false _ (t .before .if1 .left)) _ (t .tree-of .ensures) (c .unreached .ensures)
+returns-2 c = hook-left _ _ _ _ _ _ (sym (c .before .before .hooked .ensures) ∙ not-false _ (c .before .if1 .left)) _ (c .unreached .ensures)
 
 pub hook-fault-spec : {M : Type 1} → statement M
-hook-fault-spec =
-    tie.close (tie.spec hooked-requires returns tree-of-requires unreached-requires returns-2)
+hook-fault-spec = tie.close (tie.spec hooked-requires returns unreached-requires returns-2)

@@ -78,7 +78,7 @@ apply-requires c κs =
     let e = d .before .before .before in
     let k = e .before in
     let p = k .before .before .before .before .before .before .before .before .before .pre in
-    (at-dart _ _ _ _ _ (same k) (well k) (e .if2 .left) (sym (d .before .state .ensures) ∙ d .if3 .left) (p .1 .0) (p .1 .1 .0), (free k .1, p .1 .1 .1))
+    (at-dart _ _ _ _ _ (same k) (well k) (e .if2 .left) (sym (d .before .state .ensures) ∙ d .if3 .left) (p .1 .0) (p .1 .1 .1 .0), (p .1 .1 .0, (free k .1, p .1 .1 .1 .1)))
 
 same-length-4 : tie.Need-same-length-4
 same-length-4 c = search needs
