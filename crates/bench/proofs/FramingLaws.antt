@@ -28,11 +28,11 @@ module _ (b : List ℕ) (map scheme darts : ℕ) (x : map ≡ countAt b 0) (y : 
 
   pub scheme-length : schemeLength b ≡ scheme
   unfolding countAt
-  scheme-length = ap (λ (k : ℕ). twoAt 0 0 b (2 + k)) map-length ∙ sym y
+  scheme-length = ap (λ (k : ℕ). twoAt b (2 + k)) map-length ∙ sym y
 
   pub dart-count : dartCount b ≡ darts
   unfolding countAt
-  dart-count = ap₂ (λ (j k : ℕ). twoAt 0 0 b (4 + j + k)) map-length scheme-length ∙ sym z
+  dart-count = ap₂ (λ (j k : ℕ). twoAt b (4 + j + k)) map-length scheme-length ∙ sym z
 
   pub fault : (map ≤ 14345 → scheme ≤ 537 → darts ≤ 1024 → length b ≡ 6 + map + scheme + 2 * darts → ⊥) → framed b ≡ false
   unfolding framed

@@ -56,8 +56,8 @@ module _ (b : List ℕ) (l : Layout) (k : Laid b l) where
   pub dart-here : (j v from : ℕ) → from ≡ 6 + l .map + l .scheme + 2 * j → v ≡ numberAt 2 b from → v ≡ dartAt b j
   unfolding dartAt countAt
   dart-here j v from e f =
-      count-of b from v f ∙ ap (λ (i : ℕ). twoAt 0 0 b i) e
-      ∙ ap₂ (λ (i m : ℕ). twoAt 0 0 b (6 + i + m + 2 * j)) (sym is-map) (sym is-scheme)
+      count-of b from v f ∙ ap (λ (i : ℕ). twoAt b i) e
+      ∙ ap₂ (λ (i m : ℕ). twoAt b (6 + i + m + 2 * j)) (sym is-map) (sym is-scheme)
 
   module _ (long : 3 ≤ l .map) where
     byte-here : (i : ℕ) → i < 3 → getD (mapBytes b) i 0 ≡ getD b (2 + i) 0

@@ -13,7 +13,7 @@ use Rattle.bench.specs.declared.framing.Framing.the-variants.{Framed, Fa
 
 -- the two-byte number at a place
 unfoldable pub countAt : List ℕ → ℕ → ℕ
-countAt b at = twoAt 0 0 b at
+countAt b at = twoAt b at
 
 -- l has the counts of b, which are within their limits, and nothing is missing or left over
 pub record Laid (b : List ℕ) (l : Layout) : Type 0 where

@@ -1,6 +1,7 @@
 // The match: the darts of the left nodes, column by column along the tree of left arcs, then the other arcs over the whole orbit.
 use crate::store::push;
 use crate::store::word;
+use crate::wide;
 use table::words::link;
 ghost use mathlib.Core.Path.{_≡_};
 ghost use Prim.Native.Nat.{_+_, _*_, _<_, _≤_};
@@ -9,12 +10,6 @@ ghost use Rattle.model.specs.Map.{view};
 ghost use Rattle.table.specs.Words.{Sized};
 ghost use Rattle.edit.specs.Store.{next, Taken};
 ghost use Rattle.edit.specs.Columns.{Ready, Posed, Linked, Testable, Turns, Columned, ColumnedAll, follows, explicitTest, arcTest, arcsTest, Firm, Answered};
-
-fn wide(x: u8) -> usize
-    ensures { λ r. ⌜ r ≡ x ⌝ }
-{
-    x as usize
-}
 
 // A new column from the place `end` on, over the i-links of the column at `from`; false where a dart has a place already.
 fn column(

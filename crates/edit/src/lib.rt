@@ -17,7 +17,7 @@ ghost use Rattle.model.specs.Map.{view, unused};
 ghost use Rattle.conditions.specs.Sides.{SidesOf};
 ghost use Rattle.edit.specs.Apply.{At, Settling, Applied};
 
-fn wide(x: u8) -> usize
+pub(crate) fn wide(x: u8) -> usize
     ensures { λ r. ⌜ r ≡ x ⌝ }
 {
     x as usize

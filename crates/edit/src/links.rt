@@ -1,6 +1,7 @@
 // The new links of preserved and added pairs, and zeros in deleted records. Every link from before the edit that is needed stands
 // in the store by place, so nothing is read from the table.
 use crate::store::word;
+use crate::wide;
 use table::words::put;
 ghost use mathlib.Core.Path.{_≡_};
 ghost use Prim.Native.Nat.{_+_, _*_, _≤_, _<_};
@@ -85,12 +86,6 @@ fn erase(slots: usize, table: &mut [u32], store: &[u32], size: usize, base: usiz
         blank(slots, table, x);
         r += 1;
     }
-}
-
-fn wide(code: u8) -> usize
-    ensures { λ r. ⌜ r ≡ code ⌝ }
-{
-    code as usize
 }
 
 // Column c of the darts of the node whose column of the store begins at `base`, by the code of an arc.

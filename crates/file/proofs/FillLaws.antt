@@ -88,7 +88,7 @@ module _ (n N : ℕ) (b : List ℕ) where
     unfolding linkWord linkPlace
     link-is i =
         let L = two-at n N b 3 in
-        let at : 9 + 6 * numberAt 2 b 3 + 2 * ((n + 1) * k) + 2 * i ≡ 9 + 6 * twoAt n N b 3 + 2 * ((n + 1) * k + i) = omega arith in
+        let at : 9 + 6 * numberAt 2 b 3 + 2 * ((n + 1) * k) + 2 * i ≡ 9 + 6 * twoAt b 3 + 2 * ((n + 1) * k + i) = omega arith in
         ap₂ (cond (leb i n)) (ap (numberAt 2 b) at ∙ two-at n N b _) e
 
     pub tag-is : numberAt 4 b (tagPlace b k) ≡ tagAt n N b k

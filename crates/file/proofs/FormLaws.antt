@@ -118,11 +118,11 @@ module _ (b : List ℕ) where
 
 -- the model's numbers are those of the general form
 module _ (n N : ℕ) (b : List ℕ) where
-  pub two-at : (at : ℕ) → numberAt 2 b at ≡ twoAt n N b at
+  pub two-at : (at : ℕ) → numberAt 2 b at ≡ twoAt b at
   unfolding numberAt
   two-at at = omega arith
 
-  pub four-at : (at : ℕ) → numberAt 4 b at ≡ fourAt n N b at
+  pub four-at : (at : ℕ) → numberAt 4 b at ≡ fourAt b at
   four-at at = number-join 2 2 b at ∙ ap₂ (λ (l h : ℕ). l + 65536 * h) (two-at at) (two-at (at + 2))
 
   one-at : numberAt 1 b 0 ≡ getD b 0 0

@@ -58,13 +58,13 @@ refusedLine k = refusedWord ++ space ++ decimal k ++ lineFeed
 
 module _ (b : List ℕ) where
   abbrev pub mapLength : ℕ
-  mapLength = twoAt 0 0 b 0
+  mapLength = twoAt b 0
 
   abbrev pub schemeLength : ℕ
-  schemeLength = twoAt 0 0 b (2 + mapLength)
+  schemeLength = twoAt b (2 + mapLength)
 
   abbrev pub dartCount : ℕ
-  dartCount = twoAt 0 0 b (4 + mapLength + schemeLength)
+  dartCount = twoAt b (4 + mapLength + schemeLength)
 
   unfoldable pub mapBytes : List ℕ
   mapBytes = take mapLength (drop 2 b)
@@ -73,7 +73,7 @@ module _ (b : List ℕ) where
   schemeBytes = take schemeLength (drop (4 + mapLength) b)
 
   unfoldable pub dartAt : ℕ → ℕ
-  dartAt k = twoAt 0 0 b (6 + mapLength + schemeLength + 2 * k)
+  dartAt k = twoAt b (6 + mapLength + schemeLength + 2 * k)
 
   -- the counts are within their limits, and nothing is missing or left over
   unfoldable pub framed : Bool
@@ -87,7 +87,7 @@ module _ (b : List ℕ) where
   mapDimension = getD mapBytes 0 0
 
   unfoldable pub mapSlots : ℕ
-  mapSlots = twoAt 0 0 mapBytes 1
+  mapSlots = twoAt mapBytes 1
 
   unfoldable pub mapAnswer : Answer
   mapAnswer = readAnswer mapDimension mapSlots (replicate (tableSize mapSlots) 0) mapBytes

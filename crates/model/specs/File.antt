@@ -43,29 +43,31 @@ abbrev pub atPlace : Option ℕ → (ℕ → ℕ) → ℕ
 atPlace none f = 0
 atPlace (some k) f = f k
 
-module _ (n N : ℕ) (b : List ℕ) where
+-- the number of two or of four bytes at a place
+module _ (b : List ℕ) where
   abbrev pub twoAt : ℕ → ℕ
   twoAt at = getD b at 0 + 256 * getD b (at + 1) 0
 
   abbrev pub fourAt : ℕ → ℕ
   fourAt at = twoAt at + 65536 * twoAt (at + 2)
 
+module _ (n N : ℕ) (b : List ℕ) where
   -- L, and the slot, tag and links of the k-th dart of the file
   abbrev pub darts : ℕ
-  darts = twoAt 3
+  darts = twoAt b 3
 
   abbrev pub slotAt : ℕ → ℕ
-  slotAt k = twoAt (5 + 2 * k)
+  slotAt k = twoAt b (5 + 2 * k)
 
   abbrev pub tagAt : ℕ → ℕ
-  tagAt k = fourAt (7 + 2 * darts + 4 * k)
+  tagAt k = fourAt b (7 + 2 * darts + 4 * k)
 
   abbrev pub linkAt : ℕ → ℕ → ℕ
-  linkAt k i = twoAt (9 + 6 * darts + 2 * ((n + 1) * k + i))
+  linkAt k i = twoAt b (9 + 6 * darts + 2 * ((n + 1) * k + i))
 
   unfoldable pub fileForm : Bool
-  fileForm = eqb (getD b 0 0) n and eqb (twoAt 1) N
-      and eqb (twoAt (5 + 2 * darts)) darts and eqb (twoAt (7 + 6 * darts)) darts
+  fileForm = eqb (getD b 0 0) n and eqb (twoAt b 1) N
+      and eqb (twoAt b (5 + 2 * darts)) darts and eqb (twoAt b (7 + 6 * darts)) darts
       and eqb (length b) (9 + darts * (6 + 2 * (n + 1)))
       and all darts (λ k. ltb (slotAt k) N and all k (λ o. ltb (slotAt o) (slotAt k)))
 
