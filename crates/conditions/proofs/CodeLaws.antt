@@ -1,6 +1,6 @@
--- The tables of a scheme's side have what the model says: the codes of the arcs that `arcAt` finds, and the numbers of `arcsOfDim`.
+-- What a scheme in the form has: arcs in order, targets that are far ends of arcs, and the codes that go with it.
 -- Assumes nothing.
-use Prim.Native.Nat.{ℕ, _+_, _*_, _≤_, _<_}
+use Prim.Native.Nat.{ℕ, _+_, _*_, _/_, _%_, _≤_, _<_}
 use mathlib.Core.Path.{_≡_, refl, sym, ap, ap₂, _∙_, subst}
 use mathlib.Core.Logic.{_⊎_, inl, inr, ⊎-elim}
 use mathlib.Core.Bool.{Bool, true, false, cond}
@@ -16,21 +16,17 @@ use Rattle.base.specs.Test.{_or_}
 use Rattle.base.proofs.TestLaws.{and-left, and-right}
 use Rattle.base.proofs.BelowLaws.{count-same}
 use Rattle.base.proofs.FirstLaws.{first-at, when-at, least-at, least-same}
-use Rattle.base.proofs.ListLaws.{getD-inside}
+use Rattle.base.proofs.ListLaws.{getD-inside, getD-list}
 use Rattle.model.specs.Scheme.{Side, left, right, touching, otherEnd, farEnd, word, target, arcs, arcPart}
 use Rattle.model.specs.Conditions.{Arc, absent, explicit, implicit, arcOf, arcAt, arcsOfDim, reads}
+use Rattle.model.specs.Tables.{arcCode, codesOf}
 use Rattle.model.specs.Formed.{Formed, FormedSide}
 use Rattle.model.specs.declared.Scheme.{Scheme}
 use Rattle.model.proofs.AcceptedLaws.{small}
-use Rattle.conditions.specs.Arcs.{arcCode, entry, partOf, readsOf, over, Joins, Filled, Coded, Counted, ArcTables}
+use Rattle.conditions.specs.Arcs.{entry, partOf, Joins, Coded}
 use Rattle.conditions.specs.Tree.{Ends, ByArc, Aimed}
-use Rattle.conditions.specs.declared.arcs.Arcs.{Arcs}
 
 -- a side's lists, as a scheme holds them
-abbrev pub wordsOf : Scheme → Side → List ℕ
-wordsOf S left = S .lwords
-wordsOf S right = S .rwords
-
 abbrev pub targetsOf : Scheme → Side → List ℕ
 targetsOf S left = S .ltargets
 targetsOf S right = S .rtargets
@@ -38,10 +34,6 @@ targetsOf S right = S .rtargets
 abbrev pub arcsOf : Scheme → Side → List ℕ
 arcsOf S left = S .larcs
 arcsOf S right = S .rarcs
-
-word-is : (S : Scheme) (side : Side) (s p : ℕ) → length (wordsOf S side) ≡ 64 → s < 16 → p < 4 → word S side s p ≡ entry (wordsOf S side) s p
-word-is S left s p e h l = getD-inside (S .lwords) (4 * s + p) 255 0 (omega arith)
-word-is S right s p e h l = getD-inside (S .rwords) (4 * s + p) 255 0 (omega arith)
 
 target-is : (S : Scheme) (side : Side) (s i : ℕ) → length (targetsOf S side) ≡ 64 → s < 16 → i < 4 → target S side s i ≡ entry (targetsOf S side) s i
 target-is S left s i e h l = getD-inside (S .ltargets) (4 * s + i) 255 0 (omega arith)
@@ -56,12 +48,6 @@ abbrev pub Small : ℕ → Arc → Type 0
 Small nodes absent = 0 ≤ nodes
 Small nodes (explicit t) = t < nodes
 Small nodes (implicit p) = p < 4
-
-code-of : (o r : Option ℕ) → ((t : ℕ) → o ≡ some t → t < 16) → over (Option·getD o 255) r ≡ arcCode (arcOf o r)
-code-of (some t) none h = refl
-code-of (some t) (some p) h = let l = h t refl in rw (ne-eqb t 255 (λ e. absurd (omega arith)))
-code-of none none h = refl
-code-of none (some p) h = refl
 
 -- the far end of an arc is joined by that arc
 by-arc : (part : ℕ → ℕ → ℕ) (c s i t : ℕ) → farEnd part c s i ≡ some t → ByArc part c i s t
@@ -125,45 +111,14 @@ module _ (S : Scheme) (f : Formed S) (side : Side) where
       go none e (some p) g = let l = least-at (S .places) _ p g in let k = places-few in omega (arith, l .0)
       go none e none g = omega arith
 
-  module _ (longWords : length (wordsOf S side) ≡ 64) (longTargets : length (targetsOf S side) ≡ 64) (codes counts : List ℕ)
-      (d : Filled (S .places) (targetsOf S side) (wordsOf S side) (arcs S side) (arcsOf S side) (S .nodes) codes counts) where
-    reads-is : (s i p : ℕ) → s < S .nodes → p < S .places → readsOf (wordsOf S side) s i p ≡ reads S side s i p
-    reads-is s i p h l =
-        let k = places-few in
-        let n = f .nodesFew in
-        ap (λ (z : ℕ). eqb z i) (sym (word-is S side s p longWords (omega arith) (omega arith)))
-
-    pub coded : Coded S side codes
-    unfolding arcAt
-    coded = record {
-      at = λ s i h k.
-          let n = f .nodesFew in
-          let b : s < 16 = omega arith in
-          d .code s i h k
-          ∙ ap₂ over (sym (target-is S side s i longTargets b k) ∙ f .sides side .targets s i b k)
-          (least-same (S .places) _ _ (λ p l. reads-is s i p h l))
-          ∙ code-of _ _ (λ t e. let l = end-below s i t e in omega arith);
-    }
-
-    pub counted : Counted S side counts
-    unfolding arcsOfDim
-    counted = record {
-      at = λ s i h k.
-          d .number s i h k
-          ∙ ap₂ _+_ (ap (λ (part : ℕ → ℕ → ℕ). count (arcs S side) (touching part s i)) (sym (part-is S side)))
-          (count-same (S .places) _ _ (λ p l. reads-is s i p h l));
-    }
-
--- a side's tables, from the numbers and lists that a scheme holds
-module _ (S : Scheme) (f : Formed S) (side : Side) (p n c : ℕ) (ep : p ≡ S .places) (en : n ≡ S .nodes) (ec : c ≡ arcs S side)
-    (longTargets : length (targetsOf S side) ≡ 64) where
-  pub tables-ask : ((p ≤ 4) × (n ≤ 16) × (length (targetsOf S side) ≡ 64)) × Joins (arcsOf S side) c
-  tables-ask =
-      let a = places-few S f side in
-      let b = f .nodesFew in
-      ((omega arith, omega arith, longTargets), subst (Joins (arcsOf S side)) (sym ec) (joins S f side))
-
-  pub tables : length (wordsOf S side) ≡ 64 → (a : Arcs) → Filled p (targetsOf S side) (wordsOf S side) c (arcsOf S side) n (a .codes) (a .counts) → ArcTables S side a
-  tables longWords a d =
-      let e = rw (ep, en, ec) at d in
-      record { coded = coded S f side longWords longTargets _ _ e; counted = counted S f side longWords longTargets _ _ e }
+-- the codes that go with a scheme are those of its nodes
+pub coded : (S : Scheme) (f : Formed S) (side : Side) (codes : List ℕ) → codes ≡ codesOf S side → Coded S side codes
+unfolding codesOf
+coded S f side codes e = record {
+  at = λ s i h k.
+      let few = f .nodesFew in
+      let node : (4 * s + i) / 4 ≡ s = omega arith in
+      let dim : (4 * s + i) % 4 ≡ i = omega arith in
+      ap (λ (l : List ℕ). getD l (4 * s + i) 0) e ∙ getD-list 64 (4 * s + i) _ 0 (omega arith)
+      ∙ ap₂ (λ (x y : ℕ). arcCode (arcAt S side x y)) node dim;
+}

@@ -21,7 +21,8 @@ use Rattle.model.specs.declared.Scheme.{Scheme}
 use Rattle.model.specs.declared.Answer.{Answer}
 use Rattle.model.specs.declared.Answer.the-variants.{BadCycle}
 use Rattle.model.proofs.AcceptedLaws as AcceptedLaws
-use Rattle.conditions.specs.Arcs.{arcCode, entry, Coded}
+use Rattle.model.specs.Tables.{arcCode}
+use Rattle.conditions.specs.Arcs.{entry, Coded}
 use Rattle.conditions.specs.Cycles.{farApart, goesRound, fromNode, fromPlace, cycleBy, pairBy, Coding, pairs, pairCount, atPair, atNode}
 use Rattle.conditions.proofs.CodeLaws.{Small, small-arc}
 use Rattle.conditions.proofs.CycleSearchLaws.{pair-small}

@@ -20,17 +20,18 @@ use Rattle.model.specs.declared.Scheme.{Scheme}
 use Rattle.model.specs.declared.Answer.{Answer}
 use Rattle.model.specs.declared.Answer.the-variants.{Done, BadHook, BadIncidence, BadCycle}
 use Rattle.model.proofs.AcceptedLaws as AcceptedLaws
-use Rattle.conditions.specs.Arcs.{Joins, ArcTables}
-use Rattle.conditions.specs.Tree.{Aimed, Lefts, TreeOf}
+use Rattle.model.specs.Tables.{twiceOf}
+use Rattle.conditions.specs.Arcs.{Joins, Coded}
+use Rattle.conditions.specs.Tree.{Aimed, Lefts, Spanning, TreeOf}
 use Rattle.conditions.specs.Hook.{hookedBy, leftOut, foundOf, hookBy}
 use Rattle.conditions.specs.Incidence.{offends, arcsAnswer}
 use Rattle.conditions.specs.Cycles.{Coding, atNode, cycleAnswer}
-use Rattle.conditions.specs.Verdict.{hookElse, faultBy}
-use Rattle.conditions.specs.declared.arcs.Arcs.{Arcs}
+use Rattle.conditions.specs.Verdict.{hookElse, faultBy, Judging, VerdictOf}
 use Rattle.conditions.specs.declared.hook.Found.{Found}
 use Rattle.conditions.specs.declared.hook.Found.the-variants.{Node, Nothing}
 use Rattle.conditions.specs.declared.tree.Tree.{Tree}
-use Rattle.conditions.proofs.CodeLaws.{joins, aimed}
+use Rattle.conditions.proofs.CodeLaws.{joins, aimed, coded}
+use Rattle.conditions.proofs.SpanLaws.{tree-of}
 use Rattle.conditions.proofs.HookLaws.{found-node, found-nothing, lefts, hook-is, unreached-is}
 use Rattle.conditions.proofs.IncidenceLaws.{incidence-is}
 use Rattle.conditions.proofs.CycleIsLaws.{coding, cycle-is}
@@ -42,24 +43,14 @@ tree-asks S f n c en ec long = rw (ec, en) (f .nodesFew, (joins S f left, (aimed
 
 -- ---- the first fault of a scheme, from its tree and tables
 
-module _ (S : Scheme) (f : Formed S) (p n : ℕ) (ep : p ≡ S .places) (en : n ≡ S .nodes) (a b : Arcs) (ta : ArcTables S left a) (tb : ArcTables S right b) where
-  pub fault-asks : ((S .n ≤ 3) × (p ≤ 4) × (n ≤ 16))
-      × (((s : ℕ) → s < n → (1 ≤ getD (S .kinds) s 0) × (getD (S .kinds) s 0 ≤ 3)) × (Coding n (a .codes) × Coding n (b .codes)))
+module _ (S : Scheme) (f : Formed S) (lefts rights : List ℕ) (cl : Coded S left lefts) (cr : Coded S right rights) where
+  pub fault-asks : ((S .n ≤ 3) × (S .places ≤ 4) × (S .nodes ≤ 16)) × (Coding (S .nodes) lefts × Coding (S .nodes) rights)
   fault-asks =
       let d = AcceptedLaws.small S f in
       let k = f .placesFew in
-      let m = f .nodesFew in (
-        (d, omega arith, omega arith),
-        (
-          (λ s l. f .kinds s (omega arith)),
-          (
-            subst (λ (z : ℕ). Coding z (a .codes)) (sym en) (coding S f left (a .codes) (ta .coded)),
-            subst (λ (z : ℕ). Coding z (b .codes)) (sym en) (coding S f right (b .codes) (tb .coded)),
-          ),
-        ),
-      )
+      ((d, omega arith, f .nodesFew), (coding S f left lefts cl, coding S f right rights cr))
 
-  module _ (long : length (S .lwords) ≡ 64) (t : Tree) (g : TreeOf S t) where
+  module _ (long : length (S .lwords) ≡ 64) (t : Tree) (g : TreeOf S t) (ltwice rtwice : List Bool) (tl : ltwice ≡ twiceOf S left) (tr : rtwice ≡ twiceOf S right) where
     hook-found : hookFault S ≡ hookBy (S .places) (S .nodes) (S .orbit) (S .kinds) (S .lwords) (t .reached)
     unfolding hookFault hookBy when _orElse_
     hook-found = rw (hook-is S f long, unreached-is S f t g) (go (hookedBy (S .places) (S .orbit) (S .kinds) (S .lwords)) (least (S .nodes) (leftOut (S .kinds) (t .reached))))
@@ -68,16 +59,11 @@ module _ (S : Scheme) (f : Formed S) (p n : ℕ) (ep : p ≡ S .places) (en : n 
         go true o = refl
         go false o = refl
 
-    pub fault-is : (r : Answer) → r ≡ faultBy (S .n) p n (S .orbit) (S .kinds) (S .lwords) (t .reached) (a .counts) (b .counts) (a .codes) (b .codes)
+    pub fault-is : (r : Answer) → r ≡ faultBy (S .n) (S .places) (S .nodes) (S .orbit) (S .kinds) (S .lwords) (t .reached) lefts rights ltwice rtwice
         → r ≡ Option·getD (schemeFault S) Done
     unfolding schemeFault faultBy arcsAnswer _orElse_
-    fault-is r e = rw (
-      hook-found,
-      incidence-is S f (a .counts) (b .counts) (ta .counted) (tb .counted),
-      cycle-is S f (a .codes) (b .codes) (ta .coded) (tb .coded),
-      ← ep,
-      ← en,
-    ) (e ∙ go (hookBy p n (S .orbit) (S .kinds) (S .lwords) (t .reached)) _)
+    fault-is r e = rw (hook-found, incidence-is S f lefts rights ltwice rtwice cl cr tl tr, cycle-is S f lefts rights cl cr)
+        (e ∙ go (hookBy (S .places) (S .nodes) (S .orbit) (S .kinds) (S .lwords) (t .reached)) _)
       where
         go : (o : Option ℕ) (q : Option Answer) → hookElse o (Option·getD q Done) ≡ Option·getD (noted BadHook o orElse q) Done
         go none q = refl
@@ -85,29 +71,61 @@ module _ (S : Scheme) (f : Formed S) (p n : ℕ) (ep : p ≡ S .places) (en : n 
 
 -- ---- hook, then arcs
 
-module _ (n places nodes : ℕ) (orbit kinds words : List ℕ) (reached : List Bool) (leftCounts rightCounts lefts rights : List ℕ)
+module _ (n places nodes : ℕ) (orbit kinds words : List ℕ) (reached : List Bool) (lefts rights : List ℕ) (ltwice rtwice : List Bool)
     (h : Found) (eh : h ≡ foundOf (hookBy places nodes orbit kinds words reached)) where
-  pub fault-hook : (x : ℕ) → h ≡ Node x → BadHook x ≡ faultBy n places nodes orbit kinds words reached leftCounts rightCounts lefts rights
+  pub fault-hook : (x : ℕ) → h ≡ Node x → BadHook x ≡ faultBy n places nodes orbit kinds words reached lefts rights ltwice rtwice
   unfolding faultBy
   fault-hook x e = let o = found-node (hookBy places nodes orbit kinds words reached) x (sym eh ∙ e) in rw o
 
-  pub fault-arcs : h ≡ Nothing → (r : Answer) → r ≡ arcsAnswer n nodes orbit kinds leftCounts rightCounts lefts rights
-      → r ≡ faultBy n places nodes orbit kinds words reached leftCounts rightCounts lefts rights
+  pub fault-arcs : h ≡ Nothing → (r : Answer) → r ≡ arcsAnswer n nodes orbit kinds lefts rights ltwice rtwice
+      → r ≡ faultBy n places nodes orbit kinds words reached lefts rights ltwice rtwice
   unfolding faultBy
   fault-arcs e r g = let o = found-nothing (hookBy places nodes orbit kinds words reached) (sym eh ∙ e) in rw o g
 
 -- ---- incidence, then cycles
 
-module _ (n nodes : ℕ) (orbit kinds leftCounts rightCounts lefts rights : List ℕ) (d : ℕ) (ed : d ≡ n)
-    (k : Found) (ek : k ≡ foundOf (least nodes (offends d kinds leftCounts rightCounts))) where
-  offends-is : foundOf (least nodes (offends n kinds leftCounts rightCounts)) ≡ k
-  offends-is = ap (λ (z : ℕ). foundOf (least nodes (offends z kinds leftCounts rightCounts))) (sym ed) ∙ sym ek
+module _ (n nodes : ℕ) (orbit kinds lefts rights : List ℕ) (ltwice rtwice : List Bool) (d : ℕ) (ed : d ≡ n)
+    (k : Found) (ek : k ≡ foundOf (least nodes (offends d kinds lefts rights ltwice rtwice))) where
+  offends-is : foundOf (least nodes (offends n kinds lefts rights ltwice rtwice)) ≡ k
+  offends-is = ap (λ (z : ℕ). foundOf (least nodes (offends z kinds lefts rights ltwice rtwice))) (sym ed) ∙ sym ek
 
-  pub answer-incidence : (x : ℕ) → k ≡ Node x → BadIncidence x ≡ arcsAnswer n nodes orbit kinds leftCounts rightCounts lefts rights
+  pub answer-incidence : (x : ℕ) → k ≡ Node x → BadIncidence x ≡ arcsAnswer n nodes orbit kinds lefts rights ltwice rtwice
   unfolding arcsAnswer _orElse_
-  answer-incidence x e = rw (found-node (least nodes (offends n kinds leftCounts rightCounts)) x (offends-is ∙ e))
+  answer-incidence x e = rw (found-node (least nodes (offends n kinds lefts rights ltwice rtwice)) x (offends-is ∙ e))
 
   pub answer-cycle : k ≡ Nothing → (r : Answer) → r ≡ cycleAnswer orbit kinds lefts rights n nodes
-      → r ≡ arcsAnswer n nodes orbit kinds leftCounts rightCounts lefts rights
+      → r ≡ arcsAnswer n nodes orbit kinds lefts rights ltwice rtwice
   unfolding arcsAnswer cycleAnswer _orElse_
-  answer-cycle e r g = rw (found-nothing (least nodes (offends n kinds leftCounts rightCounts)) (offends-is ∙ e)) g
+  answer-cycle e r g = rw (found-nothing (least nodes (offends n kinds lefts rights ltwice rtwice)) (offends-is ∙ e)) g
+
+-- ---- a scheme in its parts
+
+module _ {n places nodes : ℕ} {orbit kinds lwords ltargets : List ℕ} {lcount : ℕ} {larcs lcodes rcodes : List ℕ} {ltwice rtwice : List Bool}
+    (J : Judging n places nodes orbit kinds lwords ltargets lcount larcs lcodes rcodes ltwice rtwice) where
+  left-coded : Coded (J .scheme) left lcodes
+  left-coded = coded (J .scheme) (J .formed) left lcodes (J .lcodesIs)
+
+  right-coded : Coded (J .scheme) right rcodes
+  right-coded = coded (J .scheme) (J .formed) right rcodes (J .rcodesIs)
+
+  pub judge-tree : (c l : ℕ) → c ≡ nodes → l ≡ lcount → (c ≤ 16) × (Joins larcs l × (Aimed ltargets larcs l × Lefts c kinds larcs l))
+  judge-tree c l ec el =
+      let long = rw (J .ltargetsIs) at (J .longTargets) in
+      rw (J .kindsIs, J .ltargetsIs, J .larcsIs) (tree-asks (J .scheme) (J .formed) c l (ec ∙ J .nodesIs) (el ∙ J .lcountIs) long)
+
+  module _ (p c : ℕ) (ep : p ≡ places) (ec : c ≡ nodes) where
+    pub judge-asks : ((n ≤ 3) × (p ≤ 4) × (c ≤ 16)) × (Coding c lcodes × Coding c rcodes)
+    judge-asks = rw (ep, ec, J .nIs, J .placesIs, J .nodesIs) (fault-asks (J .scheme) (J .formed) lcodes rcodes left-coded right-coded)
+
+    -- the tree and the answer that come of it
+    pub judge-is : (l : ℕ) → l ≡ lcount → (t : Tree) → Spanning larcs l t → (r : Answer)
+        → r ≡ faultBy n p c orbit kinds lwords (t .reached) lcodes rcodes ltwice rtwice → VerdictOf (J .scheme) (record { answer = r; tree = t })
+    judge-is l el t g r e =
+        let span : Spanning (J .scheme .larcs) (J .scheme .lcount) t = rw (J .larcsIs, el, J .lcountIs) at g in
+        let tree = tree-of (J .scheme) (J .formed) t span in
+        let long = rw (J .lwordsIs) at (J .longWords) in
+        let by = rw (ep, ec, J .nIs, J .placesIs, J .nodesIs, J .orbitIs, J .kindsIs, J .lwordsIs) at e in
+        record {
+          answer = fault-is (J .scheme) (J .formed) lcodes rcodes left-coded right-coded long t tree ltwice rtwice (J .ltwiceIs) (J .rtwiceIs) r by;
+          tree = tree;
+        }

@@ -1,4 +1,3 @@
-pub mod ArcTableLaws
 pub mod CodeLaws
 pub mod TreeLaws
 pub mod HookLaws

@@ -1,12 +1,12 @@
--- Incidence, over the counts of arcs, and the answer that comes of them and of the codes.
+-- Incidence, over the codes of arcs and the nodes that have two of a dimension, and the answer that comes of them.
 -- Assumes nothing.
 use Prim.Native.Nat.{ℕ, suc}
-use mathlib.Core.Bool.{Bool, not}
+use mathlib.Core.Bool.{Bool, false, not, cond}
 use mathlib.Core.Option.{Option·getD}
 use mathlib.Core.List.{List}
 use lib.ListN.{getD}
-use lib.Dec.{eqb, leb}
-use Rattle.base.specs.Test.{_and_, _⇒_}
+use lib.Dec.{eqb}
+use Rattle.base.specs.Test.{_or_}
 use Rattle.base.specs.Below.{all}
 use Rattle.base.specs.First.{least, first, _orElse_}
 use Rattle.model.specs.Conditions.{noted}
@@ -15,19 +15,20 @@ use Rattle.model.specs.declared.Answer.the-variants.{Done, BadIncidence}
 use Rattle.conditions.specs.Arcs.{entry}
 use Rattle.conditions.specs.Cycles.{atNode}
 
--- a node of a kind may have l arcs of a dimension on the left and r on the right
-unfoldable pub balanced : ℕ → ℕ → ℕ → Bool
-balanced kind l r = leb l 1 and leb r 1 and (eqb kind 2 ⇒ eqb l r) and (eqb kind 1 ⇒ eqb l 1) and (eqb kind 3 ⇒ eqb r 1)
+-- a node of a kind with at most one arc of a dimension on each side may have these codes there, 255 for none
+unfoldable pub paired : ℕ → ℕ → ℕ → Bool
+paired kind l r = cond (eqb kind 1) (not (eqb l 255)) (cond (eqb kind 3) (not (eqb r 255)) (cond (eqb l 255) (eqb r 255) (not (eqb r 255))))
 
--- node s, of a kind, has as many arcs of each dimension as it may
+-- node s, of a kind, has the arcs of each dimension that it may have
 unfoldable pub incidentBy : ℕ → ℕ → List ℕ → List ℕ → ℕ → Bool
-incidentBy n kind lefts rights s = all (suc n) (λ i. balanced kind (entry lefts s i) (entry rights s i))
+incidentBy n kind lefts rights s = all (suc n) (λ i. paired kind (entry lefts s i) (entry rights s i))
 
--- s has not
-unfoldable pub offends : ℕ → List ℕ → List ℕ → List ℕ → ℕ → Bool
-offends n kinds lefts rights s = not (incidentBy n (getD kinds s 0) lefts rights s)
+-- s has two arcs of a dimension on a side, or has not the arcs that it may have
+unfoldable pub offends : ℕ → List ℕ → List ℕ → List ℕ → List Bool → List Bool → ℕ → Bool
+offends n kinds lefts rights leftTwice rightTwice s =
+    getD leftTwice s false or (getD rightTwice s false or not (incidentBy n (getD kinds s 0) lefts rights s))
 
 -- the fault of incidence, else that of the cycles
-unfoldable pub arcsAnswer : ℕ → ℕ → List ℕ → List ℕ → List ℕ → List ℕ → List ℕ → List ℕ → Answer
-arcsAnswer n nodes orbit kinds leftCounts rightCounts lefts rights =
-    Option·getD (noted BadIncidence (least nodes (offends n kinds leftCounts rightCounts)) orElse first nodes (atNode orbit kinds lefts rights n)) Done
+unfoldable pub arcsAnswer : ℕ → ℕ → List ℕ → List ℕ → List ℕ → List ℕ → List Bool → List Bool → Answer
+arcsAnswer n nodes orbit kinds lefts rights leftTwice rightTwice =
+    Option·getD (noted BadIncidence (least nodes (offends n kinds lefts rights leftTwice rightTwice)) orElse first nodes (atNode orbit kinds lefts rights n)) Done

@@ -1,17 +1,21 @@
--- What comes of a scheme: its first fault, or done, and its sides.
+-- What comes of a scheme: its first fault, or done, and the tree of its left arcs.
 -- Assumes nothing.
 use Prim.Native.Nat.{ℕ}
 use mathlib.Core.Path.{_≡_}
 use mathlib.Core.Bool.{Bool}
 use mathlib.Core.Option.{Option, none, some, Option·getD}
 use mathlib.Core.List.{List}
+use lib.ListN.{length}
+use Rattle.model.specs.Scheme.{left, right}
+use Rattle.model.specs.Formed.{Formed}
 use Rattle.model.specs.Conditions.{schemeFault}
+use Rattle.model.specs.Tables.{codesOf, twiceOf}
 use Rattle.model.specs.declared.Scheme.{Scheme}
 use Rattle.model.specs.declared.Answer.{Answer}
 use Rattle.model.specs.declared.Answer.the-variants.{Done, BadHook}
 use Rattle.conditions.specs.Hook.{hookBy}
 use Rattle.conditions.specs.Incidence.{arcsAnswer}
-use Rattle.conditions.specs.Sides.{SidesOf}
+use Rattle.conditions.specs.Tree.{TreeOf}
 use Rattle.conditions.specs.declared.Verdict.{Verdict}
 
 -- the hook's fault, or else an answer
@@ -19,29 +23,31 @@ abbrev pub hookElse : Option ℕ → Answer → Answer
 hookElse none a = a
 hookElse (some x) a = BadHook x
 
--- the first fault, over the lists that a scheme holds and the tables of its arcs: the hook's, then those of the arcs
-unfoldable pub faultBy : ℕ → ℕ → ℕ → List ℕ → List ℕ → List ℕ → List Bool → List ℕ → List ℕ → List ℕ → List ℕ → Answer
-faultBy n places nodes orbit kinds words reached leftCounts rightCounts lefts rights =
-    hookElse (hookBy places nodes orbit kinds words reached) (arcsAnswer n nodes orbit kinds leftCounts rightCounts lefts rights)
+-- the first fault, over the lists that go with a scheme: the hook's, then those of the arcs
+unfoldable pub faultBy : ℕ → ℕ → ℕ → List ℕ → List ℕ → List ℕ → List Bool → List ℕ → List ℕ → List Bool → List Bool → Answer
+faultBy n places nodes orbit kinds words reached lefts rights leftTwice rightTwice =
+    hookElse (hookBy places nodes orbit kinds words reached) (arcsAnswer n nodes orbit kinds lefts rights leftTwice rightTwice)
 
--- a scheme from its parts
-abbrev pub schemeBy : ℕ → ℕ → ℕ → List ℕ → List ℕ → List ℕ → List ℕ → List ℕ → List ℕ → ℕ → List ℕ → ℕ → List ℕ → Scheme
-schemeBy n places nodes orbit kinds lwords rwords ltargets rtargets lcount larcs rcount rarcs = record {
-  n = n;
-  places = places;
-  orbit = orbit;
-  nodes = nodes;
-  kinds = kinds;
-  lwords = lwords;
-  rwords = rwords;
-  ltargets = ltargets;
-  rtargets = rtargets;
-  lcount = lcount;
-  larcs = larcs;
-  rcount = rcount;
-  rarcs = rarcs;
-}
+-- the numbers and lists are parts of a scheme in the form, and what goes with it
+pub record Judging (n places nodes : ℕ) (orbit kinds lwords ltargets : List ℕ) (lcount : ℕ) (larcs lcodes rcodes : List ℕ) (ltwice rtwice : List Bool) : Type 0 where
+  pub scheme : Scheme
+  pub formed : Formed scheme
+  pub nIs : n ≡ scheme .n
+  pub placesIs : places ≡ scheme .places
+  pub nodesIs : nodes ≡ scheme .nodes
+  pub orbitIs : orbit ≡ scheme .orbit
+  pub kindsIs : kinds ≡ scheme .kinds
+  pub lwordsIs : lwords ≡ scheme .lwords
+  pub ltargetsIs : ltargets ≡ scheme .ltargets
+  pub lcountIs : lcount ≡ scheme .lcount
+  pub larcsIs : larcs ≡ scheme .larcs
+  pub lcodesIs : lcodes ≡ codesOf scheme left
+  pub rcodesIs : rcodes ≡ codesOf scheme right
+  pub ltwiceIs : ltwice ≡ twiceOf scheme left
+  pub rtwiceIs : rtwice ≡ twiceOf scheme right
+  pub longWords : length lwords ≡ 64
+  pub longTargets : length ltargets ≡ 64
 
 pub record VerdictOf (S : Scheme) (v : Verdict) : Type 0 where
   pub answer : v .answer ≡ Option·getD (schemeFault S) Done
-  pub sides : SidesOf S (v .sides)
+  pub tree : TreeOf S (v .tree)

@@ -1,35 +1,30 @@
-// Incidence, from the counts of arcs.
+// Incidence, from the codes of arcs and the nodes that have two of a dimension.
 use crate::hook::Found;
 ghost use mathlib.Core.Path.{_≡_};
-ghost use Prim.Native.Nat.{ℕ, _<_, _≤_};
-ghost use lib.ListN.{getD};
+ghost use Prim.Native.Nat.{_<_, _≤_};
 ghost use Rattle.base.specs.First.{least};
 ghost use Rattle.conditions.specs.Hook.{foundOf};
-ghost use Rattle.conditions.specs.Incidence.{balanced, incidentBy, offends};
+ghost use Rattle.conditions.specs.Incidence.{paired, incidentBy, offends};
 
-// A node of a kind may have l arcs of a dimension on the left and r on the right.
+// A node of a kind with at most one arc of a dimension on each side may have these codes there.
 fn allowed(kind: u8, l: u8, r: u8) -> bool
-    requires { ⌜ (1 ≤ kind) × (kind ≤ 3) ⌝ }
-    ensures { λ b. ⌜ b ≡ balanced kind l r ⌝ }
+    ensures { λ b. ⌜ b ≡ paired kind l r ⌝ }
 {
-    if 1 < l {
-        return false;
-    }
-    if 1 < r {
-        return false;
-    }
     if kind == 1 {
-        return l == 1;
+        return l != 255;
     }
-    if kind == 2 {
-        return l == r;
+    if kind == 3 {
+        return r != 255;
     }
-    r == 1
+    if l == 255 {
+        return r == 255;
+    }
+    r != 255
 }
 
-// Node s has as many arcs of each dimension as it may.
+// Node s has the arcs of each dimension that it may have.
 fn incident<'a>(n: usize, kind: u8, lefts: &'a [u8; 64], rights: &'a [u8; 64], s: usize) -> bool
-    requires { ⌜ (n ≤ 3) × (s < 16) × (1 ≤ kind) × (kind ≤ 3) ⌝ }
+    requires { ⌜ (n ≤ 3) × (s < 16) ⌝ }
     ensures { λ r. ⌜ r ≡ incidentBy n kind (now (lefts .entry)) (now (rights .entry)) s ⌝ }
 {
     let mut i = 0;
@@ -42,20 +37,27 @@ fn incident<'a>(n: usize, kind: u8, lefts: &'a [u8; 64], rights: &'a [u8; 64], s
     true
 }
 
-// The least node that has not.
+// The least node that has not, or has two arcs of a dimension on a side.
 pub fn unbalanced<'a>(
     n: usize,
     nodes: usize,
     kinds: &'a [u8; 16],
     lefts: &'a [u8; 64],
     rights: &'a [u8; 64],
+    ltwice: &'a [bool; 16],
+    rtwice: &'a [bool; 16],
 ) -> Found
     requires { ⌜ (n ≤ 3) × (nodes ≤ 16) ⌝ }
-    requires { ⌜ ((s : ℕ) → s < nodes → (1 ≤ getD (now kinds) s 0) × (getD (now kinds) s 0 ≤ 3)) ⌝ }
-    ensures { λ r. ⌜ r ≡ foundOf (least nodes (offends n (now (kinds .entry)) (now (lefts .entry)) (now (rights .entry)))) ⌝ }
+    ensures { λ r. ⌜ r ≡ foundOf (least nodes (offends n (now (kinds .entry)) (now (lefts .entry)) (now (rights .entry)) (now (ltwice .entry)) (now (rtwice .entry)))) ⌝ }
 {
     let mut s = 0;
     while s < nodes {
+        if ltwice[s] {
+            return Found::Node(s as u32);
+        }
+        if rtwice[s] {
+            return Found::Node(s as u32);
+        }
         if !incident(n, kinds[s], lefts, rights, s) {
             return Found::Node(s as u32);
         }

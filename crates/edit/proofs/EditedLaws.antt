@@ -28,7 +28,7 @@ use Rattle.model.proofs.EditLaws as E
 use Rattle.table.specs.Words.{wordAt}
 use Rattle.table.proofs.WordLaws.{word-state, word-link, word-tag}
 use Rattle.edit.specs.Store.{mark, place, next, among}
-use Rattle.conditions.specs.Arcs.{arcCode}
+use Rattle.model.specs.Tables.{arcCode}
 use Rattle.edit.specs.Links.{orbitFor, relinked, cleared, Turns, Legible, Columns, Codes, Ready, editedBy}
 use Rattle.edit.proofs.WriteLaws.{pairDart, Different, relinked-long, relinked-leaves, relinked-node, relinked-position, relinked-none, cleared-long, cleared-leaves, cleared-sets}
 

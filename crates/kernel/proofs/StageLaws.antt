@@ -10,7 +10,7 @@ use native.Mathlib.Omega.{arith}
 use types.Run.{OneOf}
 use lib.ListN.{length}
 use lib.Dec.{eqb, ltb}
-use borrow.Author.Tests.{eq-eqb, ne-eqb, lt-ltb, le-ltb, not-false}
+use borrow.Author.Tests.{eq-eqb, ne-eqb, lt-ltb, le-ltb, not-true, not-false}
 use Rattle.base.specs.Test.{_and_}
 use Rattle.base.specs.Below.{count}
 use Rattle.base.specs.First.{when, _orElse_, there}
@@ -21,8 +21,9 @@ use Rattle.base.proofs.FirstLaws.{some-not-none, when-at, when-none, or-else-ca
 use Rattle.model.specs.Answer.{number}
 use Rattle.model.specs.Map.{Map, view, live, unused}
 use Rattle.model.specs.WellFormed.{WellFormed, wellFormed}
-use Rattle.model.specs.Scheme.{inForm, wordsOf, targetsOf, schemeOf, orbitDim}
+use Rattle.model.specs.Scheme.{left, right, inForm, wordsOf, targetsOf, schemeOf, orbitDim}
 use Rattle.model.specs.Formed.{Formed}
+use Rattle.model.specs.Tables.{codesOf, twiceOf}
 use Rattle.model.specs.Conditions.{hookFault, incidenceFault, cycleFault, schemeFault, noted}
 use Rattle.model.specs.Accepted.{Accepted}
 use Rattle.model.specs.Calls.{zeros, sizesOk, bytesFault, roomFault, orbitOf, editFault, editAnswer, editTable, editStore}
@@ -33,8 +34,13 @@ use Rattle.model.proofs.AnswerLaws.{answers-of}
 use Rattle.model.proofs.WellFormedLaws.{wellFormed-iff}
 use Rattle.model.proofs.SchemeLaws.{formed}
 use Rattle.model.proofs.AcceptedLaws.{accepted}
-use Rattle.scheme.specs.Reading.{reading, blank}
+use Rattle.scheme.specs.Reading.{reading}
 use Rattle.scheme.specs.declared.Reading.{Reading}
+use Rattle.conditions.specs.Tree.{TreeOf}
+use Rattle.conditions.specs.Sides.{SidesOf}
+use Rattle.conditions.specs.Verdict.{Judging}
+use Rattle.conditions.specs.declared.tree.Tree.{Tree}
+use Rattle.conditions.proofs.CodeLaws.{coded}
 use Rattle.edit.specs.Apply.{At, Applied, rewritten}
 use Rattle.table.specs.Words.{Sized}
 use Rattle.kernel.specs.Promises.{MapEdited}
@@ -46,29 +52,71 @@ use Rattle.kernel.proofs.RefusalLaws.{cycle-number}
 module _ (b : List ℕ) (r : Reading) (e : r ≡ reading b) where
   read-ok : r .ok ≡ inForm b
   unfolding reading
-  read-ok = ap (λ (x : Reading). x .ok) e ∙ picked (inForm b)
-    where
-      picked : (t : Bool) → (cond {A = Reading} t (record { ok = true; scheme = schemeOf b }) (record { ok = false; scheme = blank })) .ok ≡ t
-      picked true = refl
-      picked false = refl
+  read-ok = ap (λ (x : Reading). x .ok) e
 
   pub form-bad : not (r .ok) ≡ true → inForm b ≡ false
-  form-bad h = sym read-ok ∙ not-it (r .ok) h
-    where
-      not-it : (t : Bool) → not t ≡ true → t ≡ false
-      not-it true q = absurd (true≢false (sym q))
-      not-it false q = refl
+  form-bad h = sym read-ok ∙ not-true (r .ok) h
 
   pub form-good : not (r .ok) ≡ false → inForm b ≡ true
-  form-good h = sym read-ok ∙ it (r .ok) h
-    where
-      it : (t : Bool) → not t ≡ false → t ≡ true
-      it true q = refl
-      it false q = absurd (true≢false q)
+  form-good h = sym read-ok ∙ not-false (r .ok) h
 
-  pub read-scheme : inForm b ≡ true → r .scheme ≡ schemeOf b
-  unfolding reading
-  read-scheme q = ap (λ (x : Reading). x .scheme) e ∙ rw q refl
+  module _ (q : inForm b ≡ true) where
+    pub read-scheme : r .scheme ≡ schemeOf b
+    unfolding reading
+    read-scheme = ap (λ (x : Reading). x .scheme) e ∙ rw q refl
+
+    pub long-words : length (r .scheme .lwords) ≡ 64
+    unfolding schemeOf wordsOf
+    long-words = rw read-scheme (length-list 64 _)
+
+    pub long-targets : length (r .scheme .ltargets) ≡ 64
+    unfolding schemeOf targetsOf
+    long-targets = rw read-scheme (length-list 64 _)
+
+    pub left-noted : r .lcodes ≡ codesOf (r .scheme) left
+    unfolding reading
+    left-noted = rw e refl
+
+    pub right-noted : r .rcodes ≡ codesOf (r .scheme) right
+    unfolding reading
+    right-noted = rw e refl
+
+    pub left-twice : r .ltwice ≡ twiceOf (r .scheme) left
+    unfolding reading
+    left-twice = rw e refl
+
+    pub right-twice : r .rtwice ≡ twiceOf (r .scheme) right
+    unfolding reading
+    right-twice = rw e refl
+
+    -- what the conditions ask of a scheme that was read
+    abbrev pub judge-asks : Judging (r .scheme .n) (r .scheme .places) (r .scheme .nodes) (r .scheme .orbit) (r .scheme .kinds) (r .scheme .lwords) (r .scheme .ltargets)
+        (r .scheme .lcount) (r .scheme .larcs) (r .lcodes) (r .rcodes) (r .ltwice) (r .rtwice)
+    judge-asks = record {
+      scheme = r .scheme;
+      formed = rw read-scheme (formed b q);
+      nIs = refl;
+      placesIs = refl;
+      nodesIs = refl;
+      orbitIs = refl;
+      kindsIs = refl;
+      lwordsIs = refl;
+      ltargetsIs = refl;
+      lcountIs = refl;
+      larcsIs = refl;
+      lcodesIs = left-noted;
+      rcodesIs = right-noted;
+      ltwiceIs = left-twice;
+      rtwiceIs = right-twice;
+      longWords = long-words;
+      longTargets = long-targets;
+    }
+
+    -- what an edit asks of its sides
+    pub read-sides : (t : Tree) → TreeOf (r .scheme) t → SidesOf (r .scheme) (record { tree = t; lcodes = r .lcodes; rcodes = r .rcodes })
+    read-sides t g =
+        let f : Formed (r .scheme) = rw read-scheme (formed b q) in
+        record { tree = g; lefts = coded (r .scheme) f left (r .lcodes) left-noted; rights = coded (r .scheme) f right (r .rcodes) right-noted }
 
 -- refusals 2 to 5, or done
 unfoldable pub judged : List ℕ → Answer
@@ -86,11 +134,6 @@ module _ (b : List ℕ) (S : Scheme) (e : inForm b ≡ true) (s : S ≡ schemeOf
   pub judged-good : (a : Answer) → a ≡ Option·getD (schemeFault S) Done → a ≡ judged b
   unfolding judged bytesFault when _orElse_
   judged-good a f = f ∙ rw (e, s)
-
-  -- what the conditions ask of a scheme that was read
-  pub judge-asks : ((length (S .lwords) ≡ 64) × (length (S .rwords) ≡ 64) × (length (S .ltargets) ≡ 64) × (length (S .rtargets) ≡ 64)) × Formed S
-  unfolding schemeOf wordsOf targetsOf
-  judge-asks = rw s ((length-list 64 _, length-list 64 _, length-list 64 _, length-list 64 _), formed b e)
 
 -- no refusal of the bytes is done
 noted-number : (f : ℕ → Answer) (k : ℕ) → ((x : ℕ) → number (f x) ≡ k) → (o : Option ℕ) (a : Answer) → noted f o ≡ some a → number a ≡ k

@@ -77,17 +77,24 @@ pub(crate) fn staged(
         &r.scheme.orbit,
         &r.scheme.kinds,
         &r.scheme.lwords,
-        &r.scheme.rwords,
         &r.scheme.ltargets,
-        &r.scheme.rtargets,
         r.scheme.lcount,
         &r.scheme.larcs,
-        r.scheme.rcount,
-        &r.scheme.rarcs,
+        &r.lcodes,
+        &r.rcodes,
+        &r.ltwice,
+        &r.rtwice,
     );
     let answer = v.answer;
     let s = r.scheme;
-    let p = v.sides;
+    let tree = v.tree;
+    let lcodes = r.lcodes;
+    let rcodes = r.rcodes;
+    let p = Sides {
+        tree: tree,
+        lcodes: lcodes,
+        rcodes: rcodes,
+    };
     match answer {
         Answer::Done => apply_at(n, slots, table, store, s, p, dart),
         _ => answer,

@@ -3,13 +3,13 @@
 use Prim.Native.Nat.{ℕ, _+_, _*_, _/_, _%_, _≤_, _<_}
 use mathlib.Core.Path.{_≡_, refl, sym, ap, ap₂, _∙_, subst}
 use mathlib.Core.Logic.{_⊎_, inl, inr, ⊎-elim}
-use mathlib.Core.Bool.{true, cond}
+use mathlib.Core.Bool.{Bool, true, cond}
 use mathlib.Core.Option.{Option, Option·getD}
 use mathlib.Core.List.{List}
 use native.Mathlib.Omega.{arith}
 use lib.ListN.{getD}
 use lib.Dec.{eqb}
-use borrow.Author.Tests.{eqb-true, ltb-true, leb-true, lt-ltb}
+use borrow.Author.Tests.{eqb-true, ltb-true, leb-true, lt-ltb, le-ltb}
 use Rattle.base.specs.Test.{_and_, _or_}
 use Rattle.base.specs.First.{when}
 use Rattle.base.proofs.TestLaws.{and-left, and-right, or-cases}
@@ -66,7 +66,7 @@ module _ (b : List ℕ) (q : inForm b ≡ true) where
   unfolding arcsForm
   form-arc side a h = all-at _ _ (and-right _ _ (form-arcs side)) a h
 
-  form-word : (side : Side) (s : ℕ) → s < nodesOf b → wordForm b side s ≡ true
+  pub form-word : (side : Side) (s : ℕ) → s < nodesOf b → wordForm b side s ≡ true
   unfolding nodeForm
   form-word left s h = and-right _ _ (and-left _ _ (and-left _ _ (and-left _ _ (form-node s h))))
   form-word right s h = and-right _ _ (and-left _ _ (and-left _ _ (form-node s h)))
@@ -96,6 +96,20 @@ module _ (b : List ℕ) (q : inForm b ≡ true) where
       ∙ ap₂ (λ (x y : ℕ). upTo (nodesOf b) x (upTo (placesOf b) y (wordAt b side x y) 255) 255) at-s at-p
       ∙ up-to _ _ _ _ h ∙ up-to _ _ _ _ l
 
+  words-out : (side : Side) (s p : ℕ) → nodesOf b ≤ s → s < 16 → p < 4 → getD (wordsOf b side) (4 * s + p) 255 ≡ 255
+  unfolding wordsOf
+  words-out side s p h l k =
+      let at-s : (4 * s + p) / 4 ≡ s = omega arith in
+      getD-list 64 (4 * s + p) _ 255 (omega arith)
+      ∙ ap (λ (x : ℕ). upTo (nodesOf b) x (upTo (placesOf b) ((4 * s + p) % 4) (wordAt b side x ((4 * s + p) % 4)) 255) 255) at-s
+      ∙ ap (λ (c : Bool). cond c (upTo (placesOf b) ((4 * s + p) % 4) (wordAt b side s ((4 * s + p) % 4)) 255) 255) (le-ltb s (nodesOf b) h)
+
+  -- past the last node every word is 255
+  pub value-word-out : (side : Side) (s p : ℕ) → nodesOf b ≤ s → s < 16 → p < 4 → word (schemeOf b) side s p ≡ 255
+  unfolding schemeOf
+  value-word-out left s p h l k = words-out left s p h l k
+  value-word-out right s p h l k = words-out right s p h l k
+
   pub value-word : (side : Side) (s p : ℕ) → s < nodesOf b → p < placesOf b → word (schemeOf b) side s p ≡ wordAt b side s p
   unfolding schemeOf
   value-word left s p h l = words-at left s p h l
@@ -116,7 +130,8 @@ module _ (b : List ℕ) (q : inForm b ≡ true) where
   value-arc left a f h l = arcs-at left a f h l
   value-arc right a f h l = arcs-at right a f h l
 
-  end-same : (side : Side) (s i : ℕ) → farEnd (arcByte b side) (arcCount b side) s i ≡ farEnd (arcPart (schemeOf b) side) (arcCount b side) s i
+  -- arcs lead from a node to the same far end, by the bytes and by the value
+  pub end-same : (side : Side) (s i : ℕ) → farEnd (arcByte b side) (arcCount b side) s i ≡ farEnd (arcPart (schemeOf b) side) (arcCount b side) s i
   unfolding farEnd
   end-same side s i = first-same (arcCount b side) _ _ (λ a h. each
       (value-arc side a 0 h (omega arith)) (value-arc side a 1 h (omega arith)) (value-arc side a 2 h (omega arith)))

@@ -5,6 +5,7 @@ pub mod Reach
 pub mod Scheme
 pub mod Formed
 pub mod Conditions
+pub mod Tables
 pub mod Accepted
 pub mod Orbit
 pub mod Match

@@ -12,18 +12,20 @@ use borrow.Author.Tests.{eq-eqb, eqb-true, lt-ltb, ltb-true, ltb-false, le-leb, 
 use Rattle.base.specs.Test.{_and_, _or_, _⇒_}
 use Rattle.base.specs.Below.{all}
 use Rattle.base.specs.Filled.{stored}
+use Rattle.base.specs.Lists.{list}
 use Rattle.base.proofs.TestLaws.{and-left, and-right, and-of, or-cases, or-left, or-right, true-or-false, refuted, same-test}
 use Rattle.base.proofs.BelowLaws.{all-at, all-of, all-none, all-more, all-ends}
 use Rattle.base.proofs.ListLaws.{getD-list}
 use Rattle.base.proofs.FilledLaws.{filled-none, filled-all, stored-filled, same-ltb}
 use Rattle.base.proofs.AscentLaws.{above, above-step, ascends, descends}
-use Rattle.model.specs.Scheme.{Side, onSide, byte, nodesOf, kindAt, arcCount, arcByte, before, nodeForm, arcForm, arcsForm, arcsOf, targetsOf, schemeOf}
+use Rattle.model.specs.Scheme.{Side, onSide, byte, nodesOf, kindAt, arcCount, arcByte, before, nodeForm, arcForm, arcsForm, arcsOf, targetsOf, farEnd, schemeOf}
 use Rattle.scheme.specs.Words.{sideOf}
-use Rattle.scheme.specs.Arcs.{ArcsPlaced, keyOf, arcTest, linked, targetsTo}
+use Rattle.scheme.specs.Arcs.{ArcsPlaced, keyOf, arcTest}
+use Rattle.scheme.specs.Tables.{placedAt, Linked, codesTo, twiceTo}
 use Rattle.scheme.specs.declared.frame.Layout.{Layout}
 use Rattle.scheme.proofs.FrameLaws.{dimension-small}
 use Rattle.scheme.proofs.WordLaws.{on-side}
-use Rattle.scheme.proofs.TargetLaws.{targets-none, targets-more}
+use Rattle.scheme.proofs.TableLaws.{Shown, touches, shown-none, linked-more, placed-byte}
 
 -- ---- the order of arcs
 
@@ -63,10 +65,10 @@ module _ (b : List ℕ) (other : ℕ) where
   keyAt a = keyOf (arcByte b (sideOf other) a 0) (arcByte b (sideOf other) a 1) (arcByte b (sideOf other) a 2)
 
   -- what holds once the first a arcs are read; `low` is the least key that may come next
-  pub record Joined (a low : ℕ) (targets : List ℕ) : Type 0 where
+  pub record Joined (a low : ℕ) (targets codes : List ℕ) (twice : List Bool) : Type 0 where
     pub formed : all a (arcForm b (sideOf other)) ≡ true
     pub next : low ≡ above keyAt a
-    pub held : targets ≡ targetsTo (arcByte b (sideOf other)) a
+    pub held : Shown (placedAt b (sideOf other)) (farEnd (arcByte b (sideOf other)) a) (touches (placedAt b (sideOf other)) (arcByte b (sideOf other)) a) targets codes twice
 
 -- ---- one arc
 
@@ -182,49 +184,60 @@ module _ (b : List ℕ) (l : Layout) (kinds : List ℕ) (other from count : ℕ)
 
   -- ---- the first a arcs
 
-  pub joined-none : {targets : List ℕ} → targets ≡ replicate 64 255 → Joined b other 0 0 targets
+  -- before the first arc
+  pub joined-none : {targets codes : List ℕ} {twice : List Bool} → targets ≡ replicate 64 255 → codes ≡ list 64 (placedAt b side) → twice ≡ replicate 16 false
+      → Joined b other 0 0 targets codes twice
   unfolding above
-  joined-none e = record { formed = all-none _; next = refl; held = targets-none part e }
+  joined-none e f g = record { formed = all-none _; next = refl; held = shown-none (placedAt b side) part e f g }
 
-  pub joined-form-at : {r : Bool} (a low n nodes d s t : ℕ) {targets : List ℕ} → Joined b other a low targets → Read a d s t → n ≡ byte b 0 → nodes ≡ nodesOf b
+  pub joined-form-at : {r : Bool} (a low n nodes d s t : ℕ) {targets codes : List ℕ} {twice : List Bool} → Joined b other a low targets codes twice → Read a d s t → n ≡ byte b 0 → nodes ≡ nodesOf b
       → r ≡ arcTest n nodes kinds other low d s t → r ≡ arcForm b side a
   joined-form-at a low n nodes d s t j q nIs nodesIs e =
       e ∙ rw (q .dIs, q .sIs, q .tIs) (arc-same a low n nodes (j .formed) (j .next) nIs nodesIs)
 
-  pub joined-more : (a low d s t k : ℕ) {targets targets′ : List ℕ} → Joined b other a low targets → Read a d s t → arcForm b side a ≡ true
-      → k ≡ keyOf d s t → targets′ ≡ linked targets d s t → Joined b other (a + 1) (k + 1) targets′
-  joined-more a low d s t k {targets} j r q keyIs e =
+  -- an arc more
+  pub joined-more : (a low d s t k : ℕ) {targets codes targets′ codes′ : List ℕ} {twice twice′ : List Bool} → Joined b other a low targets codes twice
+      → Read a d s t → arcForm b side a ≡ true → k ≡ keyOf d s t → Linked d s t targets codes twice targets′ codes′ twice′
+      → Joined b other (a + 1) (k + 1) targets′ codes′ twice′
+  joined-more a low d s t k j r q keyIs e =
       let n = ends a q in
       let n3 = dimension-small b l (placed .laid) in
+      let h = placed .laid .headed in
       record {
         formed = all-more _ a (j .formed) q;
         next = ap (λ (x : ℕ). x + 1) (keyIs ∙ rw (r .dIs, r .sIs, r .tIs) refl) ∙ sym (above-step key a);
-        held = e ∙ rw (r .dIs, r .sIs, r .tIs) (targets-more part a (j .held) (omega arith) (omega arith) (omega arith)
-            (λ o h. let g = ends o (all-at a _ (j .formed) o h) in (omega arith, omega arith)));
+        held = linked-more (placedAt b side) part a (omega arith) (omega arith) (omega arith) (placed-byte b side (omega arith)) (j .held)
+            (rw (r .dIs, r .sIs, r .tIs) at e);
       }
 
   pub joined-stops : (a : ℕ) → a < count → arcForm b side a ≡ false → false ≡ arcsForm b side
   unfolding arcsForm
   joined-stops a h q = sym (refuted (λ w. all-at _ _ (and-right _ _ w) a (rw (placed .countIs) at h)) q)
 
-  pub joined-form : (a low : ℕ) {targets : List ℕ} → Joined b other a low targets → a ≤ count → count ≤ a → true ≡ arcsForm b side
+  pub joined-form : (a low : ℕ) {targets codes : List ℕ} {twice : List Bool} → Joined b other a low targets codes twice → a ≤ count → count ≤ a → true ≡ arcsForm b side
   unfolding arcsForm
   joined-form a low j h k =
       let few = placed .few in
       let c = placed .countIs in
       sym (and-of (le-leb (arcCount b side) 64 (omega arith)) (sym (all-ends _ a (arcCount b side) (j .formed) (omega arith) (omega arith))))
 
-  pub joined-value : (a low : ℕ) {targets : List ℕ} → Joined b other a low targets → a ≤ count → count ≤ a → targets ≡ targetsOf b side
-  unfolding targetsTo targetsOf
-  joined-value a low j h k = let same : a ≡ arcCount b side = omega (arith, placed .countIs) in j .held ∙ ap (targetsTo part) same
+  -- after the last arc
+  pub joined-value : (a low : ℕ) {targets codes : List ℕ} {twice : List Bool} → Joined b other a low targets codes twice → a ≤ count → count ≤ a
+      → (targets ≡ targetsOf b side) × (codes ≡ codesTo (placedAt b side) (arcByte b side) (arcCount b side))
+      × (twice ≡ twiceTo (placedAt b side) (arcByte b side) (arcCount b side))
+  unfolding targetsOf codesTo twiceTo
+  joined-value a low {targets} {codes} {twice} j h k =
+      let same : a ≡ arcCount b side = omega (arith, placed .countIs) in
+      let w : Shown (placedAt b side) (farEnd part (arcCount b side)) (touches (placedAt b side) part (arcCount b side)) targets codes twice = rw same at (j .held) in
+      (w .targetsAre, w .codesAre, w .twiceAre)
 
   -- ---- the arcs as they stand
 
-  pub arcs-value : {arcs : List ℕ} → arcs ≡ replicate 192 0 → stored arcs 0 b from (3 * count) ≡ arcsOf b side
+  pub arcs-value : {arcs arcs′ : List ℕ} → arcs ≡ replicate 192 0 → arcs′ ≡ stored arcs 0 b from (3 * count) → arcs′ ≡ arcsOf b side
   unfolding arcsOf
-  arcs-value e =
+  arcs-value e f =
       let few = placed .few in
-      filled-all 192 (λ k. byte b (from + k)) 0 (0 + 3 * count) _
+      f ∙ filled-all 192 (λ k. byte b (from + k)) 0 (0 + 3 * count) _
       (stored-filled 192 (λ k. byte b (from + k)) 0 0 b from (3 * count) (e ∙ filled-none 192 _ 0) (omega arith) (λ k h. ap (λ (i : ℕ). byte b (from + i)) (omega arith)))
       (λ k h. ap₂ (λ (t : Bool) (i : ℕ). cond t (byte b i) 0)
       (same-ltb k (0 + 3 * count) (k / 3) (arcCount b side) (λ u. omega (arith, placed .countIs)) (λ u. omega (arith, placed .countIs)))

@@ -1,101 +1,180 @@
--- Marks at the dimensions of a word: a dimension is fresh where it is not marked.
+-- The dimensions of a word as they are marked in a row of the table of codes: a dimension is fresh where its code is 255.
 -- Assumes nothing.
-use Prim.Native.Nat.{ℕ, _+_, _≤_, _<_}
+use Prim.Native.Nat.{ℕ, zero, suc, _+_, _≤_, _<_}
 use mathlib.Core.Path.{_≡_, refl, sym, ap, _∙_}
-use mathlib.Core.Logic.{⊎-elim, by-cases}
+use mathlib.Core.Logic.{_⊎_, inl, inr, ⊎-elim, by-cases}
 use mathlib.Core.Bool.{Bool, true, false, true≢false}
+use mathlib.Core.Option.{Option, none, some}
 use mathlib.Core.List.{List}
 use native.Mathlib.Decide.{ℕ-discrete}
+use native.Mathlib.Numerals.{add-one}
 use native.Mathlib.Omega.{arith}
-use lib.ListN.{length, getD, set, replicate, length-set}
-use lib.Seq.{ext-getD, getD-set-same, getD-set-other}
+use lib.ListN.{length, getD, set, length-set}
+use lib.Seq.{getD-set-same, getD-set-other}
 use lib.Dec.{eqb}
 use borrow.Author.Tests.{eq-eqb, ne-eqb, eqb-true, lt-leb, le-leb, leb-true}
-use Rattle.base.specs.Test.{_and_, _or_, _⇒_, bit}
-use Rattle.base.specs.Below.{all, any}
-use Rattle.base.specs.Lists.{list}
-use Rattle.base.proofs.TestLaws.{and-left, and-right, and-of, or-left, or-right, or-rest, or-none, if-so, if-of, true-or-false, same-test}
-use Rattle.base.proofs.BelowLaws.{all-at, all-of, any-at, any-of, any-step}
-use Rattle.base.proofs.ListLaws.{getD-list, length-list}
-use Rattle.base.proofs.FilledLaws.{list-all, list-same}
+use Rattle.base.specs.Test.{_and_, _or_, _⇒_}
+use Rattle.base.specs.Below.{all}
+use Rattle.base.specs.First.{when, first, least}
+use Rattle.base.proofs.TestLaws.{and-left, and-right, and-of, or-left, or-right, or-rest, if-so, if-of, impossible, true-or-false, same-test}
+use Rattle.base.proofs.BelowLaws.{all-at, all-of}
+use Rattle.base.proofs.FirstLaws.{or-else-last, least-at, least-none, least-none-of, least-hit}
 use Rattle.model.specs.Scheme.{byte}
-use Rattle.scheme.specs.Words.{freshAt, fitsAt, marksTo, markable, marked}
+use Rattle.scheme.specs.Words.{freshAt, fitsAt}
+use Rattle.scheme.specs.Tables.{placeCode, markable, marked, rowed}
 
 -- ---- one mark
 
-module _ (marks : List ℕ) (n d : ℕ) where
-  pub mark-gone : d ≡ 255 → (true ≡ markable marks n d) × (marks ≡ marked marks d)
+module _ (codes : List ℕ) (base n d p : ℕ) where
+  -- a byte 255 marks nothing
+  pub mark-gone : d ≡ 255 → (true ≡ markable codes base n d) × (codes ≡ marked codes base d p)
   unfolding markable marked
   mark-gone e = (sym (or-left _ (eq-eqb _ _ e)), rw (eq-eqb _ _ e) refl)
 
-  pub mark-none : (d ≡ 255 → ⊥) → n < d → false ≡ markable marks n d
+  -- a byte above n is not marked
+  pub mark-none : (d ≡ 255 → ⊥) → n < d → false ≡ markable codes base n d
   unfolding markable _or_ _and_
   mark-none e h = rw (ne-eqb _ _ e, lt-leb _ _ h)
 
-  pub mark-twice : {i : ℕ} → (d ≡ 255 → ⊥) → d ≤ n → i ≡ d → (getD marks i 0 ≡ 0 → ⊥) → false ≡ markable marks n d
+  -- a dimension that has a code is not marked again
+  pub mark-twice : {i : ℕ} → (d ≡ 255 → ⊥) → d ≤ n → i ≡ base + d → (getD codes i 0 ≡ 255 → ⊥) → false ≡ markable codes base n d
   unfolding markable _or_ _and_
   mark-twice e h q w = rw (ne-eqb _ _ e, le-leb _ _ h, ← q, ne-eqb _ _ w)
 
-  pub mark-once : {i : ℕ} → (d ≡ 255 → ⊥) → d ≤ n → i ≡ d → getD marks i 0 ≡ 0 → (true ≡ markable marks n d) × (set marks i 1 ≡ marked marks d)
+  -- a dimension that has none is marked
+  pub mark-once : {i : ℕ} → (d ≡ 255 → ⊥) → d ≤ n → i ≡ base + d → getD codes i 0 ≡ 255
+      → (true ≡ markable codes base n d) × (set codes i (16 + p) ≡ marked codes base d p)
   unfolding markable marked
   mark-once e h q w =
-      (sym (or-right _ (and-of (le-leb _ _ h) (eq-eqb _ _ (ap (λ (j : ℕ). getD marks j 0) (sym q) ∙ w)))), rw (ne-eqb _ _ e, q) refl)
+      (sym (or-right _ (and-of (le-leb _ _ h) (eq-eqb _ _ (ap (λ (j : ℕ). getD codes j 0) (sym q) ∙ w)))), rw (ne-eqb _ _ e, q) refl)
 
--- ---- the marks of a word
+-- ---- the first p bytes of a word
+
+-- where the test fails at p, one number more finds nothing more
+least-pass : (p : ℕ) (f : ℕ → Bool) → f p ≡ false → least (suc p) f ≡ least p f
+unfolding least first when
+least-pass p f e = rw e (or-else-last _)
 
 module _ (b : List ℕ) (at : ℕ) where
-  abbrev stands : ℕ → ℕ → Bool
+  -- the byte at o is the dimension d
+  abbrev pub stands : ℕ → ℕ → Bool
   stands d o = eqb (byte b (at + o)) d
 
-  -- no byte before p is d where none of them stands
-  fresh-none : (p d : ℕ) → all p (freshAt b at d) ≡ eqb (bit (any p (stands d))) 0
+  -- a dimension that is fresh among the first p bytes stands at none of them
+  fresh-least : (p d : ℕ) → all p (freshAt b at d) ≡ true → least p (stands d) ≡ none
   unfolding freshAt
-  fresh-none p d = same-test _ _
-      (λ q. go (any p (stands d)) refl q)
-      (λ q. all-of p _ (λ o h. if-of _ (λ e. absurd (some-bit (any-of p (stands d) o h e) q))))
+  fresh-least p d q = least-none-of p (stands d) (λ o h. impossible _ (λ e. true≢false (sym (if-so _ (all-at p _ q o h) e))))
+
+  -- a dimension is fresh where its code is 255
+  fresh-code : (p d : ℕ) → p ≤ 4 → eqb (placeCode (least p (stands d))) 255 ≡ all p (freshAt b at d)
+  unfolding freshAt
+  fresh-code p d few = same-test _ _
+      (λ q. all-of p _ (λ o h. if-of _ (λ e. absurd (true≢false (sym e ∙ least-none p (stands d) (go (least p (stands d)) refl q) o h)))))
+      (λ q. eq-eqb _ _ (ap placeCode (fresh-least p d q)))
     where
-      some-bit : {t : Bool} → t ≡ true → eqb (bit t) 0 ≡ true → ⊥
-      some-bit {t} e q = true≢false (sym q ∙ ap (λ (x : Bool). eqb (bit x) 0) e)
+      go : (o : Option ℕ) → least p (stands d) ≡ o → eqb (placeCode o) 255 ≡ true → least p (stands d) ≡ none
+      go none e q = e
+      go (some k) e q = let h : k < p = least-at p (stands d) k e .0 in let v : 16 + k ≡ 255 = eqb-true _ _ q in absurd (omega arith)
 
-      go : (t : Bool) → any p (stands d) ≡ t → all p (λ o. eqb (byte b (at + o)) d ⇒ false) ≡ true → eqb (bit t) 0 ≡ true
-      go true e q = let r = any-at p (stands d) e in absurd (true≢false (sym (if-so _ (all-at p _ q (r .0) (r .1)) (r .2))))
-      go false e q = refl
+  -- a byte that fits is 255, or a dimension that is fresh
+  fit-cases : (n p : ℕ) → fitsAt b n at p ≡ true
+      → (byte b (at + p) ≡ 255) ⊎ ((byte b (at + p) ≡ 255 → ⊥) × (byte b (at + p) ≤ n) × (all p (freshAt b at (byte b (at + p))) ≡ true))
+  unfolding fitsAt
+  fit-cases n p q = by-cases (ℕ-discrete (byte b (at + p)) 255)
+      (λ e. inl e)
+      (λ ne. let u = or-rest (ne-eqb _ _ ne) q in inr (ne, leb-true _ _ (and-left _ _ u), and-right _ _ u))
 
-  pub marks-none : {marks : List ℕ} → marks ≡ replicate 4 0 → marks ≡ marksTo b at 0
-  unfolding marksTo any
-  marks-none e = e ∙ list-all 4 0 _ (λ k h. refl)
+  module _ (codes : List ℕ) (base : ℕ) where
+    -- the table with p bytes
+    abbrev rows : ℕ → List ℕ
+    rows p = rowed codes base b at p
 
-  pub marks-fit : {marks : List ℕ} {r : Bool} (n p : ℕ) → marks ≡ marksTo b at p → n ≤ 3 → r ≡ markable marks n (byte b (at + p)) → r ≡ fitsAt b n at p
-  unfolding fitsAt markable marksTo
-  marks-fit {marks} n p e few q = q ∙ ⊎-elim
-      (λ w. or-left _ w ∙ sym (or-left _ w))
-      (λ w. same-test _ _
-      (λ t. or-right _ (let u = or-rest w t in and-of (and-left _ _ u) (fresh-none p _ ∙ sym (at-mark (leb-true _ _ (and-left _ _ u))) ∙ and-right _ _ u)))
-      (λ t. or-right _ (let u = or-rest w t in and-of (and-left _ _ u) (at-mark (leb-true _ _ (and-left _ _ u)) ∙ sym (fresh-none p _) ∙ and-right _ _ u))))
-      (true-or-false (eqb (byte b (at + p)) 255))
-    where
-      at-mark : byte b (at + p) ≤ n → eqb (getD marks (byte b (at + p)) 0) 0 ≡ eqb (bit (any p (stands (byte b (at + p))))) 0
-      at-mark h = ap (λ (x : ℕ). eqb x 0) (ap (λ (l : List ℕ). getD l (byte b (at + p)) 0) e ∙ getD-list 4 (byte b (at + p)) _ 0 (omega arith))
+    -- no byte marks nothing
+    pub rowed-none : rowed codes base b at 0 ≡ codes
+    unfolding rowed
+    rowed-none = refl
 
-  -- the marks with one byte more
-  pub marks-more : {marks : List ℕ} (n p : ℕ) → marks ≡ marksTo b at p → n ≤ 3 → markable marks n (byte b (at + p)) ≡ true
-      → marked marks (byte b (at + p)) ≡ marksTo b at (p + 1)
-  unfolding markable marked marksTo
-  marks-more {marks} n p e few q = ⊎-elim
-      (λ w. rw w (e ∙ list-same 4 _ _ (λ k h. ap bit (sym (any-step p (stands k) ∙ or-none _ (ne-eqb _ _ (λ f. gone w k h f)))))))
-      (λ w. rw w (here (leb-true _ _ (and-left _ _ (or-rest w q)))))
-      (true-or-false (eqb (byte b (at + p)) 255))
-    where
-      gone : eqb (byte b (at + p)) 255 ≡ true → (k : ℕ) → k < 4 → byte b (at + p) ≡ k → ⊥
-      gone w k h f = let v : byte b (at + p) ≡ 255 = eqb-true _ _ w in omega arith
+    -- one byte more
+    pub rowed-more : {l : List ℕ} (p : ℕ) → l ≡ rowed codes base b at p → marked l base (byte b (at + p)) p ≡ rowed codes base b at (p + 1)
+    unfolding rowed
+    rowed-more p e = rw (add-one p, e) refl
 
-      here : byte b (at + p) ≤ n → set marks (byte b (at + p)) 1 ≡ list 4 (λ k. bit (any (p + 1) (stands k)))
-      here h =
-          let long : length marks ≡ 4 = ap length e ∙ length-list 4 _ in
-          ext-getD 0 _ _ (length-set marks _ 1 ∙ long ∙ sym (length-list 4 _)) (λ k l.
-          let l′ : k < 4 = omega (arith, length-set marks (byte b (at + p)) 1) in
-          by-cases (ℕ-discrete k (byte b (at + p)))
-          (λ f. ap (λ (i : ℕ). getD (set marks (byte b (at + p)) 1) i 0) f ∙ getD-set-same marks _ 1 0 (omega arith)
-          ∙ sym (getD-list 4 k _ 0 l′ ∙ ap bit (any-of (p + 1) (stands k) p (omega arith) (eq-eqb _ _ (sym f)))))
-          (λ ne. getD-set-other marks _ k 1 0 ne ∙ ap (λ (m : List ℕ). getD m k 0) e ∙ getD-list 4 k _ 0 l′
-          ∙ ap bit (sym (any-step p (stands k) ∙ or-none _ (ne-eqb _ _ (λ f. ne (sym f))))) ∙ sym (getD-list 4 k _ 0 l′)))
+    -- the same number of bytes by another name
+    pub rowed-all : {l : List ℕ} (p k : ℕ) → l ≡ rowed codes base b at p → p ≡ k → l ≡ rowed codes base b at k
+    rowed-all p k e q = rw (← q) e
+
+    -- the table keeps its length
+    pub length-rowed : (p : ℕ) → length (rowed codes base b at p) ≡ length codes
+    unfolding rowed marked
+    length-rowed zero = refl
+    length-rowed (suc p) = ⊎-elim (λ w. rw w (length-rowed p)) (λ w. rw w (length-set (rows p) _ _ ∙ length-rowed p)) (true-or-false (eqb (byte b (at + p)) 255))
+
+    -- what a byte 255 marks
+    gone : (l : List ℕ) (d p : ℕ) → d ≡ 255 → marked l base d p ≡ l
+    unfolding marked
+    gone l d p e = rw (eq-eqb _ _ e) refl
+
+    -- what a dimension marks
+    here : (l : List ℕ) (d p : ℕ) → (d ≡ 255 → ⊥) → marked l base d p ≡ set l (base + d) (16 + p)
+    unfolding marked
+    here l d p e = rw (ne-eqb _ _ e) refl
+
+    module _ (n : ℕ) (few : n ≤ 3) where
+      -- the entries outside the row are as before
+      pub rowed-else : (p : ℕ) → all p (fitsAt b n at) ≡ true → (k : ℕ) → (k < base) ⊎ (base + 4 ≤ k) → getD (rowed codes base b at p) k 0 ≡ getD codes k 0
+      unfolding rowed all
+      rowed-else zero q k h = refl
+      rowed-else (suc p) q k h =
+          let before = rowed-else p (and-left _ _ q) k h in
+          ⊎-elim
+          (λ e. ap (λ (l : List ℕ). getD l k 0) (gone (rows p) _ p e) ∙ before)
+          (λ f. ap (λ (l : List ℕ). getD l k 0) (here (rows p) _ p (f .0))
+          ∙ getD-set-other (rows p) _ k _ 0 (λ e. ⊎-elim (λ u. apart-low k (f .1) e u) (λ u. apart-high k (f .1) e u) h) ∙ before)
+          (fit-cases n p (and-right _ _ q))
+        where
+          apart-low : {d : ℕ} (k : ℕ) → d ≤ n → k ≡ base + d → k < base → ⊥
+          apart-low k l e u = omega arith
+
+          apart-high : {d : ℕ} (k : ℕ) → d ≤ n → k ≡ base + d → base + 4 ≤ k → ⊥
+          apart-high k l e u = omega arith
+
+      module _ (room : base + 4 ≤ length codes) (clear : (i : ℕ) → i < 4 → getD codes (base + i) 0 ≡ 255) where
+        -- a row that was clear has for each dimension the first position at which it stands
+        pub rowed-at : (p : ℕ) → all p (fitsAt b n at) ≡ true → (i : ℕ) → i < 4
+            → getD (rowed codes base b at p) (base + i) 0 ≡ placeCode (least p (stands i))
+        unfolding rowed all
+        rowed-at zero q i h = clear i h ∙ ap placeCode (sym (least-none-of 0 (stands i) (λ k l. absurd (omega arith))))
+        rowed-at (suc p) q i h =
+            let before = rowed-at p (and-left _ _ q) i h in
+            let pass : stands i p ≡ false → placeCode (least p (stands i)) ≡ placeCode (least (suc p) (stands i)) = λ ne. ap placeCode (sym (least-pass p (stands i) ne)) in
+            ⊎-elim
+            (λ e. ap (λ (l : List ℕ). getD l (base + i) 0) (gone (rows p) _ p e) ∙ before ∙ pass (ne-eqb _ _ (λ f. far i h e f)))
+            (λ f. ap (λ (l : List ℕ). getD l (base + i) 0) (here (rows p) _ p (f .0))
+            ∙ by-cases (ℕ-discrete i (byte b (at + p)))
+            (λ e. ap (λ (j : ℕ). getD (set (rows p) (base + byte b (at + p)) (16 + p)) (base + j) 0) e
+            ∙ getD-set-same (rows p) _ _ 0 (inside (f .1))
+            ∙ ap placeCode (sym (least-hit (suc p) (stands i) p (omega arith)
+            (fresh-least p i (ap (λ (d : ℕ). all p (freshAt b at d)) e ∙ f .2)) (eq-eqb _ _ (sym e)))))
+            (λ ne. getD-set-other (rows p) _ (base + i) _ 0 (λ e. ne (omega arith)) ∙ before ∙ pass (ne-eqb _ _ (λ e. ne (sym e)))))
+            (fit-cases n p (and-right _ _ q))
+          where
+            far : {d : ℕ} (i : ℕ) → i < 4 → d ≡ 255 → d ≡ i → ⊥
+            far i h e f = omega arith
+
+            inside : byte b (at + p) ≤ n → base + byte b (at + p) < length (rowed codes base b at p)
+            inside u = omega (arith, length-rowed p)
+
+        -- the next byte can be marked just if it fits
+        pub rowed-fits : {l : List ℕ} {r : Bool} (p : ℕ) → l ≡ rowed codes base b at p → p ≤ 4 → all p (fitsAt b n at) ≡ true
+            → r ≡ markable l base n (byte b (at + p)) → r ≡ fitsAt b n at p
+        unfolding fitsAt markable
+        rowed-fits {l} p e small q r = r ∙ ⊎-elim
+            (λ w. or-left _ w ∙ sym (or-left _ w))
+            (λ w. same-test _ _
+            (λ t. or-right _ (let u = or-rest w t in and-of (and-left _ _ u) (sym (code (leb-true _ _ (and-left _ _ u))) ∙ and-right _ _ u)))
+            (λ t. or-right _ (let u = or-rest w t in and-of (and-left _ _ u) (code (leb-true _ _ (and-left _ _ u)) ∙ and-right _ _ u))))
+            (true-or-false (eqb (byte b (at + p)) 255))
+          where
+            code : byte b (at + p) ≤ n → eqb (getD l (base + byte b (at + p)) 0) 255 ≡ all p (freshAt b at (byte b (at + p)))
+            code h = ap (λ (x : ℕ). eqb x 255) (ap (λ (m : List ℕ). getD m (base + byte b (at + p)) 0) e ∙ rowed-at p q (byte b (at + p)) (omega arith))
+                ∙ fresh-code p (byte b (at + p)) small

@@ -1,22 +1,30 @@
--- The words of the nodes as they are read: what a word's place tells of the side's form and value.
+-- The words of the nodes as they are read: what a word's place tells of the side's form, value and codes.
 -- Assumes nothing.
 use Prim.Native.Nat.{ℕ, _+_, _-_, _*_, _/_, _%_, _≤_, _<_}
 use mathlib.Core.Path.{_≡_, refl, sym, ap, ap₂, _∙_}
 use mathlib.Core.Logic.{_⊎_, inl, inr, ⊎-elim}
 use mathlib.Core.Bool.{Bool, true, false, cond}
+use mathlib.Core.Option.{none}
 use mathlib.Core.List.{List}
 use native.Mathlib.Nat.{eq-or-lt-of-le}
 use native.Mathlib.Omega.{arith}
+use lib.ListN.{length, getD}
+use lib.Seq.{ext-getD}
 use lib.Dec.{eqb, ltb}
 use borrow.Author.Tests.{eq-eqb, ne-eqb, eqb-true, lt-ltb, le-ltb, ltb-true, ltb-false}
 use Rattle.base.specs.Test.{_and_, _or_, _⇒_}
 use Rattle.base.specs.Below.{all}
+use Rattle.base.specs.First.{least}
 use Rattle.base.specs.Filled.{filled, stored}
 use Rattle.base.proofs.TestLaws.{and-left, and-right, and-of, or-left, or-right, or-rest, true-or-false, same-test}
 use Rattle.base.proofs.BelowLaws.{all-at, all-of}
+use Rattle.base.proofs.FirstLaws.{least-none-of, least-same}
+use Rattle.base.proofs.ListLaws.{getD-list, length-list}
 use Rattle.base.proofs.FilledLaws.{filled-over, stored-filled}
 use Rattle.model.specs.Scheme.{Side, left, right, onSide, byte, placesOf, kindAt, wordAt, wordForm, wordEmpty, upTo}
 use Rattle.scheme.specs.Words.{sideOf, wordPlace, row, freshAt, emptyAt, fitsAt}
+use Rattle.scheme.specs.Tables.{placeCode, rowed, placed}
+use Rattle.scheme.proofs.MarkLaws.{stands, length-rowed, rowed-else, rowed-at}
 
 -- ---- tests of a byte
 
@@ -69,6 +77,33 @@ module _ (b : List ℕ) where
   row-rest side s k h l =
       let split : k ≡ 4 * s + (k % 4) = omega arith in
       ap (row b side) split ∙ row-at side s (k % 4) (omega arith) ∙ ap (λ (t : Bool). cond t (wordAt b side s (k % 4)) 255) (le-ltb (k % 4) (placesOf b) (omega arith))
+
+  -- the codes of node s among the side's
+  placed-at : (side : Side) (s i : ℕ) → i < 4 → placed b side (4 * s + i) ≡ placeCode (least (placesOf b) (stands b (wordPlace b side s) i))
+  unfolding placed
+  placed-at side s i l =
+      let at-s : (4 * s + i) / 4 ≡ s = omega arith in
+      let at-i : (4 * s + i) % 4 ≡ i = omega arith in
+      ap₂ (λ (x y : ℕ). placeCode (least (placesOf b) (λ p. eqb (wordAt b side x p) y))) at-s at-i
+      ∙ ap placeCode (least-same (placesOf b) _ _ (λ p h. ap (λ (x : ℕ). eqb x i) (word-at side s p)))
+
+-- ---- a table that is filled up to a bound
+
+module _ (m : ℕ) (f : ℕ → ℕ) (z j : ℕ) {l : List ℕ} (e : l ≡ filled m j f z) where
+  -- its length
+  filled-length : length l ≡ m
+  unfolding filled
+  filled-length = ap length e ∙ length-list m _
+
+  -- below the bound
+  filled-low : (k : ℕ) → k < j → k < m → getD l k 0 ≡ f k
+  unfolding filled
+  filled-low k h u = ap (λ (x : List ℕ). getD x k 0) e ∙ getD-list m k _ 0 u ∙ ap (λ (t : Bool). cond t (f k) z) (lt-ltb _ _ h)
+
+  -- from the bound on
+  filled-high : (k : ℕ) → j ≤ k → k < m → getD l k 0 ≡ z
+  unfolding filled
+  filled-high k h u = ap (λ (x : List ℕ). getD x k 0) e ∙ getD-list m k _ 0 u ∙ ap (λ (t : Bool). cond t (f k) z) (le-ltb _ _ h)
 
 -- ---- the kinds of a side
 
@@ -149,3 +184,51 @@ module _ (b : List ℕ) (s other kind n places at : ℕ) (w : Placed b s other k
       ap (row b side) split ∙ sym (row-word b side s (k - 4 * s) p few) ∙ eqb-true _ _ (all-at _ _ (sym there ∙ q) (k - 4 * s) p))
       (λ t. let p : placesOf b ≤ k - 4 * s = ltb-false _ _ t in row-rest b side s k (omega arith) u)
       (true-or-false (ltb (k - 4 * s) (placesOf b))))
+
+  -- before the word is read the row of node s in the table is clear
+  pub codes-clear : {l : List ℕ} → l ≡ filled 64 (4 * s) (placed b side) 255 → (length l ≡ 64) × ((i : ℕ) → i < 4 → getD l (4 * s + i) 0 ≡ 255)
+  codes-clear e =
+      let small = w .small in
+      (filled-length 64 _ 255 _ e, λ i h. filled-high 64 _ 255 _ e (4 * s + i) (omega arith) (omega arith))
+
+  -- the table with the word of a node that the side has
+  pub on-codes : {l : List ℕ} → n ≤ 3 → l ≡ filled 64 (4 * s) (placed b side) 255 → all places (fitsAt b n at) ≡ true
+      → rowed l (4 * s) b at places ≡ filled 64 (4 * (s + 1)) (placed b side) 255
+  on-codes {l} few e q =
+      let small = w .small in
+      let clear = codes-clear e in
+      let long : length (rowed l (4 * s) b at places) ≡ 64 = length-rowed b at l (4 * s) places ∙ clear .0 in
+      let full : length (filled 64 (4 * (s + 1)) (placed b side) 255) ≡ 64 = filled-length 64 (placed b side) 255 (4 * (s + 1)) refl in
+      ext-getD 0 _ _ (long ∙ sym full) (λ k u.
+      let u′ : k < 64 = omega arith in
+      ⊎-elim
+      (λ t. let low : k < 4 * s = ltb-true _ _ t in
+      rowed-else b at l (4 * s) n few places q k (inl low) ∙ filled-low 64 _ 255 _ e k low u′ ∙ sym (filled-low 64 _ 255 (4 * (s + 1)) refl k (omega arith) u′))
+      (λ t. let high : 4 * s ≤ k = ltb-false _ _ t in
+      ⊎-elim
+      (λ v.
+      let inside : k < 4 * (s + 1) = ltb-true _ _ v in
+      let split : k ≡ 4 * s + (k - 4 * s) = omega arith in
+      ap (λ (x : ℕ). getD (rowed l (4 * s) b at places) x 0) split
+      ∙ rowed-at b at l (4 * s) n few (omega (arith, clear .0)) (clear .1) places q (k - 4 * s) (omega arith)
+      ∙ ap₂ (λ (x y : ℕ). placeCode (least x (stands b y (k - 4 * s)))) (w .placesIs) (w .atIs)
+      ∙ sym (placed-at b side s (k - 4 * s) (omega arith)) ∙ ap (placed b side) (sym split)
+      ∙ sym (filled-low 64 _ 255 (4 * (s + 1)) refl k inside u′))
+      (λ v. let over : 4 * (s + 1) ≤ k = ltb-false _ _ v in
+      rowed-else b at l (4 * s) n few places q k (inr (omega arith)) ∙ filled-high 64 _ 255 _ e k high u′ ∙ sym (filled-high 64 _ 255 (4 * (s + 1)) refl k over u′))
+      (true-or-false (ltb k (4 * (s + 1)))))
+      (true-or-false (ltb k (4 * s))))
+
+  -- an empty word leaves the table as it is
+  pub off-codes : {l : List ℕ} → l ≡ filled 64 (4 * s) (placed b side) 255 → all places (emptyAt b at) ≡ true → l ≡ filled 64 (4 * (s + 1)) (placed b side) 255
+  unfolding emptyAt
+  off-codes e q =
+      filled-over 64 (placed b side) 255 (4 * s) (4 * (s + 1)) e (omega arith) (λ k h u.
+      let split : k ≡ 4 * s + (k - 4 * s) = omega arith in
+      let i : k - 4 * s < 4 = omega arith in
+      let none-is : least (placesOf b) (stands b place (k - 4 * s)) ≡ none = least-none-of _ _ (λ p l.
+      ne-eqb _ _ (λ f. far i (eqb-true _ _ (all-at _ _ (sym there ∙ q) p l)) f)) in
+      ap (placed b side) split ∙ placed-at b side s (k - 4 * s) i ∙ ap placeCode none-is)
+    where
+      far : {d i : ℕ} → i < 4 → d ≡ 255 → d ≡ i → ⊥
+      far h e f = omega arith

@@ -39,9 +39,6 @@ arcTest n nodes kinds other low d s t = leb d n and leb s t and ltb t nodes
 unfoldable pub aimed : List ℕ → ℕ → ℕ → List ℕ
 aimed l at to = cond (eqb (getD l at 0) 255) (set l at to) l
 
-unfoldable pub linked : List ℕ → ℕ → ℕ → ℕ → List ℕ
-linked l d s t = aimed (aimed l (4 * s + d) t) (4 * t + d) s
-
 -- the targets that the first c arcs give
 unfoldable pub targetsTo : (ℕ → ℕ → ℕ) → ℕ → List ℕ
 targetsTo part c = list 64 (λ k. Option·getD (farEnd part c (k / 4) (k % 4)) 255)

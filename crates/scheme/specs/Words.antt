@@ -3,11 +3,9 @@
 use Prim.Native.Nat.{ℕ, _+_, _/_, _%_}
 use mathlib.Core.Bool.{Bool, false, cond}
 use mathlib.Core.List.{List}
-use lib.ListN.{getD, set}
 use lib.Dec.{eqb, leb}
-use Rattle.base.specs.Test.{_and_, _or_, _⇒_, bit}
-use Rattle.base.specs.Below.{all, any}
-use Rattle.base.specs.Lists.{list}
+use Rattle.base.specs.Test.{_and_, _or_, _⇒_}
+use Rattle.base.specs.Below.{all}
 use Rattle.model.specs.Scheme.{Side, left, right, byte, placesOf, nodeAt, wordAt, upTo}
 
 -- the side that has not the nodes of this kind
@@ -33,13 +31,3 @@ module _ (b : List ℕ) where
 
   unfoldable pub fitsAt : ℕ → ℕ → ℕ → Bool
   fitsAt n at p = eqb (byte b (at + p)) 255 or leb (byte b (at + p)) n and all p (freshAt at (byte b (at + p)))
-
--- marks at the dimensions that stand among the first p bytes of a word
-unfoldable pub marksTo : List ℕ → ℕ → ℕ → List ℕ
-marksTo b at p = list 4 (λ e. bit (any p (λ o. eqb (byte b (at + o)) e)))
-
-unfoldable pub markable : List ℕ → ℕ → ℕ → Bool
-markable marks n d = eqb d 255 or leb d n and eqb (getD marks d 0) 0
-
-unfoldable pub marked : List ℕ → ℕ → List ℕ
-marked marks d = cond (eqb d 255) marks (set marks d 1)

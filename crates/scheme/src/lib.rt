@@ -13,12 +13,18 @@ use model::Scheme;
 use nodes::read_nodes;
 use nodes::read_orbit;
 ghost use mathlib.Core.Path.{_≡_};
-ghost use Rattle.scheme.specs.Reading.{Counted, Held, Gathered, blank, reading};
+ghost use Rattle.scheme.specs.Reading.{Counted, Held, Noted, Unnoted, Gathered, blank, reading};
 
-// What reading a scheme's bytes gives: the scheme, or a blank one beside the refusal.
+// What reading a scheme's bytes gives: the scheme, or a blank one beside the refusal, and what is noted of its arcs on the way, for
+// the left and for the right side: `codes` has what a node has at a dimension as one byte, at 4 * s + i, and `twice` the nodes that
+// have two arcs of a dimension (specs/Tables.antt of model).
 pub struct Reading {
     pub ok: bool,
     pub scheme: Scheme,
+    pub lcodes: [u8; 64],
+    pub rcodes: [u8; 64],
+    pub ltwice: [bool; 16],
+    pub rtwice: [bool; 16],
 }
 
 // Fills blank arrays with what the bytes hold, and answers whether they are in the form.
@@ -32,9 +38,14 @@ fn gather(
     ltargets: &mut [u8; 64],
     rarcs: &mut [u8; 192],
     rtargets: &mut [u8; 64],
+    lcodes: &mut [u8; 64],
+    rcodes: &mut [u8; 64],
+    ltwice: &mut [bool; 16],
+    rtwice: &mut [bool; 16],
 ) -> Form
     requires { ⌜ Held blank (now orbit) (now kinds) (now lwords) (now rwords) (now larcs) (now ltargets) (now rarcs) (now rtargets) ⌝ }
-    ensures { λ r. ⌜ Gathered (now (bytes .entry)) (now (orbit .exit)) (now (kinds .exit)) (now (lwords .exit)) (now (rwords .exit)) (now (larcs .exit)) (now (ltargets .exit)) (now (rarcs .exit)) (now (rtargets .exit)) r ⌝ }
+    requires { ⌜ Unnoted (now lcodes) (now rcodes) (now ltwice) (now rtwice) ⌝ }
+    ensures { λ r. ⌜ Gathered (now (bytes .entry)) (now (orbit .exit)) (now (kinds .exit)) (now (lwords .exit)) (now (rwords .exit)) (now (larcs .exit)) (now (ltargets .exit)) (now (rarcs .exit)) (now (rtargets .exit)) (now (lcodes .exit)) (now (rcodes .exit)) (now (ltwice .exit)) (now (rtwice .exit)) r ⌝ }
 {
     let Form::Laid(l) = frame(bytes) else {
         return Form::Broken;
@@ -42,10 +53,21 @@ fn gather(
     if !read_orbit(bytes, l, orbit) {
         return Form::Broken;
     }
-    if !read_nodes(bytes, l, kinds, lwords, rwords) {
+    if !read_nodes(bytes, l, kinds, lwords, rwords, lcodes, rcodes) {
         return Form::Broken;
     }
-    if !read_arcs(bytes, l, kinds, 3, l.lefts, wide(l.lcount), larcs, ltargets) {
+    if !read_arcs(
+        bytes,
+        l,
+        kinds,
+        3,
+        l.lefts,
+        wide(l.lcount),
+        larcs,
+        ltargets,
+        lcodes,
+        ltwice,
+    ) {
         return Form::Broken;
     }
     if !read_arcs(
@@ -57,6 +79,8 @@ fn gather(
         wide(l.rcount),
         rarcs,
         rtargets,
+        rcodes,
+        rtwice,
     ) {
         return Form::Broken;
     }
@@ -84,11 +108,17 @@ fn settle(
     ltargets: &mut [u8; 64],
     rarcs: &mut [u8; 192],
     rtargets: &mut [u8; 64],
+    lcodes: &mut [u8; 64],
+    rcodes: &mut [u8; 64],
+    ltwice: &mut [bool; 16],
+    rtwice: &mut [bool; 16],
 ) -> Header
     requires { ⌜ Held blank (now orbit) (now kinds) (now lwords) (now rwords) (now larcs) (now ltargets) (now rarcs) (now rtargets) ⌝ }
+    requires { ⌜ Unnoted (now lcodes) (now rcodes) (now ltwice) (now rtwice) ⌝ }
     ensures { λ r. ⌜ r .ok ≡ reading (now (bytes .entry)) .ok ⌝ }
     ensures { λ r. ⌜ Counted (reading (now (bytes .entry)) .scheme) (r .n) (r .places) (r .nodes) (r .lcount) (r .rcount) ⌝ }
     ensures { λ r. ⌜ Held (reading (now (bytes .entry)) .scheme) (now (orbit .exit)) (now (kinds .exit)) (now (lwords .exit)) (now (rwords .exit)) (now (larcs .exit)) (now (ltargets .exit)) (now (rarcs .exit)) (now (rtargets .exit)) ⌝ }
+    ensures { λ r. ⌜ Noted (reading (now (bytes .entry)) .scheme) (now (lcodes .exit)) (now (rcodes .exit)) (now (ltwice .exit)) (now (rtwice .exit)) ⌝ }
 {
     match gather(
         bytes,
@@ -100,6 +130,10 @@ fn settle(
         ltargets,
         rarcs,
         rtargets,
+        lcodes,
+        rcodes,
+        ltwice,
+        rtwice,
     ) {
         Form::Laid(l) => Header {
             ok: true,
@@ -118,6 +152,10 @@ fn settle(
             *ltargets = [255u8; 64];
             *rarcs = [0u8; 192];
             *rtargets = [255u8; 64];
+            *lcodes = [255u8; 64];
+            *rcodes = [255u8; 64];
+            *ltwice = [false; 16];
+            *rtwice = [false; 16];
             Header {
                 ok: false,
                 n: 0,
@@ -142,6 +180,10 @@ pub fn read(bytes: &[u8]) -> Reading
     let mut ltargets = [255u8; 64];
     let mut rarcs = [0u8; 192];
     let mut rtargets = [255u8; 64];
+    let mut lcodes = [255u8; 64];
+    let mut rcodes = [255u8; 64];
+    let mut ltwice = [false; 16];
+    let mut rtwice = [false; 16];
     let h = settle(
         bytes,
         &mut orbit,
@@ -152,6 +194,10 @@ pub fn read(bytes: &[u8]) -> Reading
         &mut ltargets,
         &mut rarcs,
         &mut rtargets,
+        &mut lcodes,
+        &mut rcodes,
+        &mut ltwice,
+        &mut rtwice,
     );
     Reading {
         ok: h.ok,
@@ -170,5 +216,9 @@ pub fn read(bytes: &[u8]) -> Reading
             rcount: h.rcount,
             rarcs: rarcs,
         },
+        lcodes: lcodes,
+        rcodes: rcodes,
+        ltwice: ltwice,
+        rtwice: rtwice,
     }
 }

@@ -17,7 +17,7 @@ enum-known-bad c = search needs
 returns : tie.Need-returns
 returns c =
     let u = c .before .before .before in
-    answer-incidence _ _ _ _ _ _ _ _ _ (u .before .before .before .before .before .wide .ensures .0) _ (u .unbalanced .ensures) _ (c .before .bad .given .1)
+    answer-incidence _ _ _ _ _ _ _ _ _ (u .before .wide .ensures .0) _ (u .unbalanced .ensures) _ (c .before .bad .given .1)
 
 enum-told : tie.Need-enum-told
 enum-told c = search needs
@@ -27,9 +27,9 @@ cycle-fault-requires c κs = search needs
 
 returns-2 : tie.Need-returns-2
 returns-2 c =
-    let t = c .before .before .before .before .before in
+    let t = c .before in
     let u = t .before .before in
-    answer-cycle _ _ _ _ _ _ _ _ _ (u .before .before .before .before .before .wide .ensures .0) _ (u .unbalanced .ensures) (t .enum-told .given .1) _ (c .cycle-fault .ensures)
+    answer-cycle _ _ _ _ _ _ _ _ _ (u .before .wide .ensures .0) _ (u .unbalanced .ensures) (t .enum-told .given .1) _ (c .cycle-fault .ensures)
 
 pub arcs-fault-spec : {M : Type 1} → statement M
 arcs-fault-spec =

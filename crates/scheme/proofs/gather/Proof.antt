@@ -9,7 +9,7 @@ use Rattle.base.specs.Below.{all}
 use Rattle.model.specs.Scheme.{left, right, nodesOf, nodeForm}
 use Rattle.scheme.specs.Frame.{LaidOut}
 use Rattle.scheme.specs.Reading.{blank}
-use Rattle.scheme.proofs.ReadLaws.{no-orbit, no-nodes, no-arcs, placed-left, placed-right, all-formed, counts, holds}
+use Rattle.scheme.proofs.ReadLaws.{no-orbit, no-nodes, no-arcs, placed-left, placed-right, all-formed, counts, holds, notes}
 use Rattle.scheme.proofs.gather.Statement.{statement}
 use Rattle.scheme.proofs.gather.Tie as tie
 
@@ -18,10 +18,10 @@ abbrev told : tie.Else1 → tie.After-known-told
 told c = c .before .before .before
 
 abbrev past-orbit : tie.Else2 → tie.Else1
-past-orbit c = c .before .before .before .before .before
+past-orbit c = c .before .before .before .before .before .before .before
 
 abbrev past-nodes : tie.Else3 → tie.Else2
-past-nodes c = c .before .before .before .before .before .before
+past-nodes c = c .before .before .before .before .before .before .before .before
 
 laid : (c : tie.After-known-told) → LaidOut (now (c .before .before .before .before .before .args .bytes)) (c .before .l .given .0 .0)
 laid c = rw (c .before .l .given .1) at (c .before .before .before .frame .ensures)
@@ -43,7 +43,7 @@ returns c = rw (c .enum-told .given .1) at (c .before .before .frame .ensures)
 
 read-orbit-requires : tie.Need-read-orbit-requires
 unfolding blank
-read-orbit-requires c κs = (laid (c .before), c .before .before .before .before .before .before .pre .orbitIs)
+read-orbit-requires c κs = (laid (c .before), c .before .before .before .before .before .before .pre .0 .orbitIs)
 
 returns-2 : tie.Need-returns-2
 returns-2 c = no-orbit _ (sym (c .before .read-orbit .ensures .0) ∙ not-true _ (c .if1 .taken))
@@ -51,9 +51,9 @@ returns-2 c = no-orbit _ (sym (c .before .read-orbit .ensures .0) ∙ not-true _
 read-nodes-requires : tie.Need-read-nodes-requires
 unfolding blank
 read-nodes-requires c κs =
-    let k = told (c .before .before .before) in
+    let k = told (c .before .before .before .before .before) in
     let p = k .before .before .before .before .before .pre in
-    (laid k, (p .kindsIs, p .lwordsIs, p .rwordsIs))
+    (laid k, ((p .0 .kindsIs, p .0 .lwordsIs, p .0 .rwordsIs), (p .1 .lcodesIs, p .1 .rcodesIs)))
 
 returns-3 : tie.Need-returns-3
 returns-3 c = no-nodes _ (sym (c .before .read-nodes .ensures .0) ∙ not-true _ (c .if2 .taken))
@@ -64,10 +64,12 @@ wide-requires c κs = search needs
 read-arcs-requires : tie.Need-read-arcs-requires
 unfolding blank
 read-arcs-requires c κs =
-    let e = c .before .before .before .before in
+    let e = c .before .before .before .before .before .before in
     let k = told (past-orbit e) in
-    let p = k .before .before .before .before .before .pre in
-    (placed-left _ _ (laid k) (nodes e) (e .before .read-nodes .ensures .1 .0 (not-false _ (e .if2 .left))) (c .before .before .wide .ensures .0), (p .larcsIs, p .ltargetsIs))
+    let p = k .before .before .before .before .before .pre in (
+      placed-left _ _ (laid k) (nodes e) (e .before .read-nodes .ensures .1 .0 (not-false _ (e .if2 .left))) (c .before .before .before .before .wide .ensures .0),
+      ((p .0 .larcsIs, p .0 .ltargetsIs), (e .before .read-nodes .ensures .1 .1 .1 .1 .0 (not-false _ (e .if2 .left)), p .1 .ltwiceIs)),
+    )
 
 returns-4 : tie.Need-returns-4
 returns-4 c = no-arcs _ left (sym (c .before .read-arcs .ensures .0) ∙ not-true _ (c .if3 .taken))
@@ -78,17 +80,19 @@ wide-requires-2 c κs = search needs
 read-arcs-requires-2 : tie.Need-read-arcs-requires-2
 unfolding blank
 read-arcs-requires-2 c κs =
-    let e = past-nodes (c .before .before .before .before) in
+    let e = past-nodes (c .before .before .before .before .before .before) in
     let k = told (past-orbit e) in
-    let p = k .before .before .before .before .before .pre in
-    (placed-right _ _ (laid k) (nodes e) (e .before .read-nodes .ensures .1 .0 (not-false _ (e .if2 .left))) (c .before .before .wide2 .ensures .0), (p .rarcsIs, p .rtargetsIs))
+    let p = k .before .before .before .before .before .pre in (
+      placed-right _ _ (laid k) (nodes e) (e .before .read-nodes .ensures .1 .0 (not-false _ (e .if2 .left))) (c .before .before .before .before .wide2 .ensures .0),
+      ((p .0 .rarcsIs, p .0 .rtargetsIs), (e .before .read-nodes .ensures .1 .1 .1 .1 .1 (not-false _ (e .if2 .left)), p .1 .rtwiceIs)),
+    )
 
 returns-5 : tie.Need-returns-5
 returns-5 c = no-arcs _ right (sym (c .before .read-arcs2 .ensures .0) ∙ not-true _ (c .if4 .taken))
 
 returns-6 : tie.Need-returns-6
 returns-6 c =
-    let lefts = c .before .before .before .before .before .before in
+    let lefts = c .before .before .before .before .before .before .before .before in
     let e = past-nodes lefts in
     let o = past-orbit e in
     let k = told o in
@@ -99,11 +103,13 @@ returns-6 c =
     let orbit-read = o .before .read-orbit .ensures in
     let nodes-read = e .before .read-nodes .ensures in
     let left-read = lefts .before .read-arcs .ensures in
-    let right-read = c .before .read-arcs2 .ensures in (
-      all-formed _ _ (laid k) (nodes e) (sym (orbit-read .0) ∙ orbit-held) (sym (left-read .0) ∙ left-held) (sym (right-read .0) ∙ right-held),
+    let right-read = c .before .read-arcs2 .ensures in
+    let form = all-formed _ _ (laid k) (nodes e) (sym (orbit-read .0) ∙ orbit-held) (sym (left-read .0) ∙ left-held) (sym (right-read .0) ∙ right-held) in (
+      form,
       counts _ _ (laid k) (nodes e),
-      holds _ (orbit-read .1 orbit-held) (nodes-read .1 .0 nodes-held) (nodes-read .1 .1 .0 nodes-held) (nodes-read .1 .1 .1 nodes-held)
-          (left-read .1 .0) (left-read .1 .1 left-held) (right-read .1 .0) (right-read .1 .1 right-held),
+      holds _ (orbit-read .1 orbit-held) (nodes-read .1 .0 nodes-held) (nodes-read .1 .1 .0 nodes-held) (nodes-read .1 .1 .1 .0 nodes-held)
+          (left-read .1 .0) (left-read .1 .1 .0 left-held) (right-read .1 .0) (right-read .1 .1 .0 right-held),
+      notes _ form (left-read .1 .1 .1 .0 left-held) (left-read .1 .1 .1 .1 left-held) (right-read .1 .1 .1 .0 right-held) (right-read .1 .1 .1 .1 right-held),
     )
 
 pub gather-spec : {M : Type 1} → statement M

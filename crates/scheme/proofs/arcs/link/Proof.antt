@@ -1,22 +1,15 @@
 -- `scheme::arcs::link` meets its contract.
 -- Assumes nothing.
-use native.Mathlib.Omega.{arith}
 use borrow.Author.Needs.{needs}
-use Rattle.scheme.proofs.TargetLaws.{linked-is}
+use Rattle.scheme.proofs.TableLaws.{loop-is, ends-are}
 use Rattle.scheme.proofs.arcs.link.Statement.{statement}
 use Rattle.scheme.proofs.arcs.link.Tie as tie
 
 wide-requires : tie.Need-wide-requires
 wide-requires c κs = search needs
 
-mul-aim : tie.Need-mul-aim
-mul-aim c = search needs
-
 wide-requires-2 : tie.Need-wide-requires-2
 wide-requires-2 c κs = search needs
-
-add-aim : tie.Need-add-aim
-add-aim c = search needs
 
 aim-requires : tie.Need-aim-requires
 aim-requires c κs = search needs
@@ -24,33 +17,29 @@ aim-requires c κs = search needs
 wide-requires-3 : tie.Need-wide-requires-3
 wide-requires-3 c κs = search needs
 
-mul-aim-2 : tie.Need-mul-aim-2
-mul-aim-2 c = search needs
-
-wide-requires-4 : tie.Need-wide-requires-4
-wide-requires-4 c κs = search needs
-
-add-aim-2 : tie.Need-add-aim-2
-add-aim-2 c = search needs
-
 aim-requires-2 : tie.Need-aim-requires-2
 aim-requires-2 c κs = search needs
 
 returns : tie.Need-returns
-returns c = linked-is _ _ _ _ (omega arith) (omega arith) (c .before .before .before .before .aim .ensures) (c .aim2 .ensures)
+returns c =
+    let b = c .before .before .before .before .before in
+    let a = b .before in
+    ends-are (a .before .before .before .before .before .wide .ensures .0) (a .before .wide2 .ensures .0) (c .before .wide3 .ensures .0)
+    (b .if1 .taken) (a .aim .ensures) (c .aim2 .ensures)
+
+returns-2 : tie.Need-returns-2
+returns-2 c =
+    let a = c .before in
+    loop-is (a .before .before .before .before .before .wide .ensures .0) (a .before .wide2 .ensures .0) (c .if1 .left) (a .aim .ensures)
 
 pub link-spec : {M : Type 1} → statement M
 link-spec =
     tie.close
     (tie.spec
     wide-requires
-    mul-aim
     wide-requires-2
-    add-aim
     aim-requires
     wide-requires-3
-    mul-aim-2
-    wide-requires-4
-    add-aim-2
     aim-requires-2
-    returns)
+    returns
+    returns-2)

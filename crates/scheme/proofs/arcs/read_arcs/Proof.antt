@@ -1,6 +1,5 @@
 -- `scheme::arcs::read_arcs` meets its contract.
 -- Assumes nothing.
-use mathlib.Core.Path.{_∙_}
 use borrow.Author.Needs.{needs}
 use Rattle.scheme.proofs.ArcLaws.{arcs-value}
 use Rattle.scheme.proofs.arcs.read_arcs.Statement.{statement}
@@ -17,8 +16,9 @@ read-targets-requires c κs = search needs
 
 returns : tie.Need-returns
 returns c =
-    let p = c .before .before .before .before .before .pre in
-    (c .read-targets .ensures .0, (c .before .before .copy .ensures ∙ arcs-value _ _ _ _ _ _ (p .0) (p .1 .0), c .read-targets .ensures .1))
+    let o = c .before .before .before .before in
+    let p = o .before .before .before .pre in
+    (c .read-targets .ensures .0, (arcs-value _ _ _ _ _ _ (p .0) (p .1 .0 .0) (o .copy .ensures), c .read-targets .ensures .1))
 
 pub read-arcs-spec : {M : Type 1} → statement M
 read-arcs-spec = tie.close (tie.spec mul-copy copy-requires read-targets-requires returns)

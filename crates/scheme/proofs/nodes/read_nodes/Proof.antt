@@ -12,15 +12,16 @@ use Rattle.base.proofs.BelowLaws.{all-stops, all-ends}
 use Rattle.model.specs.Scheme.{placesOf, nodesOf}
 use Rattle.scheme.specs.Frame.{LaidOut}
 use Rattle.scheme.proofs.FrameLaws.{node-inside}
-use Rattle.scheme.proofs.NodeLaws.{Passed, passed-none, passed-more, kinds-value, lwords-value, rwords-value}
+use Rattle.scheme.proofs.NodeLaws.{Passed, passed-none, passed-more, kinds-value, lwords-value, rwords-value, lcodes-value, rcodes-value}
 use Rattle.scheme.proofs.nodes.read_nodes.Statement.{statement}
 use Rattle.scheme.proofs.nodes.read_nodes.Tie as tie
 
 abbrev Inv-loop : tie.InvT-loop
-Inv-loop bytes l kinds₀ lwords₀ rwords₀ places nodes at₀ s₀ kinds lwords rwords at s = (s ≤ nodes) × Passed bytes s at kinds lwords rwords
+Inv-loop bytes l kinds₀ lwords₀ rwords₀ lcodes₀ rcodes₀ places nodes at₀ s₀ kinds lwords rwords lcodes rcodes at s =
+    (s ≤ nodes) × Passed bytes s at kinds lwords rwords lcodes rcodes
 
 abbrev μ-loop : tie.MeasureT-loop
-μ-loop bytes l kinds₀ lwords₀ rwords₀ places nodes at₀ s₀ kinds lwords rwords at s = nodes - s
+μ-loop bytes l kinds₀ lwords₀ rwords₀ lcodes₀ rcodes₀ places nodes at₀ s₀ kinds lwords rwords lcodes rcodes at s = nodes - s
 
 -- what the layout tells before the loop
 known : (c : tie.After-wide2 Inv-loop μ-loop) → let a = c .before .before .before .args in let b = now (a .bytes) in
@@ -47,49 +48,51 @@ add-at : tie.Need-add-at Inv-loop μ-loop
 add-at c = let k = known c in omega arith
 
 loop-holds : tie.Need-loop-holds Inv-loop μ-loop
-loop-holds c = let k = known c in let p = c .before .before .before .pre .1 in (omega arith, passed-none _ (omega arith) (p .0) (p .1) (p .2))
+loop-holds c = let k = known c in let p = c .before .before .before .pre .1 in (omega arith, passed-none _ (omega arith) (p .0 .0) (p .0 .1) (p .0 .2) (p .1 .0) (p .1 .1))
 
 read-node-requires : tie.Need-read-node-requires Inv-loop μ-loop
 read-node-requires c κs =
-    let l = c .before .before .before in
+    let l = c .before .before .before .before .before in
     let i = l .loop .inv .1 in
     let k = known (l .before) in
-    (k .2, ((omega arith, i .atIs), (i .lwordsIs, i .rwordsIs)))
+    (k .2, ((omega arith, i .atIs), (i .lwordsIs, (i .rwordsIs, (i .lcodesIs, i .rcodesIs)))))
 
 returns : tie.Need-returns Inv-loop μ-loop
 returns c =
-    let l = c .before .before .before .before .before in
-    let k = known (l .before) in
-    (all-stops _ (l .loop .s) _ (omega arith) (sym (c .before .read-node .ensures .0) ∙ not-true _ (c .if1 .taken)), ((λ e. absurd (true≢false (sym e))), ((λ e. absurd (true≢false (sym e))), (λ e. absurd (true≢false (sym e))))))
+    let l = c .before .before .before .before .before .before .before in
+    let k = known (l .before) in (
+      all-stops _ (l .loop .s) _ (omega arith) (sym (c .before .read-node .ensures .0) ∙ not-true _ (c .if1 .taken)),
+      ((λ e. absurd (true≢false (sym e))), ((λ e. absurd (true≢false (sym e))), ((λ e. absurd (true≢false (sym e))), ((λ e. absurd (true≢false (sym e))), (λ e. absurd (true≢false (sym e))))))),
+    )
 
 shared-slice-read-kinds : tie.Need-shared-slice-read-kinds Inv-loop μ-loop
-shared-slice-read-kinds c = let h = inside (c .before .before .before .before .before) in omega arith
+shared-slice-read-kinds c = let h = inside (c .before .before .before .before .before .before .before) in omega arith
 
 element-write-kinds : tie.Need-element-write-kinds Inv-loop μ-loop
-element-write-kinds c = let k = known (c .before .before .before .before .before .before .before) in omega arith
+element-write-kinds c = let k = known (c .before .before .before .before .before .before .before .before .before) in omega arith
 
 mul-at : tie.Need-mul-at Inv-loop μ-loop
-mul-at c = let h = inside (c .before .before .before .before .before) in omega arith
+mul-at c = let h = inside (c .before .before .before .before .before .before .before) in omega arith
 
 add-at-2 : tie.Need-add-at-2 Inv-loop μ-loop
-add-at-2 c = let h = inside (c .before .before .before .before .before) in omega arith
+add-at-2 c = let h = inside (c .before .before .before .before .before .before .before) in omega arith
 
 add-at-3 : tie.Need-add-at-3 Inv-loop μ-loop
-add-at-3 c = let h = inside (c .before .before .before .before .before) in omega arith
+add-at-3 c = let h = inside (c .before .before .before .before .before .before .before) in omega arith
 
 add-s : tie.Need-add-s Inv-loop μ-loop
-add-s c = let k = known (c .before .before .before .before .before .before .before) in omega arith
+add-s c = let k = known (c .before .before .before .before .before .before .before .before .before) in omega arith
 
 loop-less : tie.Need-loop-less Inv-loop μ-loop
 loop-less c = omega arith
 
 loop-again : tie.Need-loop-again Inv-loop μ-loop
 loop-again c =
-    let l = c .before .before .before .before .before .before in
+    let l = c .before .before .before .before .before .before .before .before in
     let k = known (l .before) in
     let e = c .before .before .read-node .ensures in
     let t = not-false _ (c .before .if1 .left) in
-    (omega arith, passed-more _ (l .loop .inv .1) (omega arith) (sym (e .0) ∙ t) (omega arith) (e .1 .0 t) (e .1 .1 t))
+    (omega arith, passed-more _ (l .loop .inv .1) (omega arith) (sym (e .0) ∙ t) (omega arith) (e .1 .0 t) (e .1 .1 .0 t) (e .1 .1 .1 .0 t) (e .1 .1 .1 .1 t))
 
 returns-2 : tie.Need-returns-2 Inv-loop μ-loop
 returns-2 c =
@@ -98,7 +101,7 @@ returns-2 c =
     let i = l .loop .inv .1 in
     let h : l .loop .s ≤ nodesOf (now (l .before .before .before .before .args .bytes)) = omega arith in
     let g : nodesOf (now (l .before .before .before .before .args .bytes)) ≤ l .loop .s = omega arith in
-    (all-ends _ _ _ (i .formed) h g, ((λ e. kinds-value _ i h g), ((λ e. lwords-value _ i h g), (λ e. rwords-value _ i h g))))
+    (all-ends _ _ _ (i .formed) h g, ((λ e. kinds-value _ i h g), ((λ e. lwords-value _ i h g), ((λ e. rwords-value _ i h g), ((λ e. lcodes-value _ i h g), (λ e. rcodes-value _ i h g))))))
 
 pub read-nodes-spec : {M : Type 1} → statement M
 read-nodes-spec =

@@ -8,7 +8,7 @@ use lib.ListN.{length}
 use Rattle.scheme.specs.Words.{sideOf}
 use borrow.Author.Needs.{needs}
 use Rattle.scheme.proofs.FrameLaws.{dimension-small, places-small, word-inside}
-use Rattle.scheme.proofs.WordLaws.{Placed, on-form, on-value, off-form, off-value}
+use Rattle.scheme.proofs.WordLaws.{Placed, on-form, on-value, on-codes, off-form, off-value, off-codes, codes-clear}
 use Rattle.scheme.proofs.nodes.read_side.Statement.{statement}
 use Rattle.scheme.proofs.nodes.read_side.Tie as tie
 
@@ -29,6 +29,11 @@ placed c =
       small = omega arith;
     }
 
+-- the dimension is small
+dimension : (c : tie.After-wide) → c .before .before .args .l .n ≤ 3
+dimension c = let n3 = dimension-small _ _ (c .before .before .pre .0) in omega (arith, placed c .nIs)
+
+-- the word is inside the bytes
 inside : (c : tie.After-wide) → let a = c .before .before .args in a .at + c .wide .result ≤ length (now (a .bytes))
 inside c =
     let p = c .before .before .pre in
@@ -44,9 +49,13 @@ empty-requires c κs = let h = inside (c .before) in omega arith
 returns : tie.Need-returns
 returns c =
     let a = c .before .before in
-    let w = placed a in (
+    let w = placed a in
+    let p = a .before .before .pre .1 .1 .1 in (
       off-form _ _ _ _ _ _ _ w (c .before .if1 .taken) (c .empty .ensures),
-      λ e. off-value _ _ _ _ _ _ _ w (a .before .before .pre .1 .1 .1) (sym (c .empty .ensures) ∙ e),
+      (
+        (λ e. off-value _ _ _ _ _ _ _ w (p .0) (sym (c .empty .ensures) ∙ e)),
+        (λ e. off-codes _ _ _ _ _ _ _ w (p .1) (sym (c .empty .ensures) ∙ e)),
+      ),
     )
 
 mul-read-word : tie.Need-mul-read-word
@@ -54,18 +63,23 @@ mul-read-word c = search needs
 
 read-word-requires : tie.Need-read-word-requires
 read-word-requires c κs =
-    let h = inside (c .before .before) in
-    let w = placed (c .before .before) in
+    let a = c .before .before .before in
+    let h = inside a in
+    let w = placed a in
     let few = w .few in
-    let n3 = dimension-small _ _ (c .before .before .before .before .pre .0) in
-    (omega (arith, w .nIs), omega arith, omega arith)
+    ((dimension a, omega arith, omega (arith, w .placesIs), omega arith), codes-clear _ _ _ _ _ _ _ w (a .before .before .pre .1 .1 .1 .1))
 
 returns-2 : tie.Need-returns-2
 returns-2 c =
-    let a = c .before .before .before in
-    let w = placed a in (
-      on-form _ _ _ _ _ _ _ w (c .before .before .if1 .left) (c .read-word .ensures .0),
-      λ e. c .read-word .ensures .1 e ∙ on-value _ _ _ _ _ _ _ w (a .before .before .pre .1 .1 .1),
+    let a = c .before .before .before .before in
+    let w = placed a in
+    let p = a .before .before .pre .1 .1 .1 in
+    let r = c .read-word .ensures in (
+      on-form _ _ _ _ _ _ _ w (c .before .before .before .if1 .left) (r .0),
+      (
+        (λ e. r .1 .0 e ∙ on-value _ _ _ _ _ _ _ w (p .0)),
+        (λ e. r .1 .1 e ∙ on-codes _ _ _ _ _ _ _ w (dimension a) (p .1) (sym (r .0) ∙ e)),
+      ),
     )
 
 pub read-side-spec : {M : Type 1} → statement M

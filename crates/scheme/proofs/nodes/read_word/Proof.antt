@@ -1,27 +1,38 @@
--- `scheme::nodes::read_word` meets its contract. The loop's invariant: the first p bytes fit, are marked and are stored.
+-- `scheme::nodes::read_word` meets its contract. The loop's invariant: the first p bytes fit, are stored and are marked.
 -- Assumes nothing.
 use Prim.Native.Nat.{_-_, _≤_}
-use mathlib.Core.Path.{_≡_, refl, sym, _∙_}
+use mathlib.Core.Path.{_≡_, sym, _∙_}
 use mathlib.Core.Bool.{true, true≢false}
 use native.Mathlib.Omega.{arith}
 use borrow.Author.Tests.{not-true, not-false}
+use denote.Ref.{now}
 use Rattle.base.specs.Below.{all}
 use Rattle.base.specs.Filled.{stored}
 use Rattle.base.proofs.BelowLaws.{all-none, all-more, all-stops, all-ends}
 use Rattle.base.proofs.FilledLaws.{stored-none, stored-more, stored-all}
-use Rattle.scheme.specs.Words.{fitsAt, marksTo}
-use Rattle.scheme.proofs.MarkLaws.{marks-none, marks-fit, marks-more}
+use Rattle.scheme.specs.Words.{fitsAt}
+use Rattle.scheme.specs.Tables.{rowed}
+use Rattle.scheme.proofs.MarkLaws.{rowed-none, rowed-more, rowed-all, rowed-fits}
 use Rattle.scheme.proofs.nodes.read_word.Statement.{statement}
 use Rattle.scheme.proofs.nodes.read_word.Tie as tie
 
 abbrev Inv-loop : tie.InvT-loop
-Inv-loop bytes n places at words₀ base marks₀ p₀ words marks p = (p ≤ places) × (all p (fitsAt bytes n at) ≡ true) × (words ≡ stored words₀ base bytes at p) × (marks ≡ marksTo bytes at p)
+Inv-loop bytes n places at words₀ codes₀ base p₀ words codes p = (p ≤ places) × (all p (fitsAt bytes n at) ≡ true) × (words ≡ stored words₀ base bytes at p) × (codes ≡ rowed codes₀ base bytes at p)
 
 abbrev μ-loop : tie.MeasureT-loop
-μ-loop bytes n places at words₀ base marks₀ p₀ words marks p = places - p
+μ-loop bytes n places at words₀ codes₀ base p₀ words codes p = places - p
+
+-- whether the byte could be marked is whether it fits
+fits : (c : tie.After-mark Inv-loop μ-loop) → let l = c .before .before .before .before in let a = l .before .before .args in
+    c .mark .result ≡ fitsAt (now (a .bytes)) (a .n) (a .at) (l .loop .p)
+fits c =
+    let l = c .before .before .before .before in
+    let p = l .before .before .pre in
+    let i = l .loop .inv in
+    rowed-fits _ _ _ _ _ (p .0 .0) (omega arith) (p .1 .1) _ (i .3) (omega arith) (i .1) (c .mark .ensures .0)
 
 loop-holds : tie.Need-loop-holds Inv-loop μ-loop
-loop-holds c = (omega arith, all-none _, sym (stored-none _ _ _ _), marks-none _ _ refl)
+loop-holds c = (omega arith, all-none _, sym (stored-none _ _ _ _), sym (rowed-none _ _ _ _))
 
 add-d : tie.Need-add-d Inv-loop μ-loop
 add-d c = omega arith
@@ -30,13 +41,12 @@ shared-slice-read-d : tie.Need-shared-slice-read-d Inv-loop μ-loop
 shared-slice-read-d c = omega arith
 
 mark-requires : tie.Need-mark-requires Inv-loop μ-loop
-mark-requires c κs = omega arith
+mark-requires c κs = (omega arith, omega arith, omega arith)
 
 returns : tie.Need-returns Inv-loop μ-loop
 returns c =
-    let l = c .before .before .before .before .before in
-    let n3 = l .before .before .pre .0 in
-    (all-stops _ _ _ (c .before .before .before .before .loop-test .taken) (sym (marks-fit _ _ _ _ (l .loop .inv .3) n3 (c .before .mark .ensures .0)) ∙ not-true _ (c .if1 .taken)), λ e. absurd (true≢false (sym e)))
+    let t = c .before .before .before .before .loop-test .taken in
+    (all-stops _ _ _ t (sym (fits (c .before)) ∙ not-true _ (c .if1 .taken)), ((λ e. absurd (true≢false (sym e))), (λ e. absurd (true≢false (sym e)))))
 
 add-words : tie.Need-add-words Inv-loop μ-loop
 add-words c = omega arith
@@ -52,21 +62,20 @@ loop-less c = omega arith
 
 loop-again : tie.Need-loop-again Inv-loop μ-loop
 loop-again c =
-    let l = c .before .before .before .before .before in
-    let i = l .loop .inv in
-    let n3 = l .before .before .pre .0 in
-    let m = c .before .mark .ensures in
+    let i = c .before .before .before .before .before .loop .inv in
     let t = not-false _ (c .if1 .left) in (
       omega arith,
-      all-more _ _ (i .1) (sym (marks-fit _ _ _ _ (i .3) n3 (m .0)) ∙ t),
+      all-more _ _ (i .1) (sym (fits (c .before)) ∙ t),
       stored-more _ _ _ _ _ (i .2),
-      m .1 t ∙ marks-more _ _ _ _ (i .3) n3 (sym (m .0) ∙ t),
+      c .before .mark .ensures .1 t ∙ rowed-more _ _ _ _ _ (i .3),
     )
 
 returns-2 : tie.Need-returns-2 Inv-loop μ-loop
 returns-2 c =
-    let l = c .before in
-    (all-ends _ _ _ (l .loop .inv .1) (omega arith) (omega arith), λ e. stored-all _ _ _ _ _ _ (l .loop .inv .2) (omega arith))
+    let i = c .before .loop .inv in (
+      all-ends _ _ _ (i .1) (omega arith) (omega arith),
+      ((λ e. stored-all _ _ _ _ _ _ (i .2) (omega arith)), (λ e. rowed-all _ _ _ _ _ _ (i .3) (omega arith))),
+    )
 
 pub read-word-spec : {M : Type 1} → statement M
 read-word-spec =
