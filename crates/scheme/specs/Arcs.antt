@@ -1,17 +1,15 @@
 -- The arcs of a side: what is known where they are read, and how an arc becomes the target of its ends.
 -- Assumes nothing.
-use Prim.Native.Nat.{ℕ, _+_, _*_, _/_, _%_, _≤_}
+use Prim.Native.Nat.{ℕ, _+_, _*_, _≤_}
 use mathlib.Core.Path.{_≡_}
 use mathlib.Core.Logic.{_⊎_}
 use mathlib.Core.Bool.{Bool, true, false, cond}
-use mathlib.Core.Option.{Option·getD}
 use mathlib.Core.List.{List}
 use lib.ListN.{length, getD, set}
 use lib.Dec.{eqb, ltb, leb}
 use Rattle.base.specs.Test.{_and_, _⇒_}
 use Rattle.base.specs.Below.{all}
-use Rattle.base.specs.Lists.{list}
-use Rattle.model.specs.Scheme.{nodesOf, arcsAt, arcCount, nodeForm, farEnd, schemeOf}
+use Rattle.model.specs.Scheme.{nodesOf, arcsAt, arcCount, nodeForm, schemeOf}
 use Rattle.scheme.specs.Frame.{LaidOut}
 use Rattle.scheme.specs.Words.{sideOf}
 use Rattle.scheme.specs.declared.frame.Layout.{Layout}
@@ -38,7 +36,3 @@ arcTest n nodes kinds other low d s t = leb d n and leb s t and ltb t nodes
 -- the target at a place becomes `to` where there is none
 unfoldable pub aimed : List ℕ → ℕ → ℕ → List ℕ
 aimed l at to = cond (eqb (getD l at 0) 255) (set l at to) l
-
--- the targets that the first c arcs give
-unfoldable pub targetsTo : (ℕ → ℕ → ℕ) → ℕ → List ℕ
-targetsTo part c = list 64 (λ k. Option·getD (farEnd part c (k / 4) (k % 4)) 255)
