@@ -271,3 +271,22 @@ module _ (p : ℕ → Bool) where
 
   pub all-ends : (i n : ℕ) → all i p ≡ true → i ≤ n → n ≤ i → true ≡ all n p
   all-ends i n e h k = let same : i ≡ n = omega arith in sym (rw same at e)
+
+-- what holds at no two numbers holds at one at most
+pub count-single : (n : ℕ) (f : ℕ → Bool) → ((j k : ℕ) → j < k → k < n → f j ≡ true → f k ≡ true → ⊥) → count n f ≤ 1
+unfolding count
+count-single zero f h = omega arith
+count-single (suc n) f h = go (f n) refl (count-single n f (λ j k l m. h j k l (omega arith)))
+  where
+    false-of : (b : Bool) → (b ≡ true → ⊥) → b ≡ false
+    false-of true n = absurd (n refl)
+    false-of false n = refl
+
+    go : (b : Bool) → f n ≡ b → count n f ≤ 1 → count n f + bit b ≤ 1
+    go true e few = let none = count-zero n f (λ j l. false-of (f j) (λ q. h j n l (omega arith) q e)) in omega arith
+    go false e few = omega arith
+
+pub any-same : (n : ℕ) (f g : ℕ → Bool) → ((k : ℕ) → k < n → f k ≡ g k) → any n f ≡ any n g
+unfolding any
+any-same zero f g h = refl
+any-same (suc n) f g h = ap₂ _or_ (any-same n f g (λ k l. h k (omega arith))) (h n (omega arith))

@@ -18,11 +18,12 @@ use Rattle.base.specs.Filled.{filled, stored}
 use Rattle.base.proofs.TestLaws.{true-or-false, same-test}
 use Rattle.base.proofs.ListLaws.{getD-list, length-list}
 
--- lists made of the same words are one
-pub list-same : (n : ℕ) (f g : ℕ → ℕ) → ((k : ℕ) → k < n → f k ≡ g k) → list n f ≡ list n g
-list-same n f g h = ext-getD 0 _ _ (length-list n f ∙ sym (length-list n g)) (λ k l.
-    let l′ : k < n = omega (arith, length-list n f) in
-    getD-list n k f 0 l′ ∙ h k l′ ∙ sym (getD-list n k g 0 l′))
+-- lists made of the same values are one
+module _ {A : Type 0} where
+  pub list-same : (n : ℕ) (f g : ℕ → A) → ((k : ℕ) → k < n → f k ≡ g k) → list n f ≡ list n g
+  list-same n f g h = ext-getD (f 0) _ _ (length-list n f ∙ sym (length-list n g)) (λ k l.
+      let b : k < n = omega (arith, length-list n f) in
+      getD-list n k f (f 0) b ∙ h k b ∙ sym (getD-list n k g (f 0) b))
 
 -- a test of two orders that hold together
 pub same-ltb : (a b c d : ℕ) → (a < b → c < d) → (c < d → a < b) → ltb a b ≡ ltb c d

@@ -83,26 +83,30 @@ one-to-three k g h = ⊎-elim
     (λ e. ⊎-elim (λ d. inr (inl (eqb-true k 2 d))) (λ d. let x = eqb-false k 1 e in let y = eqb-false k 2 d in inr (inr (omega arith))) (true-or-false (eqb k 2)))
     (true-or-false (eqb k 1))
 
+abbrev agree : Bool → Bool → Bool
+agree true q = q
+agree false q = not q
+
+-- what each kind asks of the two sides, whose arc is there or not
+by-kind : (k : ℕ) (p q : Bool) → 1 ≤ k → k ≤ 3
+    → ((eqb k 2 ⇒ agree p q) and (eqb k 1 ⇒ p) and (eqb k 3 ⇒ q)) ≡ cond (eqb k 1) p (cond (eqb k 3) q (agree p q))
+unfolding _and_ _⇒_
+by-kind k true true g h = ⊎-elim (λ e. rw e refl) (⊎-elim (λ e. rw e refl) (λ e. rw e refl)) (one-to-three k g h)
+by-kind k true false g h = ⊎-elim (λ e. rw e refl) (⊎-elim (λ e. rw e refl) (λ e. rw e refl)) (one-to-three k g h)
+by-kind k false true g h = ⊎-elim (λ e. rw e refl) (⊎-elim (λ e. rw e refl) (λ e. rw e refl)) (one-to-three k g h)
+by-kind k false false g h = ⊎-elim (λ e. rw e refl) (⊎-elim (λ e. rw e refl) (λ e. rw e refl)) (one-to-three k g h)
+
 -- with at most one arc on each side, counts and codes say the same
 same-test : (kind a b l r : ℕ) → 1 ≤ kind → kind ≤ 3 → a ≤ 1 → b ≤ 1 → ((a ≡ 0) × (l ≡ 255)) ⊎ ((1 ≤ a) × (l ≡ 255 → ⊥)) → ((b ≡ 0) × (r ≡ 255)) ⊎ ((1 ≤ b) × (r ≡ 255 → ⊥))
     → (leb a 1 and leb b 1 and (eqb kind 2 ⇒ eqb a b) and (eqb kind 1 ⇒ eqb a 1) and (eqb kind 3 ⇒ eqb b 1)) ≡ paired kind l r
 unfolding paired _and_ _⇒_
-same-test kind a b l r k1 k3 ha hb (inl (p, q)) (inl (u, v)) = rw (p, q, u, v) (kinds kind k1 k3)
-  where
-    kinds : (k : ℕ) → 1 ≤ k → k ≤ 3 → ((eqb k 2 ⇒ true) and (eqb k 1 ⇒ false) and (eqb k 3 ⇒ false)) ≡ cond (eqb k 1) false (cond (eqb k 3) false true)
-    kinds k g h = ⊎-elim (λ e. rw e refl) (⊎-elim (λ e. rw e refl) (λ e. rw e refl)) (one-to-three k g h)
-same-test kind a b l r k1 k3 ha hb (inl (p, q)) (inr (u, v)) = let one : b ≡ 1 = omega arith in rw (p, q, one, ne-eqb r 255 v) (kinds kind k1 k3)
-  where
-    kinds : (k : ℕ) → 1 ≤ k → k ≤ 3 → ((eqb k 2 ⇒ false) and (eqb k 1 ⇒ false) and (eqb k 3 ⇒ true)) ≡ cond (eqb k 1) false (cond (eqb k 3) true false)
-    kinds k g h = ⊎-elim (λ e. rw e refl) (⊎-elim (λ e. rw e refl) (λ e. rw e refl)) (one-to-three k g h)
-same-test kind a b l r k1 k3 ha hb (inr (p, q)) (inl (u, v)) = let one : a ≡ 1 = omega arith in rw (one, u, v, ne-eqb l 255 q) (kinds kind k1 k3)
-  where
-    kinds : (k : ℕ) → 1 ≤ k → k ≤ 3 → ((eqb k 2 ⇒ false) and (eqb k 1 ⇒ true) and (eqb k 3 ⇒ false)) ≡ cond (eqb k 1) true (cond (eqb k 3) false false)
-    kinds k g h = ⊎-elim (λ e. rw e refl) (⊎-elim (λ e. rw e refl) (λ e. rw e refl)) (one-to-three k g h)
-same-test kind a b l r k1 k3 ha hb (inr (p, q)) (inr (u, v)) = let one : a ≡ 1 = omega arith in let other : b ≡ 1 = omega arith in rw (one, other, ne-eqb l 255 q, ne-eqb r 255 v) (kinds kind k1 k3)
-  where
-    kinds : (k : ℕ) → 1 ≤ k → k ≤ 3 → ((eqb k 2 ⇒ true) and (eqb k 1 ⇒ true) and (eqb k 3 ⇒ true)) ≡ cond (eqb k 1) true (cond (eqb k 3) true true)
-    kinds k g h = ⊎-elim (λ e. rw e refl) (⊎-elim (λ e. rw e refl) (λ e. rw e refl)) (one-to-three k g h)
+same-test kind a b l r k1 k3 ha hb (inl (p, q)) (inl (u, v)) = rw (p, q, u, v) (by-kind kind false false k1 k3)
+same-test kind a b l r k1 k3 ha hb (inl (p, q)) (inr (u, v)) = let one : b ≡ 1 = omega arith in rw (p, q, one, ne-eqb r 255 v) (by-kind kind false true k1 k3)
+same-test kind a b l r k1 k3 ha hb (inr (p, q)) (inl (u, v)) = let one : a ≡ 1 = omega arith in rw (one, u, v, ne-eqb l 255 q) (by-kind kind true false k1 k3)
+same-test kind a b l r k1 k3 ha hb (inr (p, q)) (inr (u, v)) =
+    let one : a ≡ 1 = omega arith in
+    let other : b ≡ 1 = omega arith in
+    rw (one, other, ne-eqb l 255 q, ne-eqb r 255 v) (by-kind kind true true k1 k3)
 
 module _ (S : Scheme) (f : Formed S) where
   -- a node has no arc of a dimension beyond n

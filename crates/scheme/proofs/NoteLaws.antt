@@ -7,7 +7,6 @@ use mathlib.Core.Bool.{Bool, true, false, cond, true≢false}
 use mathlib.Core.Option.{Option, none, some, Option·getD}
 use mathlib.Core.List.{List}
 use native.Mathlib.Omega.{arith}
-use lib.Seq.{ext-getD}
 use lib.Dec.{eqb, ltb, leb}
 use borrow.Author.Tests.{eqb-true, eq-eqb, ne-eqb, lt-ltb, le-ltb, ltb-true, ltb-false}
 use Rattle.base.specs.Test.{_and_, _or_, _⇒_, bit}
@@ -15,39 +14,14 @@ use Rattle.base.specs.Below.{all, any, count}
 use Rattle.base.specs.First.{least}
 use Rattle.base.specs.Lists.{list}
 use Rattle.base.proofs.TestLaws.{and-right, or-cases, if-so, true-or-false}
-use Rattle.base.proofs.BelowLaws.{all-at, count-none, count-zero, count-some, count-same}
+use Rattle.base.proofs.BelowLaws.{all-at, any-same, count-zero, count-single, count-some, count-same}
 use Rattle.base.proofs.FirstLaws.{least-at, least-none, least-none-of, least-same}
-use Rattle.base.proofs.ListLaws.{getD-list, length-list}
 use Rattle.base.proofs.FilledLaws.{list-same}
 use Rattle.model.specs.Scheme.{Side, left, right, byte, nodesOf, placesOf, wordAt, arcByte, arcCount, touching, farEnd, wordForm, inForm, schemeOf, word, arcs, arcPart}
 use Rattle.model.specs.Conditions.{Arc, absent, explicit, implicit, arcOf, arcAt, arcsOfDim, reads}
 use Rattle.model.specs.Tables.{arcCode, codesOf, twiceAt, twiceOf}
 use Rattle.model.proofs.SchemeLaws.{small, places-few, nodes-few, form-word, value-word, value-word-out, value-arc, end-same}
 use Rattle.scheme.specs.Tables.{placeCode, placed, placedAt, codesTo, twiceTo}
-
--- what holds at no two numbers holds at one at most
-count-single : (n : ℕ) (f : ℕ → Bool) → ((j k : ℕ) → j < k → k < n → f j ≡ true → f k ≡ true → ⊥) → count n f ≤ 1
-unfolding count
-count-single zero f h = omega arith
-count-single (suc n) f h = go (f n) refl (count-single n f (λ j k l m. h j k l (omega arith)))
-  where
-    false-of : (b : Bool) → (b ≡ true → ⊥) → b ≡ false
-    false-of true n = absurd (n refl)
-    false-of false n = refl
-
-    go : (b : Bool) → f n ≡ b → count n f ≤ 1 → count n f + bit b ≤ 1
-    go true e few = let none = count-zero n f (λ j l. false-of (f j) (λ q. h j n l (omega arith) q e)) in omega arith
-    go false e few = omega arith
-
-any-same : (n : ℕ) (f g : ℕ → Bool) → ((k : ℕ) → k < n → f k ≡ g k) → any n f ≡ any n g
-unfolding any
-any-same zero f g h = refl
-any-same (suc n) f g h = ap₂ _or_ (any-same n f g (λ k l. h k (omega arith))) (h n (omega arith))
-
--- lists made of the same answers are one
-answers-same : (n : ℕ) (f g : ℕ → Bool) → ((k : ℕ) → k < n → f k ≡ g k) → list n f ≡ list n g
-answers-same n f g h = ext-getD false _ _ (length-list n f ∙ sym (length-list n g)) (λ k l.
-    let b : k < n = omega (arith, length-list n f) in getD-list n k f false b ∙ h k b ∙ sym (getD-list n k g false b))
 
 code-of : (o r : Option ℕ) → Option·getD o (placeCode r) ≡ arcCode (arcOf o r)
 code-of (some t) r = refl
@@ -146,4 +120,4 @@ module _ (b : List ℕ) (q : inForm b ≡ true) (side : Side) where
 
   pub noted-twice : twiceTo (placedAt b side) (arcByte b side) (arcCount b side) ≡ twiceOf (schemeOf b) side
   unfolding twiceTo twiceOf twiceAt
-  noted-twice = answers-same 16 _ _ (λ s h. any-same 4 _ _ (λ i l. ap (leb 2) (noted-number s i h l)))
+  noted-twice = list-same 16 _ _ (λ s h. any-same 4 _ _ (λ i l. ap (leb 2) (noted-number s i h l)))
