@@ -44,43 +44,45 @@ tree-asks S f n c en ec long = rw (ec, en) (f .nodesFew, (joins S f left, (aimed
 -- ---- the first fault of a scheme, from its tree and tables
 
 module _ (S : Scheme) (f : Formed S) (lefts rights : List ℕ) (cl : Coded S left lefts) (cr : Coded S right rights) where
-  pub fault-asks : ((S .n ≤ 3) × (S .places ≤ 4) × (S .nodes ≤ 16)) × (Coding (S .nodes) lefts × Coding (S .nodes) rights)
+  pub fault-asks : ((2 ≤ S .n) × (S .n ≤ 3) × (S .places ≤ 4) × (S .nodes ≤ 16)) × (Coding (S .nodes) lefts × Coding (S .nodes) rights)
   fault-asks =
       let d = AcceptedLaws.small S f in
+      let two = AcceptedLaws.at-least-two S f in
       let k = f .placesFew in
-      ((d, omega arith, f .nodesFew), (coding S f left lefts cl, coding S f right rights cr))
+      ((two, d, omega arith, f .nodesFew), (coding S f left lefts cl, coding S f right rights cr))
 
   module _ (long : length (S .lwords) ≡ 64) (t : Tree) (g : TreeOf S t) (ltwice rtwice : List Bool) (tl : ltwice ≡ twiceOf S left) (tr : rtwice ≡ twiceOf S right) where
-    hook-found : hookFault S ≡ hookBy (S .places) (S .nodes) (S .orbit) (S .kinds) (S .lwords) (t .reached)
+    hook-found : foundOf (hookFault S) ≡ hookBy (S .places) (S .orbit) (S .kinds) (S .lwords) (foundOf (least (S .nodes) (leftOut (S .kinds) (t .reached))))
     unfolding hookFault hookBy when _orElse_
     hook-found = rw (hook-is S f long, unreached-is S f t g) (go (hookedBy (S .places) (S .orbit) (S .kinds) (S .lwords)) (least (S .nodes) (leftOut (S .kinds) (t .reached))))
       where
-        go : (h : Bool) (o : Option ℕ) → (when (not h) 0 orElse o) ≡ cond h o (some 0)
+        go : (h : Bool) (o : Option ℕ) → foundOf (when (not h) 0 orElse o) ≡ cond h (foundOf o) (Node 0)
         go true o = refl
         go false o = refl
 
-    pub fault-is : (r : Answer) → r ≡ faultBy (S .n) (S .places) (S .nodes) (S .orbit) (S .kinds) (S .lwords) (t .reached) lefts rights ltwice rtwice
+    pub fault-is : (out : Found) → out ≡ foundOf (least (S .nodes) (leftOut (S .kinds) (t .reached)))
+        → (r : Answer) → r ≡ faultBy (S .n) (S .places) (S .nodes) (S .orbit) (S .kinds) (S .lwords) out lefts rights ltwice rtwice
         → r ≡ Option·getD (schemeFault S) Done
     unfolding schemeFault faultBy arcsAnswer _orElse_
-    fault-is r e = rw (hook-found, incidence-is S f lefts rights ltwice rtwice cl cr tl tr, cycle-is S f lefts rights cl cr)
-        (e ∙ go (hookBy (S .places) (S .nodes) (S .orbit) (S .kinds) (S .lwords) (t .reached)) _)
+    fault-is out eo r e = rw (incidence-is S f lefts rights ltwice rtwice cl cr tl tr, cycle-is S f lefts rights cl cr)
+        (rw (eo, sym hook-found) at e ∙ go (hookFault S) _)
       where
-        go : (o : Option ℕ) (q : Option Answer) → hookElse o (Option·getD q Done) ≡ Option·getD (noted BadHook o orElse q) Done
+        go : (o : Option ℕ) (q : Option Answer) → hookElse (foundOf o) (Option·getD q Done) ≡ Option·getD (noted BadHook o orElse q) Done
         go none q = refl
         go (some x) q = refl
 
 -- ---- hook, then arcs
 
-module _ (n places nodes : ℕ) (orbit kinds words : List ℕ) (reached : List Bool) (lefts rights : List ℕ) (ltwice rtwice : List Bool)
-    (h : Found) (eh : h ≡ foundOf (hookBy places nodes orbit kinds words reached)) where
-  pub fault-hook : (x : ℕ) → h ≡ Node x → BadHook x ≡ faultBy n places nodes orbit kinds words reached lefts rights ltwice rtwice
+module _ (n places nodes : ℕ) (orbit kinds words : List ℕ) (out : Found) (lefts rights : List ℕ) (ltwice rtwice : List Bool)
+    (h : Found) (eh : h ≡ hookBy places orbit kinds words out) where
+  pub fault-hook : (x : ℕ) → h ≡ Node x → BadHook x ≡ faultBy n places nodes orbit kinds words out lefts rights ltwice rtwice
   unfolding faultBy
-  fault-hook x e = let o = found-node (hookBy places nodes orbit kinds words reached) x (sym eh ∙ e) in rw o
+  fault-hook x e = let o = sym eh ∙ e in rw o
 
   pub fault-arcs : h ≡ Nothing → (r : Answer) → r ≡ arcsAnswer n nodes orbit kinds lefts rights ltwice rtwice
-      → r ≡ faultBy n places nodes orbit kinds words reached lefts rights ltwice rtwice
+      → r ≡ faultBy n places nodes orbit kinds words out lefts rights ltwice rtwice
   unfolding faultBy
-  fault-arcs e r g = let o = found-nothing (hookBy places nodes orbit kinds words reached) (sym eh ∙ e) in rw o g
+  fault-arcs e r g = let o = sym eh ∙ e in rw o g
 
 -- ---- incidence, then cycles
 
@@ -114,18 +116,19 @@ module _ {n places nodes : ℕ} {orbit kinds lwords ltargets : List ℕ} {lcount
       rw (J .kindsIs, J .ltargetsIs, J .larcsIs) (tree-asks (J .scheme) (J .formed) c l (ec ∙ J .nodesIs) (el ∙ J .lcountIs) long)
 
   module _ (p c : ℕ) (ep : p ≡ places) (ec : c ≡ nodes) where
-    pub judge-asks : ((n ≤ 3) × (p ≤ 4) × (c ≤ 16)) × (Coding c lcodes × Coding c rcodes)
+    pub judge-asks : ((2 ≤ n) × (n ≤ 3) × (p ≤ 4) × (c ≤ 16)) × (Coding c lcodes × Coding c rcodes)
     judge-asks = rw (ep, ec, J .nIs, J .placesIs, J .nodesIs) (fault-asks (J .scheme) (J .formed) lcodes rcodes left-coded right-coded)
 
     -- the tree and the answer that come of it
-    pub judge-is : (l : ℕ) → l ≡ lcount → (t : Tree) → Spanning larcs l t → (r : Answer)
-        → r ≡ faultBy n p c orbit kinds lwords (t .reached) lcodes rcodes ltwice rtwice → VerdictOf (J .scheme) (record { answer = r; tree = t })
-    judge-is l el t g r e =
+    pub judge-is : (l : ℕ) → l ≡ lcount → (t : Tree) → Spanning larcs l t → (out : Found) → out ≡ foundOf (least c (leftOut kinds (t .reached)))
+        → (r : Answer) → r ≡ faultBy n p c orbit kinds lwords out lcodes rcodes ltwice rtwice → VerdictOf (J .scheme) (record { answer = r; tree = t })
+    judge-is l el t g out eo r e =
         let span : Spanning (J .scheme .larcs) (J .scheme .lcount) t = rw (J .larcsIs, el, J .lcountIs) at g in
         let tree = tree-of (J .scheme) (J .formed) t span in
         let long = rw (J .lwordsIs) at (J .longWords) in
+        let left = rw (ec, J .nodesIs, J .kindsIs) at eo in
         let by = rw (ep, ec, J .nIs, J .placesIs, J .nodesIs, J .orbitIs, J .kindsIs, J .lwordsIs) at e in
         record {
-          answer = fault-is (J .scheme) (J .formed) lcodes rcodes left-coded right-coded long t tree ltwice rtwice (J .ltwiceIs) (J .rtwiceIs) r by;
+          answer = fault-is (J .scheme) (J .formed) lcodes rcodes left-coded right-coded long t tree ltwice rtwice (J .ltwiceIs) (J .rtwiceIs) out left r by;
           tree = tree;
         }

@@ -24,7 +24,7 @@ use Rattle.model.specs.declared.Scheme.{Scheme}
 use Rattle.model.proofs.AcceptedLaws as AcceptedLaws
 use Rattle.conditions.specs.Tree.{Lefts, TreeOf}
 use Rattle.conditions.specs.declared.tree.Tree.{Tree}
-use Rattle.conditions.specs.Hook.{hookedBy, leftOut, foundOf, settledAt, hookBy}
+use Rattle.conditions.specs.Hook.{hookedBy, leftOut, foundOf, hookBy}
 use Rattle.conditions.specs.declared.hook.Found.{Found}
 use Rattle.conditions.specs.declared.hook.Found.the-variants.{Node, Nothing}
 
@@ -75,45 +75,26 @@ module _ (kinds : List ℕ) (reached : List Bool) (s : ℕ) where
 
 -- ---- the hook's fault
 
-module _ (places nodes : ℕ) (orbit kinds words : List ℕ) (reached : List Bool) where
-  pub hook-wrong : hookedBy places orbit kinds words ≡ false → Node 0 ≡ foundOf (hookBy places nodes orbit kinds words reached)
+module _ (places : ℕ) (orbit kinds words : List ℕ) (out : Found) where
+  pub hook-wrong : hookedBy places orbit kinds words ≡ false → Node 0 ≡ hookBy places orbit kinds words out
   unfolding hookBy
   hook-wrong q = rw q
 
-  pub hook-left : hookedBy places orbit kinds words ≡ true → (r : Found) → r ≡ foundOf (least nodes (leftOut kinds reached))
-      → r ≡ foundOf (hookBy places nodes orbit kinds words reached)
+  pub hook-left : hookedBy places orbit kinds words ≡ true → out ≡ hookBy places orbit kinds words out
   unfolding hookBy
-  hook-left q r e = rw q e
+  hook-left q = rw q
 
 -- ---- whether the walk over targets was enough
 
-module _ (nodes : ℕ) (kinds : List ℕ) (reached : List Bool) (size : ℕ) where
-  pub settled-all : (f : Found) → f ≡ foundOf (least nodes (leftOut kinds reached)) → f ≡ Nothing → size ≡ settledAt nodes kinds reached size
-  unfolding settledAt there
-  settled-all f e q = let none-out = found-nothing (least nodes (leftOut kinds reached)) (sym e ∙ q) in rw none-out
-
-  pub settled-not : (f : Found) (x : ℕ) → f ≡ foundOf (least nodes (leftOut kinds reached)) → f ≡ Node x → 0 ≡ settledAt nodes kinds reached size
-  unfolding settledAt there
-  settled-not f x e q = let one-out = found-node (least nodes (leftOut kinds reached)) x (sym e ∙ q) in rw one-out
-
-  -- it was not, or no left node is left out
-  pub settled-cases : (settledAt nodes kinds reached size ≡ 0)
-      ⊎ ((settledAt nodes kinds reached size ≡ size) × (least nodes (leftOut kinds reached) ≡ none))
-  unfolding settledAt there
-  settled-cases = go (least nodes (leftOut kinds reached)) refl
-    where
-      go : (o : Option ℕ) → least nodes (leftOut kinds reached) ≡ o
-          → (cond (there o) 0 size ≡ 0) ⊎ ((cond (there o) 0 size ≡ size) × (o ≡ none))
-      go none e = inr (refl, refl)
-      go (some x) e = inl refl
-
-  -- a left node that is not left out is reached
-  pub none-out : least nodes (leftOut kinds reached) ≡ none → (s : ℕ) → s < nodes → (getD kinds s 0 ≡ 3 → ⊥) → getD reached s false ≡ true
-  none-out e s h ne = go (getD reached s false) (sym (out-left kinds reached s ne) ∙ least-none nodes (leftOut kinds reached) e s h)
-    where
-      go : (b : Bool) → not b ≡ false → b ≡ true
-      go true q = refl
-      go false q = sym q
+-- a left node that is not left out is reached
+pub none-out : (nodes : ℕ) (kinds : List ℕ) (reached : List Bool) → Nothing ≡ foundOf (least nodes (leftOut kinds reached))
+    → (s : ℕ) → s < nodes → (getD kinds s 0 ≡ 3 → ⊥) → getD reached s false ≡ true
+none-out nodes kinds reached e s h ne =
+    go (getD reached s false) (sym (out-left kinds reached s ne) ∙ least-none nodes (leftOut kinds reached) (found-nothing _ (sym e)) s h)
+  where
+    go : (b : Bool) → not b ≡ false → b ≡ true
+    go true q = refl
+    go false q = sym q
 
 -- ---- what they say of a scheme
 

@@ -13,7 +13,7 @@ use Rattle.base.specs.Test.{_and_, _or_, _⇒_}
 use Rattle.base.specs.Below.{all, any, count}
 use Rattle.base.specs.First.{least}
 use Rattle.base.proofs.TestLaws.{and-no-left, true-or-false}
-use Rattle.base.proofs.BelowLaws.{all-not, all-same, any-at, any-of, count-zero}
+use Rattle.base.proofs.BelowLaws.{all-not, all-step, all-same, any-at, any-of, count-zero}
 use Rattle.base.proofs.FirstLaws.{least-same}
 use Rattle.base.proofs.ListLaws.{getD-list}
 use Rattle.model.specs.Scheme.{Side, left, right, kind, word, arcs, arcPart}
@@ -55,9 +55,18 @@ module _ (n kind : ℕ) (lefts rights : List ℕ) (s : ℕ) where
   unfolding incidentBy
   incident-not i h b e f = sym (all-not (suc n) AtDim i (omega arith) (sym e ∙ not-true b f))
 
-  pub incident-all : (i : ℕ) → i ≤ n + 1 → n < i → all i AtDim ≡ true → true ≡ incidentBy n kind lefts rights s
-  unfolding incidentBy
-  incident-all i h l e = let same : i ≡ suc n = omega arith in sym (ap (λ (k : ℕ). all k AtDim) (sym same) ∙ e)
+  -- the dimensions below 3 are all that there are, or dimension 3 is left
+  module _ (i : ℕ) (h : i ≤ 3) (l : 3 ≤ i) (e : all i AtDim ≡ true) where
+    first-three : all 3 AtDim ≡ true
+    first-three = let same : i ≡ 3 = omega arith in ap (λ (k : ℕ). all k AtDim) (sym same) ∙ e
+
+    pub incident-three : 2 ≤ n → n < 3 → true ≡ incidentBy n kind lefts rights s
+    unfolding incidentBy
+    incident-three a b = let two : n ≡ 2 = omega arith in rw two (sym first-three)
+
+    pub incident-four : n ≤ 3 → 3 ≤ n → (b : Bool) → b ≡ AtDim 3 → b ≡ incidentBy n kind lefts rights s
+    unfolding incidentBy _and_
+    incident-four a b r q = let three : n ≡ 3 = omega arith in let last : all 4 AtDim ≡ AtDim 3 = all-step 3 AtDim ∙ rw first-three refl in rw three (q ∙ sym last)
 
 -- ---- a node
 

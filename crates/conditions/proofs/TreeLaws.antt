@@ -11,13 +11,15 @@ use lib.Seq.{getD-set-same, getD-set-other}
 use lib.Dec.{eqb, leb}
 use borrow.Author.Tests.{eqb-true, eqb-false, leb-true, leb-false}
 use Rattle.base.specs.Below.{count}
+use Rattle.base.specs.First.{least}
 use Rattle.base.proofs.TestLaws.{true-or-false}
 use Rattle.base.proofs.BelowLaws.{below-step, count-more, count-le, count-some}
 use Rattle.base.proofs.ListLaws.{getD-replicate-all}
 use Rattle.conditions.specs.Arcs.{entry, partOf, Joins}
-use Rattle.conditions.specs.Hook.{settledAt}
-use Rattle.conditions.proofs.HookLaws.{settled-cases, none-out}
-use Rattle.conditions.specs.Tree.{Ends, ByArc, ByTarget, Branch, TreeBy, Reaching, Aimed, Lefts, Spans, Even, Joined, Grown, Spanning}
+use Rattle.conditions.specs.Hook.{leftOut, foundOf}
+use Rattle.conditions.specs.declared.hook.Found.the-variants.{Nothing}
+use Rattle.conditions.proofs.HookLaws.{none-out}
+use Rattle.conditions.specs.Tree.{Ends, ByArc, ByTarget, Branch, TreeBy, Reaching, Aimed, Lefts, Spans, Even, Joined, Grown, Closed}
 
 mark-keeps : (l : List Bool) (y z : ℕ) → y < length l → getD l z false ≡ true → getD (set l y true) z false ≡ true
 mark-keeps l y z h e = ⊎-elim
@@ -203,21 +205,22 @@ grown-more arcs c k node parent dim node′ parent′ dim′ reached reached′ 
       ⊎-elim (λ q. rw q (r .1)) (λ q. rw (r .0) (g .even (omega arith) a q)) (below-step h);
 }
 
--- after the walk over targets nothing is left to pass over where no left node is left out, since arcs join left nodes
-pub grown-walk : (arcs : List ℕ) (c nodes : ℕ) (kinds node parent dim : List ℕ) (reached : List Bool) (size last : ℕ)
-    → Spans arcs c node parent dim reached size → Lefts nodes kinds arcs c → last ≡ settledAt nodes kinds reached size
-    → Grown arcs c c node parent dim reached last size
-grown-walk arcs c nodes kinds node parent dim reached size last s l e = ⊎-elim
-    (λ q. record { spans = s; longer = omega arith; even = λ f. absurd (let some = s .some in omega arith) })
-    (λ q. record {
-      spans = s;
-      longer = omega arith;
-      even = λ f a h.
-          let from = l .from a h in
-          let to = l .to a h in
-          none-out nodes kinds reached size (q .1) _ (from .0) (from .1) ∙ sym (none-out nodes kinds reached size (q .1) _ (to .0) (to .1));
-    })
-    (settled-cases nodes kinds reached size)
+-- before the first pass
+pub grown-start : (arcs : List ℕ) (c : ℕ) (node parent dim : List ℕ) (reached : List Bool) (size : ℕ) → Spans arcs c node parent dim reached size
+    → Grown arcs c c node parent dim reached 0 size
+grown-start arcs c node parent dim reached size s = record { spans = s; longer = omega arith; even = λ f. absurd (let some = s .some in omega arith) }
+
+-- no arc leads out of a tree with all left nodes, since arcs join left nodes
+pub closed-walk : (arcs : List ℕ) (c nodes : ℕ) (kinds node parent dim : List ℕ) (reached : List Bool) (size : ℕ)
+    → Spans arcs c node parent dim reached size → Lefts nodes kinds arcs c → Nothing ≡ foundOf (least nodes (leftOut kinds reached))
+    → Closed arcs c node parent dim reached size
+closed-walk arcs c nodes kinds node parent dim reached size s l e = record {
+  spans = s;
+  even = λ a h.
+      let from = l .from a h in
+      let to = l .to a h in
+      none-out nodes kinds reached e _ (from .0) (from .1) ∙ sym (none-out nodes kinds reached e _ (to .0) (to .1));
+}
 
 -- node 0 alone
 pub tree-start : (J : ℕ → ℕ → ℕ → Type 0) → TreeBy J (replicate 16 0) (replicate 16 0) (replicate 16 0) (set (replicate 16 false) 0 true) 1

@@ -9,7 +9,6 @@ use lib.ListN.{getD}
 use lib.Dec.{eqb}
 use Rattle.base.specs.Test.{_and_}
 use Rattle.base.specs.Below.{all}
-use Rattle.base.specs.First.{least, there}
 use Rattle.conditions.specs.declared.hook.Found.{Found}
 use Rattle.conditions.specs.declared.hook.Found.the-variants.{Node, Nothing}
 
@@ -25,10 +24,6 @@ abbrev pub foundOf : Option ℕ → Found
 foundOf none = Nothing
 foundOf (some s) = Node s
 
--- `size` where no left node is left out, else 0
-unfoldable pub settledAt : ℕ → List ℕ → List Bool → ℕ → ℕ
-settledAt nodes kinds reached size = cond (there (least nodes (leftOut kinds reached))) 0 size
-
--- the hook's fault: node 0, or the least left node that is not reached
-unfoldable pub hookBy : ℕ → ℕ → List ℕ → List ℕ → List ℕ → List Bool → Option ℕ
-hookBy places nodes orbit kinds words reached = cond (hookedBy places orbit kinds words) (least nodes (leftOut kinds reached)) (some 0)
+-- the hook's fault: node 0, or else the node that is left out, if any
+unfoldable pub hookBy : ℕ → List ℕ → List ℕ → List ℕ → Found → Found
+hookBy places orbit kinds words out = cond (hookedBy places orbit kinds words) out (Node 0)

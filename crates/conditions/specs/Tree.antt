@@ -86,10 +86,13 @@ pub record Grown (arcs : List ℕ) (c k : ℕ) (node parent dim : List ℕ) (rea
   pub longer : size₀ ≤ size
   pub even : size ≡ size₀ → (a : ℕ) → a < k → Even arcs reached a
 
--- no arc leads out of the tree
-pub record Spanning (arcs : List ℕ) (c : ℕ) (t : Tree) : Type 0 where
-  pub spans : Spans arcs c (t .node) (t .parent) (t .dim) (t .reached) (t .size)
-  pub even : (a : ℕ) → a < c → Even arcs (t .reached) a
+-- a tree of the first c arcs that none of them leads out of
+pub record Closed (arcs : List ℕ) (c : ℕ) (node parent dim : List ℕ) (reached : List Bool) (size : ℕ) : Type 0 where
+  pub spans : Spans arcs c node parent dim reached size
+  pub even : (a : ℕ) → a < c → Even arcs reached a
+
+abbrev pub Spanning : List ℕ → ℕ → Tree → Type 0
+Spanning arcs c t = Closed arcs c (t .node) (t .parent) (t .dim) (t .reached) (t .size)
 
 -- the tree of a scheme's left arcs: its entries are the nodes that a path leads to, each once, parents first
 pub record TreeOf (S : Scheme) (t : Tree) : Type 0 where

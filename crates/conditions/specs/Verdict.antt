@@ -3,7 +3,7 @@
 use Prim.Native.Nat.{ℕ}
 use mathlib.Core.Path.{_≡_}
 use mathlib.Core.Bool.{Bool}
-use mathlib.Core.Option.{Option, none, some, Option·getD}
+use mathlib.Core.Option.{Option·getD}
 use mathlib.Core.List.{List}
 use lib.ListN.{length}
 use Rattle.model.specs.Scheme.{left, right}
@@ -16,17 +16,19 @@ use Rattle.model.specs.declared.Answer.the-variants.{Done, BadHook}
 use Rattle.conditions.specs.Hook.{hookBy}
 use Rattle.conditions.specs.Incidence.{arcsAnswer}
 use Rattle.conditions.specs.Tree.{TreeOf}
+use Rattle.conditions.specs.declared.hook.Found.{Found}
+use Rattle.conditions.specs.declared.hook.Found.the-variants.{Node, Nothing}
 use Rattle.conditions.specs.declared.Verdict.{Verdict}
 
 -- the hook's fault, or else an answer
-abbrev pub hookElse : Option ℕ → Answer → Answer
-hookElse none a = a
-hookElse (some x) a = BadHook x
+abbrev pub hookElse : Found → Answer → Answer
+hookElse Nothing a = a
+hookElse (Node x) a = BadHook x
 
 -- the first fault, over the lists that go with a scheme: the hook's, then those of the arcs
-unfoldable pub faultBy : ℕ → ℕ → ℕ → List ℕ → List ℕ → List ℕ → List Bool → List ℕ → List ℕ → List Bool → List Bool → Answer
-faultBy n places nodes orbit kinds words reached lefts rights leftTwice rightTwice =
-    hookElse (hookBy places nodes orbit kinds words reached) (arcsAnswer n nodes orbit kinds lefts rights leftTwice rightTwice)
+unfoldable pub faultBy : ℕ → ℕ → ℕ → List ℕ → List ℕ → List ℕ → Found → List ℕ → List ℕ → List Bool → List Bool → Answer
+faultBy n places nodes orbit kinds words out lefts rights leftTwice rightTwice =
+    hookElse (hookBy places orbit kinds words out) (arcsAnswer n nodes orbit kinds lefts rights leftTwice rightTwice)
 
 -- the numbers and lists are parts of a scheme in the form, and what goes with it
 pub record Judging (n places nodes : ℕ) (orbit kinds lwords ltargets : List ℕ) (lcount : ℕ) (larcs lcodes rcodes : List ℕ) (ltwice rtwice : List Bool) : Type 0 where

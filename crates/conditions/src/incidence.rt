@@ -22,19 +22,22 @@ fn allowed(kind: u8, l: u8, r: u8) -> bool
     r != 255
 }
 
-// Node s has the arcs of each dimension that it may have.
+// Node s has the arcs of each dimension that it may have. Dimension 3 stands apart, so that the loop has a fixed number of turns.
 fn incident<'a>(n: usize, kind: u8, lefts: &'a [u8; 64], rights: &'a [u8; 64], s: usize) -> bool
-    requires { ⌜ (n ≤ 3) × (s < 16) ⌝ }
+    requires { ⌜ (2 ≤ n) × (n ≤ 3) × (s < 16) ⌝ }
     ensures { λ r. ⌜ r ≡ incidentBy n kind (now (lefts .entry)) (now (rights .entry)) s ⌝ }
 {
     let mut i = 0;
-    while i <= n {
+    while i < 3 {
         if !allowed(kind, lefts[4 * s + i], rights[4 * s + i]) {
             return false;
         }
         i += 1;
     }
-    true
+    if n < 3 {
+        return true;
+    }
+    allowed(kind, lefts[4 * s + 3], rights[4 * s + 3])
 }
 
 // The least node that has not, or has two arcs of a dimension on a side.
@@ -47,7 +50,7 @@ pub fn unbalanced<'a>(
     ltwice: &'a [bool; 16],
     rtwice: &'a [bool; 16],
 ) -> Found
-    requires { ⌜ (n ≤ 3) × (nodes ≤ 16) ⌝ }
+    requires { ⌜ (2 ≤ n) × (n ≤ 3) × (nodes ≤ 16) ⌝ }
     ensures { λ r. ⌜ r ≡ foundOf (least nodes (offends n (now (kinds .entry)) (now (lefts .entry)) (now (rights .entry)) (now (ltwice .entry)) (now (rtwice .entry)))) ⌝ }
 {
     let mut s = 0;

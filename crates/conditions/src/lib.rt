@@ -11,34 +11,32 @@ use arcs::wide;
 use cycles::cycle_fault;
 use hook::Found;
 use hook::hooked;
-use hook::unreached;
 use incidence::unbalanced;
 use model::Answer;
 use tree::Tree;
-use tree::tree_of;
+use tree::reach_of;
 ghost use mathlib.Core.Path.{_≡_};
 ghost use Prim.Native.Nat.{_≤_};
-ghost use Rattle.conditions.specs.Hook.{foundOf, hookBy};
+ghost use Rattle.conditions.specs.Hook.{hookBy};
 ghost use Rattle.conditions.specs.Cycles.{Coding};
 ghost use Rattle.conditions.specs.Incidence.{arcsAnswer};
 ghost use Rattle.conditions.specs.Verdict.{faultBy, Judging, VerdictOf};
 
-// The hook's fault: node 0, or the least left node that is not reached from it.
+// The hook's fault: node 0, or the least left node that is not reached from it, which is `out`.
 fn hook_fault<'a>(
     places: usize,
-    nodes: usize,
     orbit: &'a [u8; 4],
     kinds: &'a [u8; 16],
     words: &'a [u8; 64],
-    reached: &'a [bool; 16],
+    out: Found,
 ) -> Found
-    requires { ⌜ (places ≤ 4) × (nodes ≤ 16) ⌝ }
-    ensures { λ r. ⌜ r ≡ foundOf (hookBy places nodes (now (orbit .entry)) (now (kinds .entry)) (now (words .entry)) (now (reached .entry))) ⌝ }
+    requires { ⌜ places ≤ 4 ⌝ }
+    ensures { λ r. ⌜ r ≡ hookBy places (now (orbit .entry)) (now (kinds .entry)) (now (words .entry)) out ⌝ }
 {
     if !hooked(places, orbit, kinds, words) {
         return Found::Node(0);
     }
-    unreached(nodes, kinds, reached)
+    out
 }
 
 // The fault of incidence, or else that of the cycles.
@@ -52,7 +50,7 @@ fn arcs_fault<'a>(
     ltwice: &'a [bool; 16],
     rtwice: &'a [bool; 16],
 ) -> Answer
-    requires { ⌜ (n ≤ 3) × (nodes ≤ 16) ⌝ }
+    requires { ⌜ (2 ≤ n) × (n ≤ 3) × (nodes ≤ 16) ⌝ }
     requires { ⌜ Coding nodes (now lefts) × Coding nodes (now rights) ⌝ }
     ensures { λ r. ⌜ r ≡ arcsAnswer n nodes (now (orbit .entry)) (now (kinds .entry)) (now (lefts .entry)) (now (rights .entry)) (now (ltwice .entry)) (now (rtwice .entry)) ⌝ }
 {
@@ -63,7 +61,7 @@ fn arcs_fault<'a>(
     cycle_fault(n, nodes, orbit, kinds, lefts, rights)
 }
 
-// The first fault, from what the tree of left arcs reaches and the tables of both sides.
+// The first fault, from the left node that the tree leaves out, if any, and the tables of both sides.
 fn fault<'a>(
     n: u8,
     places: usize,
@@ -71,17 +69,17 @@ fn fault<'a>(
     orbit: &'a [u8; 4],
     kinds: &'a [u8; 16],
     words: &'a [u8; 64],
-    reached: &'a [bool; 16],
+    out: Found,
     lefts: &'a [u8; 64],
     rights: &'a [u8; 64],
     ltwice: &'a [bool; 16],
     rtwice: &'a [bool; 16],
 ) -> Answer
-    requires { ⌜ (n ≤ 3) × (places ≤ 4) × (nodes ≤ 16) ⌝ }
+    requires { ⌜ (2 ≤ n) × (n ≤ 3) × (places ≤ 4) × (nodes ≤ 16) ⌝ }
     requires { ⌜ Coding nodes (now lefts) × Coding nodes (now rights) ⌝ }
-    ensures { λ r. ⌜ r ≡ faultBy n places nodes (now (orbit .entry)) (now (kinds .entry)) (now (words .entry)) (now (reached .entry)) (now (lefts .entry)) (now (rights .entry)) (now (ltwice .entry)) (now (rtwice .entry)) ⌝ }
+    ensures { λ r. ⌜ r ≡ faultBy n places nodes (now (orbit .entry)) (now (kinds .entry)) (now (words .entry)) out (now (lefts .entry)) (now (rights .entry)) (now (ltwice .entry)) (now (rtwice .entry)) ⌝ }
 {
-    let hook = hook_fault(places, nodes, orbit, kinds, words, reached);
+    let hook = hook_fault(places, orbit, kinds, words, out);
     if let Found::Node(x) = hook {
         return Answer::BadHook(x);
     }
@@ -114,7 +112,8 @@ pub fn judge<'a>(
     ensures { λ r. ⌜ ((J : Judging n places nodes (now (orbit .entry)) (now (kinds .entry)) (now (lwords .entry)) (now (ltargets .entry)) lcount (now (larcs .entry)) (now (lcodes .entry)) (now (rcodes .entry)) (now (ltwice .entry)) (now (rtwice .entry))) → VerdictOf (J .scheme) r) ⌝ }
 {
     let c = wide(nodes);
-    let tree = tree_of(c, kinds, ltargets, wide(lcount), larcs);
+    let reach = reach_of(c, kinds, ltargets, wide(lcount), larcs);
+    let out = reach.out;
     let answer = fault(
         n,
         wide(places),
@@ -122,12 +121,13 @@ pub fn judge<'a>(
         orbit,
         kinds,
         lwords,
-        &tree.reached,
+        out,
         lcodes,
         rcodes,
         ltwice,
         rtwice,
     );
+    let tree = reach.tree;
     Verdict {
         answer: answer,
         tree: tree,

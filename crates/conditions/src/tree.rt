@@ -7,9 +7,10 @@ ghost use mathlib.Core.Path.{_≡_};
 ghost use Prim.Native.Nat.{_+_, _<_, _≤_};
 ghost use mathlib.Core.Bool.{true, false};
 ghost use lib.ListN.{getD, set};
+ghost use Rattle.base.specs.First.{least};
 ghost use Rattle.conditions.specs.Arcs.{Joins};
-ghost use Rattle.conditions.specs.Tree.{ByTarget, TreeBy, Reaching, Aimed, Lefts, Spans, Joined, Grown, Spanning};
-ghost use Rattle.conditions.specs.Hook.{settledAt};
+ghost use Rattle.conditions.specs.Tree.{ByTarget, TreeBy, Reaching, Aimed, Lefts, Spans, Joined, Grown, Closed, Spanning};
+ghost use Rattle.conditions.specs.Hook.{leftOut, foundOf};
 
 // What is reached from node 0 over left arcs, as a tree: its first `size` entries. Entry 0 is node 0; any other is a node, with an
 // earlier one to which a left arc of dimension `dim` joins it. `reached` tells of each node whether it is an entry.
@@ -170,33 +171,51 @@ fn walk<'a>(
     size
 }
 
-// How far the arcs have to be passed over: not at all, where all left nodes are entries, since arcs join left nodes.
-fn settled<'a>(nodes: usize, kinds: &'a [u8; 16], reached: &'a [bool; 16], size: usize) -> usize
-    requires { ⌜ nodes ≤ 16 ⌝ }
-    ensures { λ r. ⌜ r ≡ settledAt nodes (now (kinds .entry)) (now (reached .entry)) size ⌝ }
+// Passes over the arcs until one adds nothing. It returns the new number of entries.
+fn pass<'a>(
+    count: usize,
+    arcs: &[u8; 192],
+    node: &'a mut [u8; 16],
+    parent: &'a mut [u8; 16],
+    dim: &'a mut [u8; 16],
+    reached: &'a mut [bool; 16],
+    size: usize,
+) -> usize
+    requires { ⌜ Joins (now arcs) count ⌝ }
+    requires { ⌜ Spans (now arcs) count (now node) (now parent) (now dim) (now reached) size ⌝ }
+    ensures { λ r. ⌜ Closed (now (arcs .entry)) count (now (node .exit)) (now (parent .exit)) (now (dim .exit)) (now (reached .exit)) r ⌝ }
 {
-    let out = unreached(nodes, kinds, reached);
-    match out {
-        Found::Nothing => size,
-        Found::Node(_) => 0,
+    let mut k = size;
+    let mut last = 0;
+    while last < k {
+        last = k;
+        k = grow(count, arcs, node, parent, dim, reached, last);
     }
+    k
 }
 
-// The tree of the first `count` arcs. Each node's target of a dimension is the far end of its first arc of that dimension, so the
-// targets reach all left nodes unless one is reached by a second arc alone, or not at all: then the arcs are passed over, until a
-// pass adds nothing.
-pub fn tree_of<'a>(
+// What is reached from node 0: the tree, and the least left node that is no entry of it.
+pub struct Reach {
+    pub tree: Tree,
+    pub out: Found,
+}
+
+// The tree of the first `count` arcs, and what it leaves out. Each node's target of a dimension is the far end of its first arc of
+// that dimension, so the targets reach all left nodes unless one is reached by a second arc alone, or not at all: then the arcs are
+// passed over.
+pub fn reach_of<'a>(
     nodes: usize,
     kinds: &'a [u8; 16],
     targets: &'a [u8; 64],
     count: usize,
     arcs: &'a [u8; 192],
-) -> Tree
+) -> Reach
     requires { ⌜ nodes ≤ 16 ⌝ }
     requires { ⌜ Joins (now arcs) count ⌝ }
     requires { ⌜ Aimed (now targets) (now arcs) count ⌝ }
     requires { ⌜ Lefts nodes (now kinds) (now arcs) count ⌝ }
-    ensures { λ r. ⌜ Spanning (now (arcs .entry)) count r ⌝ }
+    ensures { λ r. ⌜ Spanning (now (arcs .entry)) count (r .tree) ⌝ }
+    ensures { λ r. ⌜ r .out ≡ foundOf (least nodes (leftOut (now (kinds .entry)) (r .tree .reached))) ⌝ }
 {
     let mut node = [0u8; 16];
     let mut parent = [0u8; 16];
@@ -204,24 +223,27 @@ pub fn tree_of<'a>(
     let mut reached = [false; 16];
     reached[0] = true;
     let mut size = walk(targets, &mut node, &mut parent, &mut dim, &mut reached);
-    let mut last = settled(nodes, kinds, &reached, size);
-    while last < size {
-        last = size;
-        size = grow(
+    let mut out = unreached(nodes, kinds, &reached);
+    if let Found::Node(_) = out {
+        size = pass(
             count,
             arcs,
             &mut node,
             &mut parent,
             &mut dim,
             &mut reached,
-            last,
+            size,
         );
+        out = unreached(nodes, kinds, &reached);
     }
-    Tree {
-        size: size,
-        node: node,
-        parent: parent,
-        dim: dim,
-        reached: reached,
+    Reach {
+        tree: Tree {
+            size: size,
+            node: node,
+            parent: parent,
+            dim: dim,
+            reached: reached,
+        },
+        out: out,
     }
 }

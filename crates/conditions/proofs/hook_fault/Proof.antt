@@ -11,13 +11,10 @@ hooked-requires : tie.Need-hooked-requires
 hooked-requires c κs = search needs
 
 returns : tie.Need-returns
-returns c = hook-wrong _ _ _ _ _ _ (sym (c .before .hooked .ensures) ∙ not-true _ (c .if1 .taken))
-
-unreached-requires : tie.Need-unreached-requires
-unreached-requires c κs = search needs
+returns c = hook-wrong _ _ _ _ _ (sym (c .before .hooked .ensures) ∙ not-true _ (c .if1 .taken))
 
 returns-2 : tie.Need-returns-2
-returns-2 c = hook-left _ _ _ _ _ _ (sym (c .before .before .hooked .ensures) ∙ not-false _ (c .before .if1 .left)) _ (c .unreached .ensures)
+returns-2 c = hook-left _ _ _ _ _ (sym (c .before .hooked .ensures) ∙ not-false _ (c .if1 .left))
 
 pub hook-fault-spec : {M : Type 1} → statement M
-hook-fault-spec = tie.close (tie.spec hooked-requires returns unreached-requires returns-2)
+hook-fault-spec = tie.close (tie.spec hooked-requires returns returns-2)

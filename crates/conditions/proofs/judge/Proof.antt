@@ -1,4 +1,4 @@
--- `conditions::judge` meets its contract: the tree, and the fault from it and the tables.
+-- `conditions::judge` meets its contract: what is reached, and the fault from it and the tables.
 -- Assumes nothing.
 use Rattle.conditions.proofs.FaultLaws.{judge-tree, judge-asks, judge-is}
 use borrow.Author.Needs.{needs}
@@ -11,24 +11,23 @@ wide-requires c κs = search needs
 wide-requires-2 : tie.Need-wide-requires-2
 wide-requires-2 c κs = search needs
 
-tree-of-requires : tie.Need-tree-of-requires
-tree-of-requires c κs = judge-tree (c .before .before .pre) _ _ (c .before .wide .ensures .0) (c .wide2 .ensures .0)
+reach-of-requires : tie.Need-reach-of-requires
+reach-of-requires c κs = judge-tree (c .before .before .pre) _ _ (c .before .wide .ensures .0) (c .wide2 .ensures .0)
 
 wide-requires-3 : tie.Need-wide-requires-3
 wide-requires-3 c κs = search needs
 
 fault-requires : tie.Need-fault-requires
 fault-requires c κs =
-    let p = c .before .before in
-    let w = p .before .before .before in
-    judge-asks (w .before .pre) _ _ (p .wide3 .ensures .0) (w .wide .ensures .0)
+    let w = c .before .before .before in
+    judge-asks (w .before .pre) _ _ (c .wide3 .ensures .0) (w .wide .ensures .0)
 
 returns : tie.Need-returns
 returns c =
-    let p = c .before .before .before in
+    let p = c .before .before in
     let t = p .before in
     let w = t .before .before in
-    λ J. judge-is J _ _ (p .wide3 .ensures .0) (w .wide .ensures .0) _ (t .before .wide2 .ensures .0) _ (t .tree-of .ensures) _ (c .fault .ensures)
+    λ J. judge-is J _ _ (p .wide3 .ensures .0) (w .wide .ensures .0) _ (t .before .wide2 .ensures .0) _ (t .reach-of .ensures .0) _ (t .reach-of .ensures .1) _ (c .before .fault .ensures)
 
 pub judge-spec : {M : Type 1} → statement M
 judge-spec =
@@ -36,7 +35,7 @@ judge-spec =
     (tie.spec
     wide-requires
     wide-requires-2
-    tree-of-requires
+    reach-of-requires
     wide-requires-3
     fault-requires
     returns)

@@ -1,6 +1,6 @@
--- `conditions::incidence::incident` meets its contract. The loop's invariant: the node is right at the dimensions passed.
+-- `conditions::incidence::incident` meets its contract. The loop's invariant: the node is right at the dimensions passed, of the first three.
 -- Assumes nothing.
-use Prim.Native.Nat.{_≤_, _+_, _-_}
+use Prim.Native.Nat.{_≤_, _-_}
 use mathlib.Core.Path.{_≡_, refl, sym, _∙_}
 use mathlib.Core.Bool.{true}
 use native.Mathlib.Omega.{arith}
@@ -8,15 +8,15 @@ use borrow.Author.Needs.{needs}
 use borrow.Author.Tests.{not-false}
 use Rattle.base.specs.Below.{all}
 use Rattle.base.proofs.BelowLaws.{all-more}
-use Rattle.conditions.proofs.IncidenceLaws.{AtDim, incident-not, incident-all}
+use Rattle.conditions.proofs.IncidenceLaws.{AtDim, incident-not, incident-three, incident-four}
 use Rattle.conditions.proofs.incidence.incident.Statement.{statement}
 use Rattle.conditions.proofs.incidence.incident.Tie as tie
 
 abbrev Inv-loop : tie.InvT-loop
-Inv-loop n kind lefts rights s i₀ i = (i ≤ n + 1) × (all i (AtDim n kind lefts rights s) ≡ true)
+Inv-loop n kind lefts rights s i₀ i = (i ≤ 3) × (all i (AtDim n kind lefts rights s) ≡ true)
 
 abbrev μ-loop : tie.MeasureT-loop
-μ-loop n kind lefts rights s i₀ i = n + 1 - i
+μ-loop n kind lefts rights s i₀ i = 3 - i
 
 loop-holds : tie.Need-loop-holds Inv-loop μ-loop
 unfolding all
@@ -44,7 +44,7 @@ allowed-requires : tie.Need-allowed-requires Inv-loop μ-loop
 allowed-requires c κs = search needs
 
 returns : tie.Need-returns Inv-loop μ-loop
-returns c = incident-not _ _ _ _ _ _ (c .before .before .before .before .loop-test .taken) _ (c .before .allowed .ensures) (c .if1 .taken)
+returns c = incident-not _ _ _ _ _ _ (let p = c .before .before .before .before .before in omega arith) _ (c .before .allowed .ensures) (c .if1 .taken)
 
 add-i : tie.Need-add-i Inv-loop μ-loop
 add-i c = omega arith
@@ -58,7 +58,38 @@ loop-again c =
     (omega arith, all-more _ _ (l .1) (sym (c .before .allowed .ensures) ∙ not-false _ (c .if1 .left)))
 
 returns-2 : tie.Need-returns-2 Inv-loop μ-loop
-returns-2 c = let l = c .before .loop .inv in incident-all _ _ _ _ _ _ (l .0) (c .loop-test .left) (l .1)
+returns-2 c =
+    let l = c .before .before .loop .inv in
+    let p = c .before .before .before .pre in
+    incident-three _ _ _ _ _ _ (l .0) (c .before .loop-test .left) (l .1) (p .0) (c .if2 .taken)
+
+mul-allowed-3 : tie.Need-mul-allowed-3 Inv-loop μ-loop
+mul-allowed-3 c = omega arith
+
+add-allowed-3 : tie.Need-add-allowed-3 Inv-loop μ-loop
+add-allowed-3 c = omega arith
+
+element-copy-out-allowed-3 : tie.Need-element-copy-out-allowed-3 Inv-loop μ-loop
+element-copy-out-allowed-3 c = omega arith
+
+mul-allowed-4 : tie.Need-mul-allowed-4 Inv-loop μ-loop
+mul-allowed-4 c = omega arith
+
+add-allowed-4 : tie.Need-add-allowed-4 Inv-loop μ-loop
+add-allowed-4 c = omega arith
+
+element-copy-out-allowed-4 : tie.Need-element-copy-out-allowed-4 Inv-loop μ-loop
+element-copy-out-allowed-4 c = omega arith
+
+allowed-requires-2 : tie.Need-allowed-requires-2 Inv-loop μ-loop
+allowed-requires-2 c κs = search needs
+
+returns-3 : tie.Need-returns-3 Inv-loop μ-loop
+returns-3 c =
+    let i = c .before .before .before in
+    let l = i .before .before .loop .inv in
+    let p = i .before .before .before .pre in
+    incident-four _ _ _ _ _ _ (l .0) (i .before .loop-test .left) (l .1) (p .1) (i .if2 .left) _ (c .allowed2 .ensures)
 
 pub incident-spec : {M : Type 1} → statement M
 incident-spec =
@@ -78,4 +109,12 @@ incident-spec =
     add-i
     loop-less
     loop-again
-    returns-2)
+    returns-2
+    mul-allowed-3
+    add-allowed-3
+    element-copy-out-allowed-3
+    mul-allowed-4
+    add-allowed-4
+    element-copy-out-allowed-4
+    allowed-requires-2
+    returns-3)

@@ -44,7 +44,7 @@ element-copy-out-incident : tie.Need-element-copy-out-incident Inv-loop μ-loop
 element-copy-out-incident c = omega arith
 
 incident-requires : tie.Need-incident-requires Inv-loop μ-loop
-incident-requires c κs = let l = c .before .before .before .before .before .before in (l .before .pre .0, omega arith)
+incident-requires c κs = let l = c .before .before .before .before .before .before in let p = l .before .pre in (p .0, p .1, omega arith)
 
 cast-t20 : tie.Need-cast-t20 Inv-loop μ-loop
 cast-t20 c = omega arith

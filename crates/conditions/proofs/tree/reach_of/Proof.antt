@@ -1,0 +1,56 @@
+-- `conditions::tree::reach_of` meets its contract: where the walk leaves no left node out, no arc leads out of its tree.
+-- Assumes nothing.
+use mathlib.Core.Path.{sym, _∙_}
+use Rattle.conditions.proofs.TreeLaws.{tree-start, tree-aimed, closed-walk}
+use borrow.Author.Needs.{needs}
+use Rattle.conditions.proofs.tree.reach_of.Statement.{statement}
+use Rattle.conditions.proofs.tree.reach_of.Tie as tie
+
+array-write-reached : tie.Need-array-write-reached
+array-write-reached c = search needs
+
+walk-requires : tie.Need-walk-requires
+walk-requires c κs = tree-start _
+
+unreached-requires : tie.Need-unreached-requires
+unreached-requires c κs = search needs
+
+enum-told : tie.Need-enum-told
+enum-told c = search needs
+
+pass-requires : tie.Need-pass-requires
+pass-requires c κs =
+    let w = c .before .before .before .before .before .before .before .before in
+    let p = w .before .before .before .before .before .pre in
+    (p .1 .0, tree-aimed _ _ _ (p .1 .1 .0) _ _ _ _ _ (w .walk .ensures))
+
+unreached-requires-2 : tie.Need-unreached-requires-2
+unreached-requires-2 c κs = search needs
+
+enum-told-2 : tie.Need-enum-told-2
+enum-told-2 c = search needs
+
+returns : tie.Need-returns
+returns c = search needs
+
+returns-2 : tie.Need-returns-2
+returns-2 c =
+    let u = c .before .before in
+    let w = u .before .before in
+    let p = w .before .before .before .before .before .pre in
+    let spans = tree-aimed _ _ _ (p .1 .1 .0) _ _ _ _ _ (w .walk .ensures) in
+    (closed-walk _ _ _ _ _ _ _ _ _ spans (p .1 .1 .1) (sym (c .enum-told2 .given .1) ∙ u .unreached .ensures), u .unreached .ensures)
+
+pub reach-of-spec : {M : Type 1} → statement M
+reach-of-spec =
+    tie.close
+    (tie.spec
+    array-write-reached
+    walk-requires
+    unreached-requires
+    enum-told
+    pass-requires
+    unreached-requires-2
+    enum-told-2
+    returns
+    returns-2)
