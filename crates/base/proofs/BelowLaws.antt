@@ -178,10 +178,6 @@ pub all-step : (i : ℕ) (p : ℕ → Bool) → all (i + 1) p ≡ (all i p and p
 unfolding all
 all-step i p = rw add-one refl
 
-pub any-step : (i : ℕ) (p : ℕ → Bool) → any (i + 1) p ≡ (any i p or p i)
-unfolding any
-any-step i p = rw add-one refl
-
 pub count-step : (i : ℕ) (p : ℕ → Bool) → count (i + 1) p ≡ count i p + bit (p i)
 unfolding count
 count-step i p = rw add-one refl
@@ -237,13 +233,6 @@ count-up p j (suc k) h = ⊎-elim
     (λ w. subst (λ (z : ℕ). count z p ≤ count k p + bit (p k)) (sym w) (omega arith))
     (λ (w : j < suc k). let r = count-up p j k (le-of-suc-le-suc w) in omega arith)
     (eq-or-lt-of-le h)
-
--- where fewer are counted, the bound is lower
-pub count-under : (p : ℕ → Bool) (j k : ℕ) → count j p < count k p → j < k
-count-under p j k h = ⊎-elim
-    (λ t. let r = count-up p k j (leb-true k j t) in absurd (omega arith))
-    (λ t. leb-false k j t)
-    (true-or-false (leb k j))
 
 -- as many are counted below two bounds between which none has p
 pub count-gap : (p : ℕ → Bool) (j k : ℕ) → j ≤ k → ((z : ℕ) → j ≤ z → z < k → p z ≡ false) → count k p ≡ count j p

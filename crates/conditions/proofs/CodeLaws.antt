@@ -1,43 +1,31 @@
--- What a scheme in the form has: arcs in order, targets that are far ends of arcs, and the codes that go with it.
+-- What a scheme in the form has: arcs in order, and targets that are the codes of arcs.
 -- Assumes nothing.
-use Prim.Native.Nat.{ℕ, _+_, _*_, _/_, _%_, _≤_, _<_}
-use mathlib.Core.Path.{_≡_, refl, sym, ap, ap₂, _∙_, subst}
-use mathlib.Core.Logic.{_⊎_, inl, inr, ⊎-elim}
+use Prim.Native.Nat.{ℕ, _≤_, _<_}
+use mathlib.Core.Path.{_≡_, refl, subst}
+use mathlib.Core.Logic.{inl, inr}
 use mathlib.Core.Bool.{Bool, true, false, cond}
-use mathlib.Core.Option.{Option, none, some, Option·getD}
-use mathlib.Core.List.{List, [], _∷_}
+use mathlib.Core.Option.{Option, none, some}
+use mathlib.Core.List.{List}
 use native.Mathlib.Omega.{arith}
-use lib.ListN.{length, getD}
 use lib.Dec.{eqb}
-use borrow.Author.Tests.{eqb-true, ne-eqb}
-use Rattle.base.specs.Below.{count}
-use Rattle.base.specs.First.{first, least, when}
+use borrow.Author.Tests.{eqb-true}
+use Rattle.base.specs.First.{least}
 use Rattle.base.specs.Test.{_or_}
 use Rattle.base.proofs.TestLaws.{and-left, and-right}
-use Rattle.base.proofs.BelowLaws.{count-same}
-use Rattle.base.proofs.FirstLaws.{first-at, when-at, least-at, least-same}
-use Rattle.base.proofs.ListLaws.{getD-inside, getD-list}
-use Rattle.model.specs.Scheme.{Side, left, right, touching, otherEnd, farEnd, word, target, arcs, arcPart}
-use Rattle.model.specs.Conditions.{Arc, absent, explicit, implicit, arcOf, arcAt, arcsOfDim, reads}
-use Rattle.model.specs.Tables.{arcCode, codesOf}
-use Rattle.model.specs.Formed.{Formed, FormedSide}
+use Rattle.base.proofs.FirstLaws.{first-at, when-at, least-at}
+use Rattle.model.specs.Scheme.{Side, left, right, farEnd, targets, arcs, arcPart}
+use Rattle.model.specs.Conditions.{Arc, absent, explicit, implicit, arcOf, arcAt, reads}
+use Rattle.model.specs.Codes.{arcCode}
+use Rattle.model.specs.Formed.{Formed}
 use Rattle.model.specs.declared.Scheme.{Scheme}
 use Rattle.model.proofs.AcceptedLaws.{small}
 use Rattle.conditions.specs.Arcs.{entry, partOf, Joins, Coded}
 use Rattle.conditions.specs.Tree.{Ends, ByArc, Aimed}
 
--- a side's lists, as a scheme holds them
-abbrev pub targetsOf : Scheme → Side → List ℕ
-targetsOf S left = S .ltargets
-targetsOf S right = S .rtargets
-
+-- a side's arcs, as a scheme holds them
 abbrev pub arcsOf : Scheme → Side → List ℕ
 arcsOf S left = S .larcs
 arcsOf S right = S .rarcs
-
-target-is : (S : Scheme) (side : Side) (s i : ℕ) → length (targetsOf S side) ≡ 64 → s < 16 → i < 4 → target S side s i ≡ entry (targetsOf S side) s i
-target-is S left s i e h l = getD-inside (S .ltargets) (4 * s + i) 255 0 (omega arith)
-target-is S right s i e h l = getD-inside (S .rtargets) (4 * s + i) 255 0 (omega arith)
 
 part-is : (S : Scheme) (side : Side) → arcPart S side ≡ partOf (arcsOf S side)
 part-is S left = refl
@@ -79,17 +67,19 @@ module _ (S : Scheme) (f : Formed S) (side : Side) where
     to = λ a h. let n = f .nodesFew in let d = f .sides side .to a h .0 in subst (λ (part : ℕ → ℕ → ℕ). part a 2 < 16) (part-is S side) (omega arith);
   }
 
-  -- its targets are the far ends of arcs
-  pub aimed : length (targetsOf S side) ≡ 64 → Aimed (targetsOf S side) (arcsOf S side) (arcs S side)
-  aimed long = record {
-    at = λ s i h k l. subst (λ (part : ℕ → ℕ → ℕ). ByArc part (arcs S side) i s (entry (targetsOf S side) s i)) (part-is S side)
-        (go (farEnd (arcPart S side) (arcs S side) s i) refl (sym (target-is S side s i long h k) ∙ f .sides side .targets s i h k) l);
+  -- its targets below 16 are the far ends of arcs
+  pub aimed : Aimed (targets S side) (arcsOf S side) (arcs S side)
+  unfolding arcAt
+  aimed = record {
+    at = λ s i h k l. subst (λ (part : ℕ → ℕ → ℕ). ByArc part (arcs S side) i s (entry (targets S side) s i)) (part-is S side)
+        (go (farEnd (arcPart S side) (arcs S side) s i) refl (least (S .places) (reads S side s i)) (f .sides side .coded s i h k) l);
   }
     where
-      go : {s i e : ℕ} (o : Option ℕ) → farEnd (arcPart S side) (arcs S side) s i ≡ o → e ≡ Option·getD o 255 → e < 16
+      go : {s i e : ℕ} (o : Option ℕ) → farEnd (arcPart S side) (arcs S side) s i ≡ o → (r : Option ℕ) → e ≡ arcCode (arcOf o r) → e < 16
           → ByArc (arcPart S side) (arcs S side) i s e
-      go none q u l = absurd (omega arith)
-      go (some t) q u l = rw u (by-arc (arcPart S side) (arcs S side) _ _ t q)
+      go none q none u l = absurd (omega arith)
+      go none q (some p) u l = absurd (omega arith)
+      go (some t) q r u l = rw u (by-arc (arcPart S side) (arcs S side) _ _ t q)
 
   end-below : (s i t : ℕ) → farEnd (arcPart S side) (arcs S side) s i ≡ some t → t < S .nodes
   unfolding farEnd
@@ -111,14 +101,6 @@ module _ (S : Scheme) (f : Formed S) (side : Side) where
       go none e (some p) g = let l = least-at (S .places) _ p g in let k = places-few in omega (arith, l .0)
       go none e none g = omega arith
 
--- the codes that go with a scheme are those of its nodes
-pub coded : (S : Scheme) (f : Formed S) (side : Side) (codes : List ℕ) → codes ≡ codesOf S side → Coded S side codes
-unfolding codesOf
-coded S f side codes e = record {
-  at = λ s i h k.
-      let few = f .nodesFew in
-      let node : (4 * s + i) / 4 ≡ s = omega arith in
-      let dim : (4 * s + i) % 4 ≡ i = omega arith in
-      ap (λ (l : List ℕ). getD l (4 * s + i) 0) e ∙ getD-list 64 (4 * s + i) _ 0 (omega arith)
-      ∙ ap₂ (λ (x y : ℕ). arcCode (arcAt S side x y)) node dim;
-}
+-- the targets of a scheme are the codes of its nodes
+pub coded : (S : Scheme) (f : Formed S) (side : Side) → Coded S side (targets S side)
+coded S f side = record { at = λ s i h k. let few = f .nodesFew in f .sides side .coded s i (omega arith) k }

@@ -2,9 +2,9 @@
 -- Assumes nothing.
 use Prim.Native.Nat.{ℕ, zero, suc, _+_, _*_, _-_, _≤_, _<_}
 use mathlib.Core.Path.{_≡_, refl, sym, ap, ap₂, _∙_, subst}
-use mathlib.Core.Logic.{_⊎_, inl, inr, ⊎-elim}
+use mathlib.Core.Logic.{_⊎_, inl, inr}
 use mathlib.Core.Bool.{Bool, true, false, not, cond}
-use mathlib.Core.Option.{Option, none, some}
+use mathlib.Core.Option.{Option, none}
 use mathlib.Core.List.{List}
 use native.Mathlib.Omega.{arith}
 use lib.ListN.{getD}
@@ -14,14 +14,14 @@ use Rattle.base.specs.Test.{_and_, _or_, _⇒_}
 use Rattle.base.specs.First.{first, when, _orElse_}
 use Rattle.base.proofs.TestLaws.{and-true, or-false, eqb-same}
 use Rattle.base.proofs.FirstLaws.{or-else-last, first-same}
-use Rattle.model.specs.Scheme.{Side, left, right, kind, orbitDim, added, preserved}
+use Rattle.model.specs.Scheme.{Side, left, right, kind, orbitDim}
 use Rattle.model.specs.Conditions.{Arc, absent, explicit, implicit, arcAt, sameArc, atEnd, atPlaces, fourArcs, oneArc, noArc, onCycle, cycleOk, cycleFault}
 use Rattle.model.specs.Formed.{Formed}
 use Rattle.model.specs.declared.Scheme.{Scheme}
 use Rattle.model.specs.declared.Answer.{Answer}
 use Rattle.model.specs.declared.Answer.the-variants.{BadCycle}
 use Rattle.model.proofs.AcceptedLaws as AcceptedLaws
-use Rattle.model.specs.Tables.{arcCode}
+use Rattle.model.specs.Codes.{arcCode}
 use Rattle.conditions.specs.Arcs.{entry, Coded}
 use Rattle.conditions.specs.Cycles.{farApart, goesRound, fromNode, fromPlace, cycleBy, pairBy, Coding, pairs, pairCount, atPair, atNode}
 use Rattle.conditions.proofs.CodeLaws.{Small, small-arc}

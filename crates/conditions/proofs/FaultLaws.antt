@@ -1,31 +1,27 @@
 -- The faults of a scheme in their order, and how small their numbers are.
 -- Assumes nothing.
-use Prim.Native.Nat.{ℕ, suc, _+_, _≤_, _<_}
-use mathlib.Core.Path.{_≡_, refl, sym, ap, _∙_, subst}
-use mathlib.Core.Logic.{⊎-elim}
+use Prim.Native.Nat.{ℕ, _≤_}
+use mathlib.Core.Path.{_≡_, refl, sym, ap, _∙_}
 use mathlib.Core.Bool.{Bool, true, false, not, cond}
 use mathlib.Core.Option.{Option, none, some, Option·getD}
 use mathlib.Core.List.{List}
 use native.Mathlib.Omega.{arith}
-use lib.ListN.{length, getD}
-use lib.Dec.{leb}
-use borrow.Author.Tests.{not-true, not-false}
+use lib.ListN.{length}
 use Rattle.base.specs.Test.{_and_}
-use Rattle.base.specs.First.{first, least, when, there, _orElse_}
-use Rattle.base.proofs.FirstLaws.{or-else-cases, first-at, when-at, least-at}
-use Rattle.model.specs.Scheme.{left, right, kind, has}
-use Rattle.model.specs.Conditions.{pathTo, hookRight, hookFault, incidenceFault, cycleOk, cycleFault, noted, schemeFault}
+use Rattle.base.specs.First.{first, least, when, _orElse_}
+use Rattle.model.specs.Scheme.{left, right}
+use Rattle.model.specs.Conditions.{hookFault, noted, schemeFault}
 use Rattle.model.specs.Formed.{Formed}
 use Rattle.model.specs.declared.Scheme.{Scheme}
 use Rattle.model.specs.declared.Answer.{Answer}
-use Rattle.model.specs.declared.Answer.the-variants.{Done, BadHook, BadIncidence, BadCycle}
+use Rattle.model.specs.declared.Answer.the-variants.{Done, BadHook, BadIncidence}
 use Rattle.model.proofs.AcceptedLaws as AcceptedLaws
-use Rattle.model.specs.Tables.{twiceOf}
+use Rattle.model.specs.Codes.{twiceOf}
 use Rattle.conditions.specs.Arcs.{Joins, Coded}
 use Rattle.conditions.specs.Tree.{Aimed, Lefts, Spanning, TreeOf}
 use Rattle.conditions.specs.Hook.{hookedBy, leftOut, foundOf, hookBy}
 use Rattle.conditions.specs.Incidence.{offends, arcsAnswer}
-use Rattle.conditions.specs.Cycles.{Coding, atNode, cycleAnswer}
+use Rattle.conditions.specs.Cycles.{Coding, cycleAnswer}
 use Rattle.conditions.specs.Verdict.{hookElse, faultBy, Judging, VerdictOf}
 use Rattle.conditions.specs.declared.hook.Found.{Found}
 use Rattle.conditions.specs.declared.hook.Found.the-variants.{Node, Nothing}
@@ -37,9 +33,9 @@ use Rattle.conditions.proofs.IncidenceLaws.{incidence-is}
 use Rattle.conditions.proofs.CycleIsLaws.{coding, cycle-is}
 
 -- what the tree of a scheme's left arcs is built from
-pub tree-asks : (S : Scheme) (f : Formed S) (n c : ℕ) → n ≡ S .nodes → c ≡ S .lcount → length (S .ltargets) ≡ 64
+pub tree-asks : (S : Scheme) (f : Formed S) (n c : ℕ) → n ≡ S .nodes → c ≡ S .lcount
     → (n ≤ 16) × (Joins (S .larcs) c × (Aimed (S .ltargets) (S .larcs) c × Lefts n (S .kinds) (S .larcs) c))
-tree-asks S f n c en ec long = rw (ec, en) (f .nodesFew, (joins S f left, (aimed S f left long, lefts S f)))
+tree-asks S f n c en ec = rw (ec, en) (f .nodesFew, (joins S f left, (aimed S f left, lefts S f)))
 
 -- ---- the first fault of a scheme, from its tree and tables
 
@@ -102,26 +98,24 @@ module _ (n nodes : ℕ) (orbit kinds lefts rights : List ℕ) (ltwice rtwice : 
 
 -- ---- a scheme in its parts
 
-module _ {n places nodes : ℕ} {orbit kinds lwords ltargets : List ℕ} {lcount : ℕ} {larcs lcodes rcodes : List ℕ} {ltwice rtwice : List Bool}
-    (J : Judging n places nodes orbit kinds lwords ltargets lcount larcs lcodes rcodes ltwice rtwice) where
-  left-coded : Coded (J .scheme) left lcodes
-  left-coded = coded (J .scheme) (J .formed) left lcodes (J .lcodesIs)
+module _ {n places nodes : ℕ} {orbit kinds lwords ltargets rtargets : List ℕ} {lcount : ℕ} {larcs : List ℕ} {ltwice rtwice : List Bool}
+    (J : Judging n places nodes orbit kinds lwords ltargets rtargets lcount larcs ltwice rtwice) where
+  left-coded : Coded (J .scheme) left ltargets
+  left-coded = rw (J .ltargetsIs) (coded (J .scheme) (J .formed) left)
 
-  right-coded : Coded (J .scheme) right rcodes
-  right-coded = coded (J .scheme) (J .formed) right rcodes (J .rcodesIs)
+  right-coded : Coded (J .scheme) right rtargets
+  right-coded = rw (J .rtargetsIs) (coded (J .scheme) (J .formed) right)
 
   pub judge-tree : (c l : ℕ) → c ≡ nodes → l ≡ lcount → (c ≤ 16) × (Joins larcs l × (Aimed ltargets larcs l × Lefts c kinds larcs l))
-  judge-tree c l ec el =
-      let long = rw (J .ltargetsIs) at (J .longTargets) in
-      rw (J .kindsIs, J .ltargetsIs, J .larcsIs) (tree-asks (J .scheme) (J .formed) c l (ec ∙ J .nodesIs) (el ∙ J .lcountIs) long)
+  judge-tree c l ec el = rw (J .kindsIs, J .ltargetsIs, J .larcsIs) (tree-asks (J .scheme) (J .formed) c l (ec ∙ J .nodesIs) (el ∙ J .lcountIs))
 
   module _ (p c : ℕ) (ep : p ≡ places) (ec : c ≡ nodes) where
-    pub judge-asks : ((2 ≤ n) × (n ≤ 3) × (p ≤ 4) × (c ≤ 16)) × (Coding c lcodes × Coding c rcodes)
-    judge-asks = rw (ep, ec, J .nIs, J .placesIs, J .nodesIs) (fault-asks (J .scheme) (J .formed) lcodes rcodes left-coded right-coded)
+    pub judge-asks : ((2 ≤ n) × (n ≤ 3) × (p ≤ 4) × (c ≤ 16)) × (Coding c ltargets × Coding c rtargets)
+    judge-asks = rw (ep, ec, J .nIs, J .placesIs, J .nodesIs) (fault-asks (J .scheme) (J .formed) ltargets rtargets left-coded right-coded)
 
     -- the tree and the answer that come of it
     pub judge-is : (l : ℕ) → l ≡ lcount → (t : Tree) → Spanning larcs l t → (out : Found) → out ≡ foundOf (least c (leftOut kinds (t .reached)))
-        → (r : Answer) → r ≡ faultBy n p c orbit kinds lwords out lcodes rcodes ltwice rtwice → VerdictOf (J .scheme) (record { answer = r; tree = t })
+        → (r : Answer) → r ≡ faultBy n p c orbit kinds lwords out ltargets rtargets ltwice rtwice → VerdictOf (J .scheme) (record { answer = r; tree = t })
     judge-is l el t g out eo r e =
         let span : Spanning (J .scheme .larcs) (J .scheme .lcount) t = rw (J .larcsIs, el, J .lcountIs) at g in
         let tree = tree-of (J .scheme) (J .formed) t span in
@@ -129,6 +123,6 @@ module _ {n places nodes : ℕ} {orbit kinds lwords ltargets : List ℕ} {lcount
         let left = rw (ec, J .nodesIs, J .kindsIs) at eo in
         let by = rw (ep, ec, J .nIs, J .placesIs, J .nodesIs, J .orbitIs, J .kindsIs, J .lwordsIs) at e in
         record {
-          answer = fault-is (J .scheme) (J .formed) lcodes rcodes left-coded right-coded long t tree ltwice rtwice (J .ltwiceIs) (J .rtwiceIs) out left r by;
+          answer = fault-is (J .scheme) (J .formed) ltargets rtargets left-coded right-coded long t tree ltwice rtwice (J .ltwiceIs) (J .rtwiceIs) out left r by;
           tree = tree;
         }

@@ -2,8 +2,8 @@
 -- Assumes nothing.
 use Prim.Native.Nat.{ℕ, _+_, _*_, _≤_, _<_}
 use mathlib.Core.Path.{_≡_, refl, sym, ap, ap₂, _∙_}
-use mathlib.Core.Logic.{_⊎_, inl, inr, ⊎-elim}
-use mathlib.Core.Bool.{Bool, true, false, not, cond, true≢false}
+use mathlib.Core.Logic.{_⊎_, ⊎-elim}
+use mathlib.Core.Bool.{Bool, true, false, not, true≢false}
 use mathlib.Core.Option.{Option, none, some}
 use mathlib.Core.List.{List}
 use native.Mathlib.Omega.{arith}
@@ -11,9 +11,9 @@ use lib.ListN.{length, getD}
 use lib.Dec.{eqb}
 use borrow.Author.Tests.{eqb-true, eqb-false, eq-eqb, ne-eqb}
 use Rattle.base.specs.Test.{_and_, _or_}
-use Rattle.base.specs.Below.{all, count}
+use Rattle.base.specs.Below.{all}
 use Rattle.base.specs.First.{least, there}
-use Rattle.base.proofs.BelowLaws.{all-not, all-same, count-same, count-not}
+use Rattle.base.proofs.BelowLaws.{all-not, all-same}
 use Rattle.base.proofs.FirstLaws.{least-hit, least-same, least-none}
 use Rattle.base.proofs.ListLaws.{getD-inside}
 use Rattle.base.proofs.TestLaws.{or-left, or-right, true-or-false}
@@ -136,7 +136,3 @@ module _ (S : Scheme) (f : Formed S) where
       → least (S .nodes) (λ s. has S left s and not (there (pathTo S s))) ≡ least (S .nodes) (leftOut (S .kinds) (t .reached))
   unfolding leftOut
   unreached-is t g = least-same (S .nodes) _ _ (λ s h. ap₂ (λ (a b : Bool). a and not b) (side-left s h) (sym (g .reached s h)))
-
-  -- the left nodes are those that are not added
-  pub left-count : count (S .nodes) (has S left) + count (S .nodes) (added S) ≡ S .nodes
-  left-count = ap (λ (k : ℕ). k + count (S .nodes) (added S)) (count-same (S .nodes) _ _ side-left) ∙ count-not (S .nodes) (added S)

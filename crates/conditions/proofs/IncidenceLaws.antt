@@ -1,7 +1,7 @@
 -- The test of a node's codes, and what it says of a scheme.
 -- Assumes nothing.
 use Prim.Native.Nat.{ℕ, suc, _+_, _≤_, _<_}
-use mathlib.Core.Path.{_≡_, refl, sym, ap, ap₂, _∙_, subst}
+use mathlib.Core.Path.{_≡_, refl, sym, ap, _∙_, subst}
 use mathlib.Core.Logic.{_⊎_, inl, inr, ⊎-elim}
 use mathlib.Core.Bool.{Bool, true, false, not, cond, true≢false}
 use mathlib.Core.List.{List}
@@ -18,7 +18,7 @@ use Rattle.base.proofs.FirstLaws.{least-same}
 use Rattle.base.proofs.ListLaws.{getD-list}
 use Rattle.model.specs.Scheme.{Side, left, right, kind, word, arcs, arcPart}
 use Rattle.model.specs.Conditions.{Arc, absent, explicit, implicit, touches, reads, arcAt, arcsOfDim, incidenceOk, incidenceFault}
-use Rattle.model.specs.Tables.{arcCode, twiceAt, twiceOf}
+use Rattle.model.specs.Codes.{arcCode, twiceAt, twiceOf}
 use Rattle.model.specs.Formed.{Formed}
 use Rattle.model.specs.declared.Scheme.{Scheme}
 use Rattle.model.proofs.AcceptedLaws as AcceptedLaws

@@ -1,9 +1,9 @@
 -- The list of the nodes of a kind, with one node more.
 -- Assumes nothing.
 use Prim.Native.Nat.{ℕ, _+_, _≤_, _<_}
-use mathlib.Core.Path.{_≡_, refl, sym, ap, _∙_, subst}
+use mathlib.Core.Path.{_≡_, refl, sym, ap, _∙_}
 use mathlib.Core.Logic.{⊎-elim}
-use mathlib.Core.Bool.{Bool, true, false}
+use mathlib.Core.Bool.{Bool, true}
 use mathlib.Core.Option.{Option, none, some}
 use mathlib.Core.List.{List}
 use native.Mathlib.Nat.{add-zero}
@@ -14,7 +14,7 @@ use lib.Dec.{eqb}
 use borrow.Author.Tests.{eq-eqb, ne-eqb}
 use Rattle.base.specs.Test.{_and_, bit}
 use Rattle.base.specs.Below.{count}
-use Rattle.base.specs.First.{first, least, nth, when, _orElse_}
+use Rattle.base.specs.First.{least, nth, when, _orElse_}
 use Rattle.base.proofs.BelowLaws.{below-step, count-step, count-le, count-lt}
 use Rattle.base.proofs.FirstLaws.{first-step, nth-at}
 use Rattle.base.proofs.ListLaws.{getD-replicate-all}

@@ -1,28 +1,26 @@
 -- The tree that no arc leads out of has the nodes that a path over left arcs leads to, and so tells the hook's fault.
 -- Assumes nothing.
-use Prim.Native.Nat.{ℕ, zero, suc, _+_, _*_, _≤_, _<_}
-use mathlib.Core.Path.{_≡_, refl, sym, ap, ap₂, _∙_, subst}
+use Prim.Native.Nat.{ℕ, zero, suc, _≤_, _<_}
+use mathlib.Core.Path.{_≡_, refl, sym, ap, _∙_, subst}
 use mathlib.Core.Logic.{_⊎_, inl, inr, ⊎-elim}
-use mathlib.Core.Bool.{Bool, true, false, not, true≢false}
-use mathlib.Core.Option.{Option, none, some}
-use mathlib.Core.List.{List, [], _∷_}
-use native.Mathlib.Nat.{zero-add}
+use mathlib.Core.Bool.{Bool, true, false, true≢false}
+use mathlib.Core.Option.{some}
+use mathlib.Core.List.{List}
 use native.Mathlib.Omega.{arith}
-use lib.ListN.{length, getD}
+use lib.ListN.{getD}
 use lib.Dec.{eqb, leb}
 use borrow.Author.Tests.{eqb-true, eq-eqb, leb-true, leb-false}
 use Rattle.base.specs.Test.{_and_, _or_}
-use Rattle.base.specs.First.{first, when, there, _orElse_, least}
+use Rattle.base.specs.First.{when, there}
 use Rattle.base.proofs.TestLaws.{and-left, and-right, and-of, or-cases, or-left, or-right, true-or-false}
 use Rattle.base.proofs.FirstLaws.{first-at, first-of, when-at, there-at}
 use Rattle.model.specs.Reach.{Leads, here, step}
-use Rattle.model.specs.Scheme.{Side, left, right, arcs, arcPart, kind, has}
+use Rattle.model.specs.Scheme.{left, arcs, arcPart, has}
 use Rattle.model.specs.Conditions.{leftArc, pathTo}
 use Rattle.model.specs.Formed.{Formed}
 use Rattle.model.specs.declared.Scheme.{Scheme}
 use Rattle.model.proofs.ReachLaws.{path-start, path-leads, path-found, path-none}
-use Rattle.conditions.specs.Arcs.{partOf}
-use Rattle.conditions.specs.Tree.{Ends, Branch, Spans, Even, Spanning, TreeOf}
+use Rattle.conditions.specs.Tree.{Ends, Spanning, TreeOf}
 use Rattle.conditions.specs.declared.tree.Tree.{Tree}
 use Rattle.conditions.proofs.TreeLaws.{few}
 

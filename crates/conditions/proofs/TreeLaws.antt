@@ -1,12 +1,12 @@
 -- A tree of arcs with one entry more, and the passes over the arcs.
 -- Assumes nothing.
-use Prim.Native.Nat.{ℕ, _+_, _*_, _≤_, _<_}
-use mathlib.Core.Path.{_≡_, refl, sym, ap, ap₂, _∙_, subst}
+use Prim.Native.Nat.{ℕ, _+_, _≤_, _<_}
+use mathlib.Core.Path.{_≡_, refl, sym, ap, _∙_, subst}
 use mathlib.Core.Logic.{_⊎_, inl, inr, ⊎-elim}
 use mathlib.Core.Bool.{Bool, true, false, true≢false}
-use mathlib.Core.List.{List, [], _∷_}
+use mathlib.Core.List.{List}
 use native.Mathlib.Omega.{arith}
-use lib.ListN.{length, getD, set, replicate, length-set, getD-replicate, List·getD-eq-default}
+use lib.ListN.{length, getD, set, replicate, length-set, List·getD-eq-default}
 use lib.Seq.{getD-set-same, getD-set-other}
 use lib.Dec.{eqb, leb}
 use borrow.Author.Tests.{eqb-true, eqb-false, leb-true, leb-false}
@@ -15,11 +15,11 @@ use Rattle.base.specs.First.{least}
 use Rattle.base.proofs.TestLaws.{true-or-false}
 use Rattle.base.proofs.BelowLaws.{below-step, count-more, count-le, count-some}
 use Rattle.base.proofs.ListLaws.{getD-replicate-all}
-use Rattle.conditions.specs.Arcs.{entry, partOf, Joins}
+use Rattle.conditions.specs.Arcs.{entry, partOf}
 use Rattle.conditions.specs.Hook.{leftOut, foundOf}
 use Rattle.conditions.specs.declared.hook.Found.the-variants.{Nothing}
 use Rattle.conditions.proofs.HookLaws.{none-out}
-use Rattle.conditions.specs.Tree.{Ends, ByArc, ByTarget, Branch, TreeBy, Reaching, Aimed, Lefts, Spans, Even, Joined, Grown, Closed}
+use Rattle.conditions.specs.Tree.{Ends, ByArc, ByTarget, Branch, TreeBy, Reaching, Aimed, Lefts, Spans, Joined, Grown, Closed}
 
 mark-keeps : (l : List Bool) (y z : ℕ) → y < length l → getD l z false ≡ true → getD (set l y true) z false ≡ true
 mark-keeps l y z h e = ⊎-elim

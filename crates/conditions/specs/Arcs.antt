@@ -1,4 +1,4 @@
--- The arcs of a side as a scheme holds them, and the codes of its nodes' arcs, with the entry of node s and dimension i at 4 * s + i.
+-- The arcs of a side as a scheme holds them, and its targets, the codes of its nodes' arcs, with that of node s and dimension i at 4 * s + i.
 -- Assumes nothing.
 use Prim.Native.Nat.{ℕ, _+_, _*_, _≤_, _<_}
 use mathlib.Core.Path.{_≡_}
@@ -6,7 +6,7 @@ use mathlib.Core.List.{List}
 use lib.ListN.{getD}
 use Rattle.model.specs.Scheme.{Side}
 use Rattle.model.specs.Conditions.{arcAt}
-use Rattle.model.specs.Tables.{arcCode}
+use Rattle.model.specs.Codes.{arcCode}
 use Rattle.model.specs.declared.Scheme.{Scheme}
 
 -- the entry of node s and dimension i

@@ -1,6 +1,5 @@
 pub mod Arcs
 pub mod Tree
-pub mod Sides
 pub mod Hook
 pub mod Cycles
 pub mod Incidence

@@ -9,7 +9,7 @@ use lib.ListN.{length}
 use Rattle.model.specs.Scheme.{left, right}
 use Rattle.model.specs.Formed.{Formed}
 use Rattle.model.specs.Conditions.{schemeFault}
-use Rattle.model.specs.Tables.{codesOf, twiceOf}
+use Rattle.model.specs.Codes.{twiceOf}
 use Rattle.model.specs.declared.Scheme.{Scheme}
 use Rattle.model.specs.declared.Answer.{Answer}
 use Rattle.model.specs.declared.Answer.the-variants.{Done, BadHook}
@@ -30,8 +30,8 @@ unfoldable pub faultBy : ℕ → ℕ → ℕ → List ℕ → List ℕ → List 
 faultBy n places nodes orbit kinds words out lefts rights leftTwice rightTwice =
     hookElse (hookBy places orbit kinds words out) (arcsAnswer n nodes orbit kinds lefts rights leftTwice rightTwice)
 
--- the numbers and lists are parts of a scheme in the form, and what goes with it
-pub record Judging (n places nodes : ℕ) (orbit kinds lwords ltargets : List ℕ) (lcount : ℕ) (larcs lcodes rcodes : List ℕ) (ltwice rtwice : List Bool) : Type 0 where
+-- the numbers and lists are parts of a scheme in the form, and its nodes with two arcs of a dimension
+pub record Judging (n places nodes : ℕ) (orbit kinds lwords ltargets rtargets : List ℕ) (lcount : ℕ) (larcs : List ℕ) (ltwice rtwice : List Bool) : Type 0 where
   pub scheme : Scheme
   pub formed : Formed scheme
   pub nIs : n ≡ scheme .n
@@ -41,14 +41,12 @@ pub record Judging (n places nodes : ℕ) (orbit kinds lwords ltargets : List �
   pub kindsIs : kinds ≡ scheme .kinds
   pub lwordsIs : lwords ≡ scheme .lwords
   pub ltargetsIs : ltargets ≡ scheme .ltargets
+  pub rtargetsIs : rtargets ≡ scheme .rtargets
   pub lcountIs : lcount ≡ scheme .lcount
   pub larcsIs : larcs ≡ scheme .larcs
-  pub lcodesIs : lcodes ≡ codesOf scheme left
-  pub rcodesIs : rcodes ≡ codesOf scheme right
   pub ltwiceIs : ltwice ≡ twiceOf scheme left
   pub rtwiceIs : rtwice ≡ twiceOf scheme right
   pub longWords : length lwords ≡ 64
-  pub longTargets : length ltargets ≡ 64
 
 pub record VerdictOf (S : Scheme) (v : Verdict) : Type 0 where
   pub answer : v .answer ≡ Option·getD (schemeFault S) Done

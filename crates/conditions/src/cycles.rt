@@ -4,7 +4,7 @@ use model::Answer;
 ghost use mathlib.Core.Path.{_≡_};
 ghost use Prim.Native.Nat.{ℕ, _<_, _≤_};
 ghost use Rattle.conditions.specs.Arcs.{entry};
-ghost use Rattle.conditions.specs.Cycles.{farApart, goesRound, fromNode, fromPlace, cycleBy, pairBy, pairCount, Coding, cycleAnswer};
+ghost use Rattle.conditions.specs.Cycles.{farApart, fromNode, fromPlace, cycleBy, pairBy, pairCount, Coding, cycleAnswer};
 
 // The dimension pairs i, j with i + 2 ≤ j, one after the other, in the order in which they are tried.
 const PAIRS: [usize; 6] = [0, 2, 0, 3, 1, 3];

@@ -1,6 +1,6 @@
 // Hook: node 0 and the nodes that are reached from it.
 ghost use mathlib.Core.Path.{_≡_};
-ghost use Prim.Native.Nat.{ℕ, _<_, _≤_};
+ghost use Prim.Native.Nat.{_<_, _≤_};
 ghost use Rattle.base.specs.First.{least};
 ghost use Rattle.conditions.specs.Hook.{hookedBy, leftOut, foundOf};
 

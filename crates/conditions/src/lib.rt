@@ -4,7 +4,6 @@ pub mod cycles;
 pub mod hook;
 pub mod incidence;
 pub mod nodes;
-pub mod sides;
 pub mod tree;
 
 use arcs::wide;
@@ -61,7 +60,7 @@ fn arcs_fault<'a>(
     cycle_fault(n, nodes, orbit, kinds, lefts, rights)
 }
 
-// The first fault, from the left node that the tree leaves out, if any, and the tables of both sides.
+// The first fault, from the left node that the tree leaves out, if any, and the targets of both sides.
 fn fault<'a>(
     n: u8,
     places: usize,
@@ -92,7 +91,7 @@ pub struct Verdict {
     pub tree: Tree,
 }
 
-// Judges a scheme, which is lent in its parts, since it is long to copy, with the tables that go with it.
+// Judges a scheme, which is lent in its parts, since it is long to copy, with its nodes that have two arcs of a dimension.
 pub fn judge<'a>(
     n: u8,
     places: u8,
@@ -101,15 +100,14 @@ pub fn judge<'a>(
     kinds: &'a [u8; 16],
     lwords: &'a [u8; 64],
     ltargets: &'a [u8; 64],
+    rtargets: &'a [u8; 64],
     lcount: u8,
     larcs: &'a [u8; 192],
-    lcodes: &'a [u8; 64],
-    rcodes: &'a [u8; 64],
     ltwice: &'a [bool; 16],
     rtwice: &'a [bool; 16],
 ) -> Verdict
-    requires { ⌜ Judging n places nodes (now orbit) (now kinds) (now lwords) (now ltargets) lcount (now larcs) (now lcodes) (now rcodes) (now ltwice) (now rtwice) ⌝ }
-    ensures { λ r. ⌜ ((J : Judging n places nodes (now (orbit .entry)) (now (kinds .entry)) (now (lwords .entry)) (now (ltargets .entry)) lcount (now (larcs .entry)) (now (lcodes .entry)) (now (rcodes .entry)) (now (ltwice .entry)) (now (rtwice .entry))) → VerdictOf (J .scheme) r) ⌝ }
+    requires { ⌜ Judging n places nodes (now orbit) (now kinds) (now lwords) (now ltargets) (now rtargets) lcount (now larcs) (now ltwice) (now rtwice) ⌝ }
+    ensures { λ r. ⌜ ((J : Judging n places nodes (now (orbit .entry)) (now (kinds .entry)) (now (lwords .entry)) (now (ltargets .entry)) (now (rtargets .entry)) lcount (now (larcs .entry)) (now (ltwice .entry)) (now (rtwice .entry))) → VerdictOf (J .scheme) r) ⌝ }
 {
     let c = wide(nodes);
     let reach = reach_of(c, kinds, ltargets, wide(lcount), larcs);
@@ -122,8 +120,8 @@ pub fn judge<'a>(
         kinds,
         lwords,
         out,
-        lcodes,
-        rcodes,
+        ltargets,
+        rtargets,
         ltwice,
         rtwice,
     );

@@ -6,7 +6,7 @@ use crate::hook::unreached;
 ghost use mathlib.Core.Path.{_≡_};
 ghost use Prim.Native.Nat.{_+_, _<_, _≤_};
 ghost use mathlib.Core.Bool.{true, false};
-ghost use lib.ListN.{getD, set};
+ghost use lib.ListN.{set};
 ghost use Rattle.base.specs.First.{least};
 ghost use Rattle.conditions.specs.Arcs.{Joins};
 ghost use Rattle.conditions.specs.Tree.{ByTarget, TreeBy, Reaching, Aimed, Lefts, Spans, Joined, Grown, Closed, Spanning};

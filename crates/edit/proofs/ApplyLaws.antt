@@ -13,7 +13,7 @@ use Rattle.base.specs.Below.{count}
 use Rattle.base.proofs.BelowLaws.{count-le}
 use Rattle.base.specs.First.{when, _orElse_, there, nth}
 use Rattle.model.specs.Map.{view, words, unused}
-use Rattle.model.specs.Scheme.{orbitDim, added}
+use Rattle.model.specs.Scheme.{left, right, orbitDim, added}
 use Rattle.model.specs.Match.{image, matches, Assignment}
 use Rattle.model.specs.Edit.{orbitSize, addedDarts, deletedDarts, edited}
 use Rattle.model.specs.Calls.{roomFault}
@@ -23,8 +23,9 @@ use Rattle.model.proofs.AcceptedLaws.{small}
 use Rattle.model.proofs.MatchLaws.{match-assigns}
 use Rattle.model.proofs.MatchIff.{good-orbit}
 use Rattle.conditions.specs.Nodes.{isKind, Listed}
-use Rattle.conditions.specs.Sides.{SidesOf}
-use Rattle.conditions.specs.declared.sides.Sides.{Sides}
+use Rattle.conditions.specs.Tree.{TreeOf}
+use Rattle.conditions.specs.declared.tree.Tree.{Tree}
+use Rattle.conditions.proofs.CodeLaws.{coded}
 use Rattle.edit.specs.Store.{Taken, Walked}
 use Rattle.edit.specs.Walk as W
 use Rattle.edit.specs.Columns as C
@@ -76,10 +77,10 @@ walking slots t store S size d k A e w o = record {
   taken = o;
 }
 
--- the match can be looked for, with the scheme's sides; what fits goes on to its end
-module _ {slots : ℕ} {t store : List ℕ} {S : Scheme} {size d : ℕ} (w : Walking slots t store S size d) {p : Sides} (P : SidesOf S p) where
+-- the match can be looked for, along the tree of the scheme's left arcs; what fits goes on to its end
+module _ {slots : ℕ} {t store : List ℕ} {S : Scheme} {size d : ℕ} (w : Walking slots t store S size d) {p : Tree} (P : TreeOf S p) where
   abbrev pub match-ready : (cols : List ℕ) → length cols ≡ 16
-      → C.Posed slots t store size (p .tree .node) (p .tree .parent) (p .tree .dim) (p .tree .size) (p .lcodes) cols
+      → C.Posed slots t store size (p .node) (p .parent) (p .dim) (p .size) (S .ltargets) cols
   match-ready cols wide = record {
     ready = record {
       scheme = S;
@@ -91,15 +92,15 @@ module _ {slots : ℕ} {t store : List ℕ} {S : Scheme} {size d : ℕ} (w : Wal
       alive = w .at .alive;
       walked = w .walked;
       taken = w .taken;
-      rooted = rooted S (w .at .accepted) (p .tree) (P .tree);
+      rooted = rooted S (w .at .accepted) p P;
     };
-    coded = P .lefts;
+    coded = coded S (w .at .accepted .formed) left;
     colsLong = wide;
   }
 
   abbrev pub settle-ready : (store′ cols′ : List ℕ) (answer : Bool) → C.Matched S d slots t store store′ cols′ size answer → answer ≡ true
       → (c : ℕ) → c ≡ S .nodes → (room : ℕ) → room ≡ count slots (unused (view slots t))
-      → Settling slots t store′ c (S .kinds) (p .rcodes) size room d cols′
+      → Settling slots t store′ c (S .kinds) (S .rtargets) size room d cols′
   settle-ready store′ cols′ answer m e c n room free = record {
     scheme = S;
     fitting = record {
@@ -112,7 +113,7 @@ module _ {slots : ℕ} {t store : List ℕ} {S : Scheme} {size d : ℕ} (w : Wal
     };
     nodes = n;
     kinded = refl;
-    coded = P .rights;
+    coded = coded S (w .at .accepted .formed) right;
     free = free;
   }
 

@@ -7,14 +7,12 @@ use mathlib.Core.Logic.{_⊎_, inl, inr}
 use mathlib.Core.Bool.{Bool, true, false, not}
 use mathlib.Core.List.{List}
 use native.Mathlib.Omega.{arith}
-use lib.ListN.{length, getD}
+use lib.ListN.{getD}
 use lib.Dec.{eqb}
 use borrow.Author.Tests.{eq-eqb, ne-eqb, lt-ltb, le-ltb}
 use Rattle.base.specs.Test.{_and_, _or_}
-use Rattle.base.specs.Below.{all}
 use Rattle.base.proofs.TestLaws.{and-of, or-left, or-right}
 use Rattle.base.proofs.BelowLaws.{all-none, all-more, all-stops, all-ends}
-use Rattle.base.proofs.ListLaws.{getD-inside}
 use Rattle.model.specs.Map.{Map}
 use Rattle.edit.specs.Store.{next, dartAt}
 use Rattle.edit.specs.Columns.{Slots, Testable, Turns, Firm, follows, explicitTest, implicitTest, codeTest, arcTest, arcsTest}

@@ -13,7 +13,6 @@ use lib.Dec.{leb}
 use borrow.Author.Tests.{eqb-true, eq-eqb, lt-ltb, ltb-true, le-leb, leb-true, leb-false}
 use Rattle.base.proofs.TestLaws.{and-left, and-right, and-of, true-or-false}
 use Rattle.base.proofs.FirstLaws.{some-not-none}
-use Rattle.base.proofs.ListLaws.{getD-inside}
 use Rattle.model.specs.Map.{Map, view, tableSize, words}
 use Rattle.model.specs.Scheme.{left, right, orbitDim, has, deleted, added}
 use Rattle.model.specs.Conditions.{Arc, absent, explicit, implicit, arcAt}
@@ -28,7 +27,7 @@ use Rattle.model.proofs.EditLaws as E
 use Rattle.table.specs.Words.{wordAt}
 use Rattle.table.proofs.WordLaws.{word-state, word-link, word-tag}
 use Rattle.edit.specs.Store.{mark, place, next, among}
-use Rattle.model.specs.Tables.{arcCode}
+use Rattle.model.specs.Codes.{arcCode}
 use Rattle.edit.specs.Links.{orbitFor, relinked, cleared, Turns, Legible, Columns, Codes, Ready, editedBy}
 use Rattle.edit.proofs.WriteLaws.{pairDart, Different, relinked-long, relinked-leaves, relinked-node, relinked-position, relinked-none, cleared-long, cleared-leaves, cleared-sets}
 

@@ -26,7 +26,7 @@ use Rattle.model.proofs.AcceptedLaws.{small}
 use Rattle.model.proofs.ArcLaws.{explicit-at, explicit-end, implicit-at, implicit-from, far-from, far-to, touches-from, touches-to}
 use Rattle.model.proofs.MatchLaws.{assigns-match}
 use Rattle.edit.specs.Store.{mark, place, next, dartAt}
-use Rattle.model.specs.Tables.{arcCode}
+use Rattle.model.specs.Codes.{arcCode}
 use Rattle.conditions.specs.Arcs.{Coded}
 use Rattle.edit.specs.Phases.{Assigned}
 use Rattle.edit.specs.Columns.{Ready, matchesAt, Turns, Grown, follows, explicitTest, implicitTest, codeTest, arcTest, arcsTest, Firm, Matched}

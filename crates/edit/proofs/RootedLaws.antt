@@ -2,7 +2,7 @@
 -- Assumes nothing.
 use Prim.Native.Nat.{ℕ, _≤_, _<_}
 use mathlib.Core.Path.{_≡_, sym, ap, ap₂, _∙_, subst}
-use mathlib.Core.Logic.{inl, inr, ⊎-elim, by-cases}
+use mathlib.Core.Logic.{inl, inr, by-cases}
 use mathlib.Core.Bool.{true}
 use native.Mathlib.Decide.{ℕ-discrete}
 use native.Mathlib.Omega.{arith}
@@ -13,7 +13,7 @@ use Rattle.model.specs.Accepted.{Accepted}
 use Rattle.model.specs.declared.Scheme.{Scheme}
 use Rattle.model.proofs.ArcLaws.{explicit-at, far-from, far-to, touches-from, touches-to}
 use Rattle.model.proofs.HookLaws.{reached-found}
-use Rattle.conditions.specs.Tree.{Ends, Branch, TreeOf}
+use Rattle.conditions.specs.Tree.{Ends, TreeOf}
 use Rattle.conditions.specs.declared.tree.Tree.{Tree}
 use Rattle.edit.specs.Phases.{Rooted}
 

@@ -6,7 +6,7 @@ mod slots;
 mod store;
 
 use conditions::nodes::of_kind;
-use conditions::sides::Sides;
+use conditions::tree::Tree;
 use model::Answer;
 use model::Scheme;
 ghost use mathlib.Core.Path.{_≡_};
@@ -14,7 +14,7 @@ ghost use Prim.Native.Nat.{_*_};
 ghost use lib.ListN.{length};
 ghost use Rattle.base.specs.Below.{count};
 ghost use Rattle.model.specs.Map.{view, unused};
-ghost use Rattle.conditions.specs.Sides.{SidesOf};
+ghost use Rattle.conditions.specs.Tree.{TreeOf};
 ghost use Rattle.edit.specs.Apply.{At, Settling, Applied};
 
 pub(crate) fn wide(x: u8) -> usize
@@ -24,13 +24,13 @@ pub(crate) fn wide(x: u8) -> usize
 }
 
 // The new darts and the new links of a match, where `room` slots are enough.
-fn settle(
+fn settle<'a>(
     slots: usize,
     table: &mut [u32],
     store: &mut [u32],
     c: usize,
-    kinds: &[u8; 16],
-    codes: &[u8; 64],
+    kinds: &'a [u8; 16],
+    codes: &'a [u8; 64],
     size: usize,
     room: usize,
     d: usize,
@@ -55,18 +55,18 @@ fn settle(
     }
 }
 
-// Applies s, whose sides are p, at the dart d of a table with `room` unused slots.
+// Applies s, whose left arcs have the tree t, at the dart d of a table with `room` unused slots.
 pub fn apply(
     slots: usize,
     table: &mut [u32],
     store: &mut [u32],
     s: Scheme,
-    p: Sides,
+    t: Tree,
     room: usize,
     d: usize,
 ) -> Answer
     requires { ⌜ At slots (now table) s d ⌝ }
-    requires { ⌜ SidesOf s p ⌝ }
+    requires { ⌜ TreeOf s t ⌝ }
     requires { ⌜ room ≡ count slots (unused (view slots (now table))) ⌝ }
     requires { ⌜ length (now store) ≡ 16 * slots ⌝ }
     ensures { λ r. ⌜ Applied slots (now (table .entry)) s d r (now (table .exit)) ⌝ }
@@ -80,11 +80,11 @@ pub fn apply(
         table,
         store,
         size,
-        &p.tree.node,
-        &p.tree.parent,
-        &p.tree.dim,
-        p.tree.size,
-        &p.lcodes,
+        &t.node,
+        &t.parent,
+        &t.dim,
+        t.size,
+        &s.ltargets,
         &mut cols,
     ) {
         return Answer::NoMatch;
@@ -96,7 +96,7 @@ pub fn apply(
         store,
         c,
         &s.kinds,
-        &p.rcodes,
+        &s.rtargets,
         size,
         room,
         d,

@@ -2,14 +2,14 @@
 -- Assumes nothing.
 use Prim.Native.Nat.{ℕ, zero, suc, _≤_, _<_}
 use mathlib.Core.Path.{_≡_, refl, sym, ap, _∙_, subst}
-use mathlib.Core.Logic.{_↔_, _⊎_, ⊎-elim, inl, inr}
+use mathlib.Core.Logic.{_⊎_, ⊎-elim, inl, inr}
 use mathlib.Core.Bool.{Bool, true, false, not, cond}
 use mathlib.Core.Option.{Option, none, some, Option·getD}
 use mathlib.Core.List.{List, [], _∷_}
 use native.Mathlib.Omega.{arith}
 use lib.ListN.{length, getD, take, replicate}
 use lib.Dec.{ltb}
-use borrow.Author.Tests.{eqb-true, eqb-false, eq-eqb, ne-eqb, ltb-false, le-ltb, leb-true}
+use borrow.Author.Tests.{eqb-true, eqb-false, eq-eqb, ne-eqb, le-ltb, leb-true}
 use Rattle.base.specs.First.{when, there, _orElse_}
 use Rattle.base.proofs.TestLaws.{true-or-false, and-left, and-right, or-cases}
 use Rattle.base.proofs.FirstLaws.{or-else-none, when-none, when-at, some-not-none}
@@ -18,14 +18,13 @@ use Rattle.model.specs.Alike.{Alike}
 use Rattle.model.specs.File.{file, fileForm, fileMap}
 use Rattle.model.specs.WellFormed.{WellFormed, wellFormed}
 use Rattle.model.specs.Scheme.{inForm, schemeOf}
-use Rattle.model.specs.Conditions.{hookFault, incidenceFault, cycleFault, schemeFault, noted}
+use Rattle.model.specs.Conditions.{hookFault, incidenceFault, schemeFault, noted}
 use Rattle.model.specs.Accepted.{Accepted}
 use Rattle.model.specs.Edit.{orbitSize, addedDarts, deletedDarts, dartOf, edited}
 use Rattle.model.specs.Answer.{number, values}
 use Rattle.model.specs.Rewriting.{Rewriting}
-use Rattle.model.specs.Calls.{sizesOk, orbitOf, tableFault, checkTable, bytesFault, checkScheme, roomFault, editFault, editAnswer, readFault, readAnswer, readTable, writeFault, writeAnswer, writeOut}
+use Rattle.model.specs.Calls.{sizesOk, orbitOf, tableFault, checkTable, bytesFault, checkScheme, roomFault, editFault, editAnswer, readFault, readAnswer, readTable, writeFault, writeAnswer}
 use Rattle.model.specs.Sequence.{Holds, AlikeTables, outcomeOf, writtenFile}
-use Rattle.model.specs.declared.Scheme.{Scheme}
 use Rattle.model.specs.declared.Answer.{Answer}
 use Rattle.model.specs.declared.Answer.the-variants.{Done, Edited, Written, BadHook, BadIncidence}
 use Rattle.model.proofs.AnswerLaws.{answers-same}
@@ -41,7 +40,7 @@ use Rattle.model.proofs.FileLaws.{same-file}
 use Rattle.model.proofs.AlikeLaws.{alike-sym, alike-trans, words-alike, well-alike}
 use Rattle.file.proofs.RoundTrip.{written-form, read-back, written-back}
 use Rattle.model.proofs.SequenceLaws.{alike-throughout}
-use Rattle.kernel.specs.Promises.{TableChecked, SchemeChecked, MapEdited, FileRead, FileWritten}
+use Rattle.kernel.specs.Promises.{MapEdited, FileRead, FileWritten}
 use Rattle.kernel.specs.Demands.{Demand1, EditDone, Demand2, Demand3}
 use Rattle.kernel.proofs.RefusalLaws.{table-order, scheme-order, edit-order, read-order, write-order, refused-keeps, after-one, after-others, cycle-number, cond-true, cond-false}
 

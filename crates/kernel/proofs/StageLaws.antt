@@ -1,32 +1,31 @@
 -- The stages of an edit, refusal by refusal.
 -- Assumes nothing.
-use Prim.Native.Nat.{ℕ, suc, _+_, _*_, _-_, _≤_, _<_}
-use mathlib.Core.Path.{_≡_, refl, sym, ap, ap₂, _∙_, subst}
+use Prim.Native.Nat.{ℕ, suc, _*_, _-_, _≤_, _<_}
+use mathlib.Core.Path.{_≡_, refl, sym, ap, _∙_, subst}
 use mathlib.Core.Logic.{_⊎_, ⊎-elim}
-use mathlib.Core.Bool.{Bool, true, false, not, cond, true≢false}
+use mathlib.Core.Bool.{Bool, true, false, not}
 use mathlib.Core.Option.{Option, none, some, Option·getD}
 use mathlib.Core.List.{List, [], _∷_}
 use native.Mathlib.Omega.{arith}
 use types.Run.{OneOf}
 use lib.ListN.{length}
-use lib.Dec.{eqb, ltb}
+use lib.Dec.{eqb}
 use borrow.Author.Tests.{eq-eqb, ne-eqb, lt-ltb, le-ltb, not-true, not-false}
 use Rattle.base.specs.Test.{_and_}
 use Rattle.base.specs.Below.{count}
 use Rattle.base.specs.First.{when, _orElse_, there}
-use Rattle.base.proofs.TestLaws.{true-or-false, and-of, and-no-left, and-no-right}
+use Rattle.base.proofs.TestLaws.{and-of, and-no-left, and-no-right}
 use Rattle.base.proofs.BelowLaws.{count-same, count-not}
 use Rattle.base.proofs.ListLaws.{length-list}
 use Rattle.base.proofs.FirstLaws.{some-not-none, when-at, when-none, or-else-cases, or-else-none}
 use Rattle.model.specs.Answer.{number}
-use Rattle.model.specs.Map.{Map, view, live, unused}
-use Rattle.model.specs.WellFormed.{WellFormed, wellFormed}
-use Rattle.model.specs.Scheme.{left, right, inForm, wordsOf, targetsOf, schemeOf, orbitDim}
-use Rattle.model.specs.Formed.{Formed}
-use Rattle.model.specs.Tables.{codesOf, twiceOf}
-use Rattle.model.specs.Conditions.{hookFault, incidenceFault, cycleFault, schemeFault, noted}
+use Rattle.model.specs.Map.{view, live, unused}
+use Rattle.model.specs.WellFormed.{wellFormed}
+use Rattle.model.specs.Scheme.{left, right, inForm, wordsOf, schemeOf}
+use Rattle.model.specs.Codes.{twiceOf}
+use Rattle.model.specs.Conditions.{hookFault, incidenceFault, schemeFault, noted}
 use Rattle.model.specs.Accepted.{Accepted}
-use Rattle.model.specs.Calls.{zeros, sizesOk, bytesFault, roomFault, orbitOf, editFault, editAnswer, editTable, editStore}
+use Rattle.model.specs.Calls.{zeros, sizesOk, bytesFault, orbitOf, editFault, editAnswer, editTable, editStore}
 use Rattle.model.specs.declared.Scheme.{Scheme}
 use Rattle.model.specs.declared.Answer.{Answer}
 use Rattle.model.specs.declared.Answer.the-variants.{Done, BadCall, BadForm, BadHook, BadIncidence, OtherDimension, BadTable, NoDart}
@@ -36,15 +35,11 @@ use Rattle.model.proofs.SchemeLaws.{formed}
 use Rattle.model.proofs.AcceptedLaws.{accepted}
 use Rattle.scheme.specs.Reading.{reading}
 use Rattle.scheme.specs.declared.Reading.{Reading}
-use Rattle.conditions.specs.Tree.{TreeOf}
-use Rattle.conditions.specs.Sides.{SidesOf}
 use Rattle.conditions.specs.Verdict.{Judging}
-use Rattle.conditions.specs.declared.tree.Tree.{Tree}
-use Rattle.conditions.proofs.CodeLaws.{coded}
 use Rattle.edit.specs.Apply.{At, Applied, rewritten}
 use Rattle.table.specs.Words.{Sized}
 use Rattle.kernel.specs.Promises.{MapEdited}
-use Rattle.kernel.specs.Stages.{dartFault, dartDone, dartTable, Settled, AppliedAt, Staged}
+use Rattle.kernel.specs.Stages.{dartFault, dartDone, dartTable, AppliedAt, Staged}
 use Rattle.kernel.proofs.RefusalLaws.{cycle-number}
 
 -- ---- the scheme's bytes
@@ -69,18 +64,6 @@ module _ (b : List ℕ) (r : Reading) (e : r ≡ reading b) where
     unfolding schemeOf wordsOf
     long-words = rw read-scheme (length-list 64 _)
 
-    pub long-targets : length (r .scheme .ltargets) ≡ 64
-    unfolding schemeOf targetsOf
-    long-targets = rw read-scheme (length-list 64 _)
-
-    pub left-noted : r .lcodes ≡ codesOf (r .scheme) left
-    unfolding reading
-    left-noted = rw e refl
-
-    pub right-noted : r .rcodes ≡ codesOf (r .scheme) right
-    unfolding reading
-    right-noted = rw e refl
-
     pub left-twice : r .ltwice ≡ twiceOf (r .scheme) left
     unfolding reading
     left-twice = rw e refl
@@ -91,7 +74,7 @@ module _ (b : List ℕ) (r : Reading) (e : r ≡ reading b) where
 
     -- what the conditions ask of a scheme that was read
     abbrev pub judge-asks : Judging (r .scheme .n) (r .scheme .places) (r .scheme .nodes) (r .scheme .orbit) (r .scheme .kinds) (r .scheme .lwords) (r .scheme .ltargets)
-        (r .scheme .lcount) (r .scheme .larcs) (r .lcodes) (r .rcodes) (r .ltwice) (r .rtwice)
+        (r .scheme .rtargets) (r .scheme .lcount) (r .scheme .larcs) (r .ltwice) (r .rtwice)
     judge-asks = record {
       scheme = r .scheme;
       formed = rw read-scheme (formed b q);
@@ -102,21 +85,13 @@ module _ (b : List ℕ) (r : Reading) (e : r ≡ reading b) where
       kindsIs = refl;
       lwordsIs = refl;
       ltargetsIs = refl;
+      rtargetsIs = refl;
       lcountIs = refl;
       larcsIs = refl;
-      lcodesIs = left-noted;
-      rcodesIs = right-noted;
       ltwiceIs = left-twice;
       rtwiceIs = right-twice;
       longWords = long-words;
-      longTargets = long-targets;
     }
-
-    -- what an edit asks of its sides
-    pub read-sides : (t : Tree) → TreeOf (r .scheme) t → SidesOf (r .scheme) (record { tree = t; lcodes = r .lcodes; rcodes = r .rcodes })
-    read-sides t g =
-        let f : Formed (r .scheme) = rw read-scheme (formed b q) in
-        record { tree = g; lefts = coded (r .scheme) f left (r .lcodes) left-noted; rights = coded (r .scheme) f right (r .rcodes) right-noted }
 
 -- refusals 2 to 5, or done
 unfoldable pub judged : List ℕ → Answer

@@ -14,7 +14,7 @@ use Rattle.model.specs.Edit.{orbitSize, addedDarts, deletedDarts}
 use Rattle.model.specs.Rewriting.{Rewriting}
 use Rattle.model.specs.Answer.{number, values}
 use Rattle.model.specs.Calls.{orbitOf}
-use Rattle.model.specs.Sequence.{Request, tableCheck, schemeCheck, edit, read, write, Outcome, outcomeOf, Holds, AlikeTables, AlikeThroughout}
+use Rattle.model.specs.Sequence.{tableCheck, schemeCheck, edit, read, write, outcomeOf, Holds, AlikeTables, AlikeThroughout}
 use Rattle.model.specs.declared.Answer.{Answer}
 use Rattle.kernel.specs.Promises.{TableChecked, SchemeChecked, MapEdited, FileRead, FileWritten}
 use Rattle.kernel.specs.Refusals.{firstRefusal, tableRefusals, schemeRefusals, editRefusals, readRefusals, writeRefusals}

@@ -1,5 +1,5 @@
 // The stages of an edit behind the test of its sizes: refusals 2 to 5, then 6 to 8, then the edit at the dart.
-use conditions::sides::Sides;
+use conditions::tree::Tree;
 use model::Answer;
 use model::Scheme;
 use table::Finding;
@@ -10,7 +10,7 @@ ghost use Prim.Native.Nat.{_*_};
 ghost use lib.ListN.{length};
 ghost use Rattle.model.specs.Accepted.{Accepted};
 ghost use Rattle.table.specs.Words.{Sized};
-ghost use Rattle.conditions.specs.Sides.{SidesOf};
+ghost use Rattle.conditions.specs.Tree.{TreeOf};
 ghost use Rattle.kernel.specs.Stages.{AppliedAt, Staged};
 
 fn wide(x: u8) -> u32
@@ -26,12 +26,12 @@ fn apply_at(
     table: &mut [u32],
     store: &mut [u32],
     s: Scheme,
-    p: Sides,
+    t: Tree,
     dart: usize,
 ) -> Answer
     requires { ⌜ (n ≡ 2) ⊎ (n ≡ 3) ⌝ }
     requires { ⌜ Accepted s ⌝ }
-    requires { ⌜ SidesOf s p ⌝ }
+    requires { ⌜ TreeOf s t ⌝ }
     requires { ⌜ Sized slots (now table) ⌝ }
     requires { ⌜ length (now store) ≡ 16 * slots ⌝ }
     ensures { λ r. ⌜ AppliedAt n slots (now (table .entry)) s dart r (now (table .exit)) ⌝ }
@@ -49,7 +49,7 @@ fn apply_at(
     if state(slots, table, dart) != 1 {
         return Answer::NoDart;
     }
-    edit::apply(slots, table, store, s, p, slots - live, dart)
+    edit::apply(slots, table, store, s, t, slots - live, dart)
 }
 
 // Refusals 2 to 10, and the edit.
@@ -78,25 +78,17 @@ pub(crate) fn staged(
         &r.scheme.kinds,
         &r.scheme.lwords,
         &r.scheme.ltargets,
+        &r.scheme.rtargets,
         r.scheme.lcount,
         &r.scheme.larcs,
-        &r.lcodes,
-        &r.rcodes,
         &r.ltwice,
         &r.rtwice,
     );
     let answer = v.answer;
     let s = r.scheme;
     let tree = v.tree;
-    let lcodes = r.lcodes;
-    let rcodes = r.rcodes;
-    let p = Sides {
-        tree: tree,
-        lcodes: lcodes,
-        rcodes: rcodes,
-    };
     match answer {
-        Answer::Done => apply_at(n, slots, table, store, s, p, dart),
+        Answer::Done => apply_at(n, slots, table, store, s, tree, dart),
         _ => answer,
     }
 }

@@ -10,8 +10,8 @@ use lib.Dec.{eqb}
 use borrow.Author.Tests.{eqb-true, eq-eqb}
 use Rattle.base.specs.Below.{count}
 use Rattle.base.specs.First.{first, least, when, there}
-use Rattle.model.specs.Scheme.{Side, left, right, farEnd, orbitDim, word, arcs, arcPart, has, deleted, preserved, added}
-use Rattle.model.specs.Conditions.{Arc, absent, explicit, implicit, arcOf, arcAt, arcsOfDim, touches, far, reads, pathTo, cycleOk}
+use Rattle.model.specs.Scheme.{Side, farEnd, word, arcs, arcPart, has}
+use Rattle.model.specs.Conditions.{Arc, absent, explicit, implicit, arcOf, arcAt, arcsOfDim, touches, far, reads}
 use Rattle.model.specs.Accepted.{SingleSide}
 use Rattle.model.specs.declared.Scheme.{Scheme}
 use Rattle.base.proofs.TestLaws.{and-left, and-right, and-of, or-cases, or-left, or-right, true-or-false}

@@ -1,21 +1,20 @@
 -- A path over left arcs is found from node 0 to just those nodes that are reached.
 -- Assumes nothing.
 use Prim.Native.Nat.{ℕ, _<_}
-use mathlib.Core.Path.{_≡_, refl, sym, ap, _∙_, subst}
+use mathlib.Core.Path.{_≡_, refl, sym, subst}
 use mathlib.Core.Logic.{_⊎_, inl, inr, ⊎-elim}
 use mathlib.Core.Bool.{true}
-use mathlib.Core.Option.{Option, none, some}
+use mathlib.Core.Option.{some}
 use mathlib.Core.List.{List, [], _∷_, _++_}
-use lib.ListN.{getD}
 use lib.Dec.{eqb}
 use borrow.Author.Tests.{eqb-true, eq-eqb}
 use Rattle.base.specs.Test.{_and_, _or_}
 use Rattle.base.specs.First.{when, there}
 use Rattle.base.proofs.TestLaws.{and-left, and-right, and-of, or-cases, or-left, or-right}
 use Rattle.base.proofs.FirstLaws.{when-at, there-at, first-at, first-of}
-use Rattle.model.specs.Scheme.{left, arcs, arcPart, has}
+use Rattle.model.specs.Scheme.{left, arcs, arcPart}
 use Rattle.model.specs.Formed.{Formed}
-use Rattle.model.specs.Reach.{paths, Leads, here, step}
+use Rattle.model.specs.Reach.{Leads, here, step}
 use Rattle.model.specs.Conditions.{leftArc, pathTo, Joins, Reached, atHook, overArc}
 use Rattle.model.specs.declared.Scheme.{Scheme}
 use Rattle.model.proofs.ReachLaws.{path-leads, path-found}

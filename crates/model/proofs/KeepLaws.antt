@@ -3,7 +3,7 @@
 use Prim.Native.Nat.{ℕ, _+_, _≤_, _<_}
 use mathlib.Core.Path.{_≡_, refl, sym, ap, _∙_, subst}
 use mathlib.Core.Logic.{_⊎_, inl, inr, ⊎-elim}
-use mathlib.Core.Bool.{Bool, true, false, cond, true≢false}
+use mathlib.Core.Bool.{Bool, true, false, true≢false}
 use mathlib.Core.Option.{Option, none, some}
 use native.Mathlib.Omega.{arith}
 use lib.Dec.{eqb}
@@ -13,15 +13,15 @@ use Rattle.base.specs.Below.{count}
 use Rattle.model.specs.Map.{Map, unused}
 use Rattle.model.specs.WellFormed.{WellFormed}
 use Rattle.model.specs.Scheme.{left, right, kind, orbitDim, has, deleted, preserved, added}
-use Rattle.model.specs.Conditions.{Arc, absent, explicit, implicit, arcAt, onCycle, cycleOk, Cycle, four, oneI, oneJ, apart, sameArc}
+use Rattle.model.specs.Conditions.{Arc, absent, explicit, implicit, arcAt, onCycle, Cycle, four, oneI, oneJ, apart}
 use Rattle.model.specs.Match.{image, arcHolds, Assignment}
 use Rattle.model.specs.Edit.{Pair, addedDarts, dartOf, pairOf, edited}
 use Rattle.model.specs.Accepted.{Accepted}
 use Rattle.model.specs.declared.Scheme.{Scheme}
-use Rattle.base.proofs.TestLaws.{and-left, and-right, or-cases, or-left, or-right, if-so, true-or-false}
+use Rattle.base.proofs.TestLaws.{or-cases, or-left, or-right, true-or-false}
 use Rattle.base.proofs.FirstLaws.{some-not-none}
 use Rattle.model.proofs.ArcLaws.{explicit-end, implicit-from, absent-of, absent-from, no-arc}
-use Rattle.model.proofs.CycleLaws.{cycle-at, cycle-of, same-arc, not-absent, not-absent′, pass-i, pass-j, none-i, none-j}
+use Rattle.model.proofs.CycleLaws.{cycle-at, cycle-of, not-absent, not-absent′, pass-i, pass-j, none-i, none-j}
 use Rattle.model.proofs.AcceptedLaws.{kind-cases, left-or-added}
 use Rattle.model.proofs.MatchLaws.{GoodOrbit, arc-of}
 use Rattle.model.proofs.EditLaws as E
@@ -407,10 +407,6 @@ module _ (m : Map) (S : Scheme) (O : ℕ → Bool) (w : WellFormed (S .n) m) (g 
           (λ d. inl (ap (new .state) (sym (q .2)) ∙ E.state-deleted m S O (o .slot) kinds A room (p .dart) (p .node) (q .0) (q .1) d))
           (λ d. inr (ap (new .state) (sym (q .2)) ∙ new-state (p .dart) (p .node) (q .0) (q .1) (⊎-elim (λ k. or-left _ k) (λ k. or-right _ k) d)))
           (kind-cases S (g .formed) (p .node) (q .1))
-
-  same-slots : new .slots ≡ m .slots
-  unfolding edited
-  same-slots = refl
 
   pub edit-keeps : WellFormed (S .n) new
   unfolding edited

@@ -2,7 +2,7 @@
 -- Assumes nothing.
 use Prim.Native.Nat.{ℕ, suc, _≤_, _<_}
 use mathlib.Core.Path.{_≡_, refl, sym, ap, ap₂, _∙_, subst}
-use mathlib.Core.Logic.{_⊎_, inl, inr, ⊎-elim}
+use mathlib.Core.Logic.{_⊎_, ⊎-elim}
 use mathlib.Core.Bool.{Bool, true}
 use mathlib.Core.Option.{Option, some, Option·getD}
 use mathlib.Core.List.{List, [], _∷_, _++_}
@@ -13,7 +13,7 @@ use Rattle.base.specs.Test.{_and_}
 use Rattle.base.specs.Below.{all}
 use Rattle.model.specs.Map.{Map}
 use Rattle.model.specs.WellFormed.{WellFormed}
-use Rattle.model.specs.Reach.{Leads, here, step}
+use Rattle.model.specs.Reach.{here, step}
 use Rattle.model.specs.Scheme.{left, orbitDim, word, arcs, arcPart, has}
 use Rattle.model.specs.Conditions.{Arc, absent, explicit, implicit, arcAt, touches, far, leftArc, pathTo}
 use Rattle.model.specs.Match.{walk, image, arcHolds, eachPair, onlyPair, matches, Assignment}
@@ -21,7 +21,6 @@ use Rattle.model.specs.Accepted.{Accepted, SingleSide}
 use Rattle.model.specs.declared.Scheme.{Scheme}
 use Rattle.base.proofs.TestLaws.{and-left, and-right, and-of, or-cases, if-so, if-of}
 use Rattle.base.proofs.BelowLaws.{all-at, all-of}
-use Rattle.base.proofs.FirstLaws.{when-at, there-at, first-at}
 use Rattle.model.proofs.ArcLaws.{explicit-at, implicit-at, explicit-from, implicit-from, far-from, far-to, touches-from, touches-to}
 use Rattle.model.proofs.AcceptedLaws.{small}
 use Rattle.model.proofs.ReachLaws.{path-start}

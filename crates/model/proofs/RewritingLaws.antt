@@ -1,8 +1,8 @@
 -- The edited map is the rewriting that document 01 describes, statement by statement.
 -- Assumes nothing.
 use Prim.Native.Nat.{ℕ, _≤_, _<_}
-use mathlib.Core.Path.{_≡_, sym, ap, ap₂, _∙_, subst}
-use mathlib.Core.Logic.{_⊎_, ⊎-elim}
+use mathlib.Core.Path.{_≡_, sym, ap, _∙_, subst}
+use mathlib.Core.Logic.{_⊎_}
 use mathlib.Core.Bool.{Bool, true}
 use native.Mathlib.Omega.{arith}
 use Rattle.base.specs.Below.{count}
@@ -10,13 +10,13 @@ use Rattle.model.specs.Map.{Map, unused}
 use Rattle.model.specs.Scheme.{left, right, has, added}
 use Rattle.model.specs.Accepted.{Accepted}
 use Rattle.model.specs.Match.{image, Assignment}
-use Rattle.model.specs.Edit.{addedDarts, rank, dartOf, pairOf, edited}
+use Rattle.model.specs.Edit.{addedDarts, rank, dartOf, edited}
 use Rattle.model.specs.Rewriting.{Rewriting}
 use Rattle.model.specs.declared.Scheme.{Scheme}
 use Rattle.model.proofs.ArcLaws.{no-arc}
 use Rattle.model.proofs.AcceptedLaws.{left-or-added}
 use Rattle.model.proofs.MatchLaws.{GoodOrbit}
-use Rattle.model.proofs.KeepLaws.{right-stays, added-right, preserved-right, preserved-left, preserved-not-added}
+use Rattle.model.proofs.KeepLaws.{right-stays, added-right, preserved-right, preserved-not-added}
 use Rattle.model.proofs.RankLaws.{dart-left}
 use Rattle.model.proofs.EditLaws as E
 

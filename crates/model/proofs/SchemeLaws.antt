@@ -3,24 +3,32 @@
 use Prim.Native.Nat.{ℕ, _+_, _*_, _/_, _%_, _≤_, _<_}
 use mathlib.Core.Path.{_≡_, refl, sym, ap, ap₂, _∙_, subst}
 use mathlib.Core.Logic.{_⊎_, inl, inr, ⊎-elim}
-use mathlib.Core.Bool.{Bool, true, cond}
-use mathlib.Core.Option.{Option, Option·getD}
+use mathlib.Core.Bool.{Bool, true, false, cond}
+use mathlib.Core.Option.{Option, none, some, Option·getD}
 use mathlib.Core.List.{List}
 use native.Mathlib.Omega.{arith}
 use lib.ListN.{getD}
-use lib.Dec.{eqb}
-use borrow.Author.Tests.{eqb-true, ltb-true, leb-true, lt-ltb, le-ltb}
+use lib.Dec.{eqb, ltb}
+use borrow.Author.Tests.{eqb-true, ne-eqb, ltb-true, ltb-false, leb-true, lt-ltb, le-ltb}
 use Rattle.base.specs.Test.{_and_, _or_}
-use Rattle.base.specs.First.{when}
-use Rattle.base.proofs.TestLaws.{and-left, and-right, or-cases}
+use Rattle.base.specs.First.{least, when}
+use Rattle.base.proofs.TestLaws.{and-left, and-right, or-cases, true-or-false}
 use Rattle.base.proofs.BelowLaws.{all-at}
-use Rattle.base.proofs.FirstLaws.{first-same}
+use Rattle.base.proofs.FirstLaws.{first-same, least-none-of, least-same}
 use Rattle.base.proofs.ListLaws.{getD-list}
-use Rattle.model.specs.Scheme.{Side, left, right, onSide, byte, placesOf, nodesOf, kindAt, wordAt, arcCount, arcByte, orbitForm, wordForm, nodeForm, arcForm, arcsForm, inForm, upTo, farEnd, wordsOf, arcsOf, targetsOf, schemeOf, kind, orbitDim, word, target, arcs, arcPart, has}
+use Rattle.model.specs.Scheme.{Side, left, right, onSide, byte, placesOf, nodesOf, kindAt, wordAt, arcCount, arcByte, orbitForm, wordForm, nodeForm, arcForm, arcsForm, inForm, upTo, farEnd, placeCode, wordsOf, arcsOf, placed, placedAt, targetsOf, schemeOf, kind, orbitDim, word, targets, arcs, arcPart, has}
+use Rattle.model.specs.Conditions.{arcOf, arcAt, reads}
+use Rattle.model.specs.Codes.{arcCode}
 use Rattle.model.specs.Formed.{Formed, FormedSide}
 
 up-to : (bound x v filling : ℕ) → x < bound → upTo bound x v filling ≡ v
 up-to bound x v filling h = rw (lt-ltb x bound h) refl
+
+-- the arc that leads to a node, else the one at a position, as one byte
+code-of : (o r : Option ℕ) → Option·getD o (placeCode r) ≡ arcCode (arcOf o r)
+code-of (some t) r = refl
+code-of none (some p) = refl
+code-of none none = refl
 
 module _ (b : List ℕ) (q : inForm b ≡ true) where
   -- ---- the parts of the form
@@ -140,21 +148,43 @@ module _ (b : List ℕ) (q : inForm b ≡ true) where
           → when (eqb d i and (eqb x s or eqb y s)) (cond (eqb x s) y x) ≡ when (eqb d′ i and (eqb x′ s or eqb y′ s)) (cond (eqb x′ s) y′ x′)
       each e f g = rw (e, f, g)
 
-  targets-at : (side : Side) (s i : ℕ) → s < 16 → i < 4 → getD (targetsOf b side) (4 * s + i) 255 ≡ Option·getD (farEnd (arcPart (schemeOf b) side) (arcCount b side) s i) 255
+  -- past the last node there is no implicit arc
+  pub no-place : (side : Side) (s i : ℕ) → nodesOf b ≤ s → s < 16 → i < 4 → (p : ℕ) → p < placesOf b → reads (schemeOf b) side s i p ≡ false
+  no-place side s i n h l p k =
+      let few = places-few in
+      let n3 = small in
+      ap (λ (z : ℕ). eqb z i) (value-word-out side s p n h (omega arith)) ∙ ne-eqb 255 i (λ e. absurd (omega arith))
+
+  -- the implicit arc by the bytes is that by the value
+  pub place-is : (side : Side) (s i : ℕ) → s < 16 → i < 4 → placedAt b side (4 * s + i) ≡ placeCode (least (placesOf b) (reads (schemeOf b) side s i))
+  unfolding placed
+  place-is side s i h l =
+      let at-s : (4 * s + i) / 4 ≡ s = omega arith in
+      let at-i : (4 * s + i) % 4 ≡ i = omega arith in
+      ⊎-elim
+      (λ e. let n : s < nodesOf b = let m = ltb-true (4 * s + i) (4 * nodesOf b) e in omega arith in
+      rw (e, at-s, at-i) (ap placeCode (least-same (placesOf b) _ _ (λ p k. ap (λ (z : ℕ). eqb z i) (sym (value-word side s p n k))))))
+      (λ e. let n : nodesOf b ≤ s = let m = ltb-false (4 * s + i) (4 * nodesOf b) e in omega arith in
+      rw e (sym (ap placeCode (least-none-of (placesOf b) _ (no-place side s i n h l)))))
+      (true-or-false (ltb (4 * s + i) (4 * nodesOf b)))
+
+  targets-at : (side : Side) (s i : ℕ) → s < 16 → i < 4
+      → getD (targetsOf b side) (4 * s + i) 0 ≡ arcCode (arcOf (farEnd (arcPart (schemeOf b) side) (arcCount b side) s i) (least (placesOf b) (reads (schemeOf b) side s i)))
   unfolding targetsOf
   targets-at side s i h l =
       let at-s : (4 * s + i) / 4 ≡ s = omega arith in
       let at-i : (4 * s + i) % 4 ≡ i = omega arith in
-      getD-list 64 (4 * s + i) _ 255 (omega arith)
-      ∙ ap₂ (λ (x y : ℕ). Option·getD (farEnd (arcByte b side) (arcCount b side) x y) 255) at-s at-i
-      ∙ ap (λ (o : Option ℕ). Option·getD o 255) (end-same side s i)
+      getD-list 64 (4 * s + i) _ 0 (omega arith)
+      ∙ ap₂ (λ (x y : ℕ). Option·getD (farEnd (arcByte b side) (arcCount b side) x y) (placedAt b side (4 * s + i))) at-s at-i
+      ∙ ap₂ (λ (o : Option ℕ) (p : ℕ). Option·getD o p) (end-same side s i) (place-is side s i h l)
+      ∙ code-of (farEnd (arcPart (schemeOf b) side) (arcCount b side) s i) (least (placesOf b) (reads (schemeOf b) side s i))
 
-  -- a target is the far end of the node's first explicit arc of that dimension
-  pub value-target : (side : Side) (s i : ℕ) → s < 16 → i < 4
-      → target (schemeOf b) side s i ≡ Option·getD (farEnd (arcPart (schemeOf b) side) (arcs (schemeOf b) side) s i) 255
-  unfolding schemeOf
-  value-target left s i h l = targets-at left s i h l
-  value-target right s i h l = targets-at right s i h l
+  -- a target is the code of what the node has at that dimension
+  value-target : (side : Side) → arcs (schemeOf b) side ≡ arcCount b side → (s i : ℕ) → s < 16 → i < 4
+      → getD (targets (schemeOf b) side) (4 * s + i) 0 ≡ arcCode (arcAt (schemeOf b) side s i)
+  unfolding schemeOf arcAt
+  value-target left same s i h l = targets-at left s i h l
+  value-target right same s i h l = targets-at right s i h l
 
   -- ---- the form, as facts on the value
 
@@ -209,7 +239,7 @@ module _ (b : List ℕ) (q : inForm b ≡ true) where
     dims = λ a h. arc-dim side a (rw same at h);
     from = λ a h. arc-from side a (rw same at h);
     to = λ a h. arc-to side a (rw same at h);
-    targets = value-target side;
+    coded = value-target side same;
   }
 
   pub formed : Formed (schemeOf b)

@@ -3,9 +3,9 @@ pub mod Map
 pub mod WellFormed
 pub mod Reach
 pub mod Scheme
-pub mod Formed
 pub mod Conditions
-pub mod Tables
+pub mod Codes
+pub mod Formed
 pub mod Accepted
 pub mod Orbit
 pub mod Match

@@ -3,13 +3,13 @@
 -- Assumes nothing.
 use Prim.Native.Nat.{ℕ, _+_, _*_, _/_, _%_}
 use mathlib.Core.Bool.{Bool, false, cond}
-use mathlib.Core.Option.{Option, Option·getD}
+use mathlib.Core.Option.{Option, none, some, Option·getD}
 use mathlib.Core.List.{List}
 use lib.ListN.{length, getD}
 use lib.Dec.{eqb, ltb, leb}
 use Rattle.base.specs.Test.{_and_, _or_, _⇒_}
 use Rattle.base.specs.Below.{all}
-use Rattle.base.specs.First.{first, when}
+use Rattle.base.specs.First.{first, least, when}
 use Rattle.base.specs.Lists.{list}
 use Rattle.model.specs.declared.Scheme.{Scheme}
 
@@ -123,6 +123,11 @@ module _ (part : ℕ → ℕ → ℕ) where
 abbrev pub upTo : ℕ → ℕ → ℕ → ℕ → ℕ
 upTo bound x v filling = cond (ltb x bound) v filling
 
+-- an implicit arc at a position as one byte, 255 where there is none
+abbrev pub placeCode : Option ℕ → ℕ
+placeCode none = 255
+placeCode (some p) = 16 + p
+
 module _ (b : List ℕ) where
   unfoldable pub wordsOf : Side → List ℕ
   wordsOf side = list 64 (λ k. upTo (nodesOf b) (k / 4) (upTo (placesOf b) (k % 4) (wordAt b side (k / 4) (k % 4)) 255) 255)
@@ -130,8 +135,16 @@ module _ (b : List ℕ) where
   unfoldable pub arcsOf : Side → List ℕ
   arcsOf side = list 192 (λ k. upTo (arcCount b side) (k / 3) (arcByte b side (k / 3) (k % 3)) 0)
 
+  -- what node k / 4 has at dimension k % 4 by its word
+  unfoldable pub placed : Side → ℕ → ℕ
+  placed side k = placeCode (least (placesOf b) (λ p. eqb (wordAt b side (k / 4) p) (k % 4)))
+
+  abbrev pub placedAt : Side → ℕ → ℕ
+  placedAt side k = upTo (4 * nodesOf b) k (placed side k) 255
+
+  -- what it has there by its first explicit arc, else by its word
   unfoldable pub targetsOf : Side → List ℕ
-  targetsOf side = list 64 (λ k. Option·getD (farEnd (arcByte b side) (arcCount b side) (k / 4) (k % 4)) 255)
+  targetsOf side = list 64 (λ k. Option·getD (farEnd (arcByte b side) (arcCount b side) (k / 4) (k % 4)) (placedAt side k))
 
   unfoldable pub schemeOf : Scheme
   schemeOf = record {
@@ -163,10 +176,9 @@ module _ (S : Scheme) where
   word left s p = getD (S .lwords) (4 * s + p) 255
   word right s p = getD (S .rwords) (4 * s + p) 255
 
-  -- the node to which the explicit i-arc of s leads, 255 where it has none
-  abbrev pub target : Side → ℕ → ℕ → ℕ
-  target left s i = getD (S .ltargets) (4 * s + i) 255
-  target right s i = getD (S .rtargets) (4 * s + i) 255
+  abbrev pub targets : Side → List ℕ
+  targets left = S .ltargets
+  targets right = S .rtargets
 
   abbrev pub arcs : Side → ℕ
   arcs left = S .lcount

@@ -18,14 +18,14 @@ use Rattle.base.proofs.BelowLaws.{all-at, all-of, all-none, all-more, all-ends}
 use Rattle.base.proofs.ListLaws.{getD-list}
 use Rattle.base.proofs.FilledLaws.{filled-none, filled-all, stored-filled, same-ltb}
 use Rattle.base.proofs.AscentLaws.{above, above-step, ascends, descends}
-use Rattle.model.specs.Scheme.{Side, onSide, byte, nodesOf, kindAt, arcCount, arcByte, before, nodeForm, arcForm, arcsForm, arcsOf, targetsOf, farEnd, schemeOf}
+use Rattle.model.specs.Scheme.{Side, onSide, byte, nodesOf, kindAt, arcCount, arcByte, before, nodeForm, arcForm, arcsForm, arcsOf, placedAt, targetsOf, farEnd, schemeOf}
 use Rattle.scheme.specs.Words.{sideOf}
 use Rattle.scheme.specs.Arcs.{ArcsPlaced, keyOf, arcTest}
-use Rattle.scheme.specs.Tables.{placedAt, Linked, codesTo, twiceTo}
+use Rattle.scheme.specs.Targets.{Linked, twiceTo}
 use Rattle.scheme.specs.declared.frame.Layout.{Layout}
 use Rattle.scheme.proofs.FrameLaws.{dimension-small}
 use Rattle.scheme.proofs.WordLaws.{on-side}
-use Rattle.scheme.proofs.TableLaws.{Shown, touches, shown-none, linked-more, placed-byte}
+use Rattle.scheme.proofs.LinkLaws.{Shown, touches, shown-none, linked-more, places}
 
 -- ---- the order of arcs
 
@@ -65,10 +65,10 @@ module _ (b : List ℕ) (other : ℕ) where
   keyAt a = keyOf (arcByte b (sideOf other) a 0) (arcByte b (sideOf other) a 1) (arcByte b (sideOf other) a 2)
 
   -- what holds once the first a arcs are read; `low` is the least key that may come next
-  pub record Joined (a low : ℕ) (targets codes : List ℕ) (twice : List Bool) : Type 0 where
+  pub record Joined (a low : ℕ) (targets : List ℕ) (twice : List Bool) : Type 0 where
     pub formed : all a (arcForm b (sideOf other)) ≡ true
     pub next : low ≡ above keyAt a
-    pub held : Shown (placedAt b (sideOf other)) (farEnd (arcByte b (sideOf other)) a) (touches (placedAt b (sideOf other)) (arcByte b (sideOf other)) a) targets codes twice
+    pub held : Shown (placedAt b (sideOf other)) (farEnd (arcByte b (sideOf other)) a) (touches (placedAt b (sideOf other)) (arcByte b (sideOf other)) a) targets twice
 
 -- ---- one arc
 
@@ -185,20 +185,19 @@ module _ (b : List ℕ) (l : Layout) (kinds : List ℕ) (other from count : ℕ)
   -- ---- the first a arcs
 
   -- before the first arc
-  pub joined-none : {targets codes : List ℕ} {twice : List Bool} → targets ≡ replicate 64 255 → codes ≡ list 64 (placedAt b side) → twice ≡ replicate 16 false
-      → Joined b other 0 0 targets codes twice
+  pub joined-none : {targets : List ℕ} {twice : List Bool} → targets ≡ list 64 (placedAt b side) → twice ≡ replicate 16 false → Joined b other 0 0 targets twice
   unfolding above
-  joined-none e f g = record { formed = all-none _; next = refl; held = shown-none (placedAt b side) part e f g }
+  joined-none f g = record { formed = all-none _; next = refl; held = shown-none (placedAt b side) part f g }
 
-  pub joined-form-at : {r : Bool} (a low n nodes d s t : ℕ) {targets codes : List ℕ} {twice : List Bool} → Joined b other a low targets codes twice → Read a d s t → n ≡ byte b 0 → nodes ≡ nodesOf b
+  pub joined-form-at : {r : Bool} (a low n nodes d s t : ℕ) {targets : List ℕ} {twice : List Bool} → Joined b other a low targets twice → Read a d s t → n ≡ byte b 0 → nodes ≡ nodesOf b
       → r ≡ arcTest n nodes kinds other low d s t → r ≡ arcForm b side a
   joined-form-at a low n nodes d s t j q nIs nodesIs e =
       e ∙ rw (q .dIs, q .sIs, q .tIs) (arc-same a low n nodes (j .formed) (j .next) nIs nodesIs)
 
   -- an arc more
-  pub joined-more : (a low d s t k : ℕ) {targets codes targets′ codes′ : List ℕ} {twice twice′ : List Bool} → Joined b other a low targets codes twice
-      → Read a d s t → arcForm b side a ≡ true → k ≡ keyOf d s t → Linked d s t targets codes twice targets′ codes′ twice′
-      → Joined b other (a + 1) (k + 1) targets′ codes′ twice′
+  pub joined-more : (a low d s t k : ℕ) {targets targets′ : List ℕ} {twice twice′ : List Bool} → Joined b other a low targets twice
+      → Read a d s t → arcForm b side a ≡ true → k ≡ keyOf d s t → Linked d s t targets twice targets′ twice′
+      → Joined b other (a + 1) (k + 1) targets′ twice′
   joined-more a low d s t k j r q keyIs e =
       let n = ends a q in
       let n3 = dimension-small b l (placed .laid) in
@@ -206,7 +205,7 @@ module _ (b : List ℕ) (l : Layout) (kinds : List ℕ) (other from count : ℕ)
       record {
         formed = all-more _ a (j .formed) q;
         next = ap (λ (x : ℕ). x + 1) (keyIs ∙ rw (r .dIs, r .sIs, r .tIs) refl) ∙ sym (above-step key a);
-        held = linked-more (placedAt b side) part a (omega arith) (omega arith) (omega arith) (placed-byte b side (omega arith)) (j .held)
+        held = linked-more (placedAt b side) part a (omega arith) (omega arith) (omega arith) (places b side (omega arith)) (j .held)
             (rw (r .dIs, r .sIs, r .tIs) at e);
       }
 
@@ -214,7 +213,7 @@ module _ (b : List ℕ) (l : Layout) (kinds : List ℕ) (other from count : ℕ)
   unfolding arcsForm
   joined-stops a h q = sym (refuted (λ w. all-at _ _ (and-right _ _ w) a (rw (placed .countIs) at h)) q)
 
-  pub joined-form : (a low : ℕ) {targets codes : List ℕ} {twice : List Bool} → Joined b other a low targets codes twice → a ≤ count → count ≤ a → true ≡ arcsForm b side
+  pub joined-form : (a low : ℕ) {targets : List ℕ} {twice : List Bool} → Joined b other a low targets twice → a ≤ count → count ≤ a → true ≡ arcsForm b side
   unfolding arcsForm
   joined-form a low j h k =
       let few = placed .few in
@@ -222,14 +221,13 @@ module _ (b : List ℕ) (l : Layout) (kinds : List ℕ) (other from count : ℕ)
       sym (and-of (le-leb (arcCount b side) 64 (omega arith)) (sym (all-ends _ a (arcCount b side) (j .formed) (omega arith) (omega arith))))
 
   -- after the last arc
-  pub joined-value : (a low : ℕ) {targets codes : List ℕ} {twice : List Bool} → Joined b other a low targets codes twice → a ≤ count → count ≤ a
-      → (targets ≡ targetsOf b side) × (codes ≡ codesTo (placedAt b side) (arcByte b side) (arcCount b side))
-      × (twice ≡ twiceTo (placedAt b side) (arcByte b side) (arcCount b side))
-  unfolding targetsOf codesTo twiceTo
-  joined-value a low {targets} {codes} {twice} j h k =
+  pub joined-value : (a low : ℕ) {targets : List ℕ} {twice : List Bool} → Joined b other a low targets twice → a ≤ count → count ≤ a
+      → (targets ≡ targetsOf b side) × (twice ≡ twiceTo (placedAt b side) (arcByte b side) (arcCount b side))
+  unfolding targetsOf twiceTo
+  joined-value a low {targets} {twice} j h k =
       let same : a ≡ arcCount b side = omega (arith, placed .countIs) in
-      let w : Shown (placedAt b side) (farEnd part (arcCount b side)) (touches (placedAt b side) part (arcCount b side)) targets codes twice = rw same at (j .held) in
-      (w .targetsAre, w .codesAre, w .twiceAre)
+      let w : Shown (placedAt b side) (farEnd part (arcCount b side)) (touches (placedAt b side) part (arcCount b side)) targets twice = rw same at (j .held) in
+      (w .targetsAre, w .twiceAre)
 
   -- ---- the arcs as they stand
 

@@ -5,9 +5,9 @@ pub mod OrbitLaws
 pub mod WordLaws
 pub mod NodeLaws
 pub mod TargetLaws
-pub mod TableLaws
+pub mod LinkLaws
 pub mod ArcLaws
 pub mod ArcTestLaws
 pub mod ReadLaws
 pub mod MarkLaws
-pub mod NoteLaws
+pub mod TwiceLaws

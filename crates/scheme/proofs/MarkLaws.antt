@@ -1,4 +1,4 @@
--- The dimensions of a word as they are marked in a row of the table of codes: a dimension is fresh where its code is 255.
+-- The dimensions of a word as they are marked in a row of the targets: a dimension is fresh where its target is 255.
 -- Assumes nothing.
 use Prim.Native.Nat.{ℕ, zero, suc, _+_, _≤_, _<_}
 use mathlib.Core.Path.{_≡_, refl, sym, ap, _∙_}
@@ -13,40 +13,40 @@ use lib.ListN.{length, getD, set, length-set}
 use lib.Seq.{getD-set-same, getD-set-other}
 use lib.Dec.{eqb}
 use borrow.Author.Tests.{eq-eqb, ne-eqb, eqb-true, lt-leb, le-leb, leb-true}
-use Rattle.base.specs.Test.{_and_, _or_, _⇒_}
+use Rattle.base.specs.Test.{_and_, _or_}
 use Rattle.base.specs.Below.{all}
 use Rattle.base.specs.First.{when, first, least}
 use Rattle.base.proofs.TestLaws.{and-left, and-right, and-of, or-left, or-right, or-rest, if-so, if-of, impossible, true-or-false, same-test}
 use Rattle.base.proofs.BelowLaws.{all-at, all-of}
 use Rattle.base.proofs.FirstLaws.{or-else-last, least-at, least-none, least-none-of, least-hit}
-use Rattle.model.specs.Scheme.{byte}
+use Rattle.model.specs.Scheme.{byte, placeCode}
 use Rattle.scheme.specs.Words.{freshAt, fitsAt}
-use Rattle.scheme.specs.Tables.{placeCode, markable, marked, rowed}
+use Rattle.scheme.specs.Targets.{markable, marked, rowed}
 
 -- ---- one mark
 
-module _ (codes : List ℕ) (base n d p : ℕ) where
+module _ (targets : List ℕ) (base n d p : ℕ) where
   -- a byte 255 marks nothing
-  pub mark-gone : d ≡ 255 → (true ≡ markable codes base n d) × (codes ≡ marked codes base d p)
+  pub mark-gone : d ≡ 255 → (true ≡ markable targets base n d) × (targets ≡ marked targets base d p)
   unfolding markable marked
   mark-gone e = (sym (or-left _ (eq-eqb _ _ e)), rw (eq-eqb _ _ e) refl)
 
   -- a byte above n is not marked
-  pub mark-none : (d ≡ 255 → ⊥) → n < d → false ≡ markable codes base n d
+  pub mark-none : (d ≡ 255 → ⊥) → n < d → false ≡ markable targets base n d
   unfolding markable _or_ _and_
   mark-none e h = rw (ne-eqb _ _ e, lt-leb _ _ h)
 
   -- a dimension that has a code is not marked again
-  pub mark-twice : {i : ℕ} → (d ≡ 255 → ⊥) → d ≤ n → i ≡ base + d → (getD codes i 0 ≡ 255 → ⊥) → false ≡ markable codes base n d
+  pub mark-twice : {i : ℕ} → (d ≡ 255 → ⊥) → d ≤ n → i ≡ base + d → (getD targets i 0 ≡ 255 → ⊥) → false ≡ markable targets base n d
   unfolding markable _or_ _and_
   mark-twice e h q w = rw (ne-eqb _ _ e, le-leb _ _ h, ← q, ne-eqb _ _ w)
 
   -- a dimension that has none is marked
-  pub mark-once : {i : ℕ} → (d ≡ 255 → ⊥) → d ≤ n → i ≡ base + d → getD codes i 0 ≡ 255
-      → (true ≡ markable codes base n d) × (set codes i (16 + p) ≡ marked codes base d p)
+  pub mark-once : {i : ℕ} → (d ≡ 255 → ⊥) → d ≤ n → i ≡ base + d → getD targets i 0 ≡ 255
+      → (true ≡ markable targets base n d) × (set targets i (16 + p) ≡ marked targets base d p)
   unfolding markable marked
   mark-once e h q w =
-      (sym (or-right _ (and-of (le-leb _ _ h) (eq-eqb _ _ (ap (λ (j : ℕ). getD codes j 0) (sym q) ∙ w)))), rw (ne-eqb _ _ e, q) refl)
+      (sym (or-right _ (and-of (le-leb _ _ h) (eq-eqb _ _ (ap (λ (j : ℕ). getD targets j 0) (sym q) ∙ w)))), rw (ne-eqb _ _ e, q) refl)
 
 -- ---- the first p bytes of a word
 
@@ -84,27 +84,27 @@ module _ (b : List ℕ) (at : ℕ) where
       (λ e. inl e)
       (λ ne. let u = or-rest (ne-eqb _ _ ne) q in inr (ne, leb-true _ _ (and-left _ _ u), and-right _ _ u))
 
-  module _ (codes : List ℕ) (base : ℕ) where
+  module _ (targets : List ℕ) (base : ℕ) where
     -- the table with p bytes
     abbrev rows : ℕ → List ℕ
-    rows p = rowed codes base b at p
+    rows p = rowed targets base b at p
 
     -- no byte marks nothing
-    pub rowed-none : rowed codes base b at 0 ≡ codes
+    pub rowed-none : rowed targets base b at 0 ≡ targets
     unfolding rowed
     rowed-none = refl
 
     -- one byte more
-    pub rowed-more : {l : List ℕ} (p : ℕ) → l ≡ rowed codes base b at p → marked l base (byte b (at + p)) p ≡ rowed codes base b at (p + 1)
+    pub rowed-more : {l : List ℕ} (p : ℕ) → l ≡ rowed targets base b at p → marked l base (byte b (at + p)) p ≡ rowed targets base b at (p + 1)
     unfolding rowed
     rowed-more p e = rw (add-one p, e) refl
 
     -- the same number of bytes by another name
-    pub rowed-all : {l : List ℕ} (p k : ℕ) → l ≡ rowed codes base b at p → p ≡ k → l ≡ rowed codes base b at k
+    pub rowed-all : {l : List ℕ} (p k : ℕ) → l ≡ rowed targets base b at p → p ≡ k → l ≡ rowed targets base b at k
     rowed-all p k e q = rw (← q) e
 
     -- the table keeps its length
-    pub length-rowed : (p : ℕ) → length (rowed codes base b at p) ≡ length codes
+    pub length-rowed : (p : ℕ) → length (rowed targets base b at p) ≡ length targets
     unfolding rowed marked
     length-rowed zero = refl
     length-rowed (suc p) = ⊎-elim (λ w. rw w (length-rowed p)) (λ w. rw w (length-set (rows p) _ _ ∙ length-rowed p)) (true-or-false (eqb (byte b (at + p)) 255))
@@ -121,7 +121,7 @@ module _ (b : List ℕ) (at : ℕ) where
 
     module _ (n : ℕ) (few : n ≤ 3) where
       -- the entries outside the row are as before
-      pub rowed-else : (p : ℕ) → all p (fitsAt b n at) ≡ true → (k : ℕ) → (k < base) ⊎ (base + 4 ≤ k) → getD (rowed codes base b at p) k 0 ≡ getD codes k 0
+      pub rowed-else : (p : ℕ) → all p (fitsAt b n at) ≡ true → (k : ℕ) → (k < base) ⊎ (base + 4 ≤ k) → getD (rowed targets base b at p) k 0 ≡ getD targets k 0
       unfolding rowed all
       rowed-else zero q k h = refl
       rowed-else (suc p) q k h =
@@ -138,10 +138,10 @@ module _ (b : List ℕ) (at : ℕ) where
           apart-high : {d : ℕ} (k : ℕ) → d ≤ n → k ≡ base + d → base + 4 ≤ k → ⊥
           apart-high k l e u = omega arith
 
-      module _ (room : base + 4 ≤ length codes) (clear : (i : ℕ) → i < 4 → getD codes (base + i) 0 ≡ 255) where
+      module _ (room : base + 4 ≤ length targets) (clear : (i : ℕ) → i < 4 → getD targets (base + i) 0 ≡ 255) where
         -- a row that was clear has for each dimension the first position at which it stands
         pub rowed-at : (p : ℕ) → all p (fitsAt b n at) ≡ true → (i : ℕ) → i < 4
-            → getD (rowed codes base b at p) (base + i) 0 ≡ placeCode (least p (stands i))
+            → getD (rowed targets base b at p) (base + i) 0 ≡ placeCode (least p (stands i))
         unfolding rowed all
         rowed-at zero q i h = clear i h ∙ ap placeCode (sym (least-none-of 0 (stands i) (λ k l. absurd (omega arith))))
         rowed-at (suc p) q i h =
@@ -161,11 +161,11 @@ module _ (b : List ℕ) (at : ℕ) where
             far : {d : ℕ} (i : ℕ) → i < 4 → d ≡ 255 → d ≡ i → ⊥
             far i h e f = omega arith
 
-            inside : byte b (at + p) ≤ n → base + byte b (at + p) < length (rowed codes base b at p)
+            inside : byte b (at + p) ≤ n → base + byte b (at + p) < length (rowed targets base b at p)
             inside u = omega (arith, length-rowed p)
 
         -- the next byte can be marked just if it fits
-        pub rowed-fits : {l : List ℕ} {r : Bool} (p : ℕ) → l ≡ rowed codes base b at p → p ≤ 4 → all p (fitsAt b n at) ≡ true
+        pub rowed-fits : {l : List ℕ} {r : Bool} (p : ℕ) → l ≡ rowed targets base b at p → p ≤ 4 → all p (fitsAt b n at) ≡ true
             → r ≡ markable l base n (byte b (at + p)) → r ≡ fitsAt b n at p
         unfolding fitsAt markable
         rowed-fits {l} p e small q r = r ∙ ⊎-elim

@@ -14,9 +14,8 @@ use Rattle.base.specs.Lists.{list}
 use Rattle.base.proofs.TestLaws.{and-left, and-right, and-of, refuted, same-test}
 use Rattle.base.proofs.BelowLaws.{all-none, all-more}
 use Rattle.base.proofs.FilledLaws.{filled-none, filled-more, filled-all, same-ltb}
-use Rattle.model.specs.Scheme.{Side, left, right, byte, placesOf, nodesOf, nodeAt, kindAt, wordForm, wordEmpty, nodeForm, upTo, wordsOf, schemeOf}
+use Rattle.model.specs.Scheme.{Side, left, right, byte, placesOf, nodesOf, nodeAt, kindAt, wordForm, wordEmpty, nodeForm, upTo, wordsOf, schemeOf, placed, placedAt}
 use Rattle.scheme.specs.Words.{row}
-use Rattle.scheme.specs.Tables.{placed, placedAt}
 
 -- ---- one node
 
@@ -43,45 +42,45 @@ module _ (b : List ℕ) (s : ℕ) where
 -- ---- the first s nodes
 
 module _ (b : List ℕ) where
-  pub record Passed (s at : ℕ) (kinds lwords rwords lcodes rcodes : List ℕ) : Type 0 where
+  pub record Passed (s at : ℕ) (kinds lwords rwords ltargets rtargets : List ℕ) : Type 0 where
     pub formed : all s (nodeForm b) ≡ true
     pub atIs : at ≡ nodeAt b s
     pub kindsIs : kinds ≡ filled 16 s (kindAt b) 0
     pub lwordsIs : lwords ≡ filled 64 (4 * s) (row b left) 255
     pub rwordsIs : rwords ≡ filled 64 (4 * s) (row b right) 255
-    pub lcodesIs : lcodes ≡ filled 64 (4 * s) (placed b left) 255
-    pub rcodesIs : rcodes ≡ filled 64 (4 * s) (placed b right) 255
+    pub ltargetsIs : ltargets ≡ filled 64 (4 * s) (placed b left) 255
+    pub rtargetsIs : rtargets ≡ filled 64 (4 * s) (placed b right) 255
 
-  pub passed-none : {at : ℕ} {kinds lwords rwords lcodes rcodes : List ℕ} → at ≡ 3 + placesOf b → kinds ≡ replicate 16 0
-      → lwords ≡ replicate 64 255 → rwords ≡ replicate 64 255 → lcodes ≡ replicate 64 255 → rcodes ≡ replicate 64 255
-      → Passed 0 at kinds lwords rwords lcodes rcodes
+  pub passed-none : {at : ℕ} {kinds lwords rwords ltargets rtargets : List ℕ} → at ≡ 3 + placesOf b → kinds ≡ replicate 16 0
+      → lwords ≡ replicate 64 255 → rwords ≡ replicate 64 255 → ltargets ≡ replicate 64 255 → rtargets ≡ replicate 64 255
+      → Passed 0 at kinds lwords rwords ltargets rtargets
   passed-none e k l r u v = record {
     formed = all-none _;
     atIs = omega arith;
     kindsIs = k ∙ filled-none 16 (kindAt b) 0;
     lwordsIs = l ∙ filled-none 64 (row b left) 255;
     rwordsIs = r ∙ filled-none 64 (row b right) 255;
-    lcodesIs = u ∙ filled-none 64 (placed b left) 255;
-    rcodesIs = v ∙ filled-none 64 (placed b right) 255;
+    ltargetsIs = u ∙ filled-none 64 (placed b left) 255;
+    rtargetsIs = v ∙ filled-none 64 (placed b right) 255;
   }
 
-  pub passed-more : {s at next : ℕ} {kinds lwords rwords lcodes rcodes lwords′ rwords′ lcodes′ rcodes′ : List ℕ}
-      → Passed s at kinds lwords rwords lcodes rcodes → s < 16 → nodeForm b s ≡ true
+  pub passed-more : {s at next : ℕ} {kinds lwords rwords ltargets rtargets lwords′ rwords′ ltargets′ rtargets′ : List ℕ}
+      → Passed s at kinds lwords rwords ltargets rtargets → s < 16 → nodeForm b s ≡ true
       → next ≡ at + (1 + 2 * placesOf b)
       → lwords′ ≡ filled 64 (4 * (s + 1)) (row b left) 255 → rwords′ ≡ filled 64 (4 * (s + 1)) (row b right) 255
-      → lcodes′ ≡ filled 64 (4 * (s + 1)) (placed b left) 255 → rcodes′ ≡ filled 64 (4 * (s + 1)) (placed b right) 255
-      → Passed (s + 1) next (set kinds s (byte b at)) lwords′ rwords′ lcodes′ rcodes′
+      → ltargets′ ≡ filled 64 (4 * (s + 1)) (placed b left) 255 → rtargets′ ≡ filled 64 (4 * (s + 1)) (placed b right) 255
+      → Passed (s + 1) next (set kinds s (byte b at)) lwords′ rwords′ ltargets′ rtargets′
   passed-more {s} f h e n l r u v = record {
     formed = all-more _ s (f .formed) e;
     atIs = omega (arith, f .atIs);
     kindsIs = filled-more 16 (kindAt b) 0 s (f .kindsIs) h (ap (byte b) (f .atIs));
     lwordsIs = l;
     rwordsIs = r;
-    lcodesIs = u;
-    rcodesIs = v;
+    ltargetsIs = u;
+    rtargetsIs = v;
   }
 
-  module _ {s at : ℕ} {kinds lwords rwords lcodes rcodes : List ℕ} (f : Passed s at kinds lwords rwords lcodes rcodes) (h : s ≤ nodesOf b) (k : nodesOf b ≤ s) where
+  module _ {s at : ℕ} {kinds lwords rwords ltargets rtargets : List ℕ} (f : Passed s at kinds lwords rwords ltargets rtargets) (h : s ≤ nodesOf b) (k : nodesOf b ≤ s) where
     pub kinds-value : kinds ≡ schemeOf b .kinds
     unfolding schemeOf
     kinds-value =
@@ -101,13 +100,13 @@ module _ (b : List ℕ) where
     unfolding schemeOf
     rwords-value = words-value right (f .rwordsIs)
 
-    -- the codes of a side once all nodes are read
-    codes-value : (side : Side) {codes : List ℕ} → codes ≡ filled 64 (4 * s) (placed b side) 255 → codes ≡ list 64 (placedAt b side)
+    -- the targets of a side once all nodes are read
+    targets-value : (side : Side) {targets : List ℕ} → targets ≡ filled 64 (4 * s) (placed b side) 255 → targets ≡ list 64 (placedAt b side)
     unfolding filled
-    codes-value side e = let same : s ≡ nodesOf b = omega arith in e ∙ ap (λ (j : ℕ). filled 64 (4 * j) (placed b side) 255) same
+    targets-value side e = let same : s ≡ nodesOf b = omega arith in e ∙ ap (λ (j : ℕ). filled 64 (4 * j) (placed b side) 255) same
 
-    pub lcodes-value : lcodes ≡ list 64 (placedAt b left)
-    lcodes-value = codes-value left (f .lcodesIs)
+    pub ltargets-value : ltargets ≡ list 64 (placedAt b left)
+    ltargets-value = targets-value left (f .ltargetsIs)
 
-    pub rcodes-value : rcodes ≡ list 64 (placedAt b right)
-    rcodes-value = codes-value right (f .rcodesIs)
+    pub rtargets-value : rtargets ≡ list 64 (placedAt b right)
+    rtargets-value = targets-value right (f .rtargetsIs)

@@ -1,6 +1,6 @@
 -- One aim at a table of ends: the first arc of a node and dimension gives the entry, and later ones leave it.
 -- Assumes nothing.
-use Prim.Native.Nat.{ℕ, _+_, _*_, _/_, _%_, _<_}
+use Prim.Native.Nat.{ℕ, _+_, _*_, _/_, _%_, _≤_, _<_}
 use mathlib.Core.Path.{_≡_, refl, sym, ap, ap₂, _∙_}
 use mathlib.Core.Logic.{by-cases}
 use mathlib.Core.Bool.{Bool, true, false}
@@ -11,7 +11,7 @@ use native.Mathlib.Omega.{arith}
 use lib.ListN.{length, getD, set, length-set}
 use lib.Seq.{ext-getD, getD-set-same, getD-set-other}
 use lib.Dec.{eqb}
-use borrow.Author.Tests.{eq-eqb, ne-eqb, eqb-true}
+use borrow.Author.Tests.{eq-eqb, eqb-true, le-leb, lt-leb}
 use Rattle.base.specs.Test.{_and_}
 use Rattle.base.specs.First.{when, _orElse_}
 use Rattle.base.specs.Lists.{list}
@@ -19,19 +19,19 @@ use Rattle.base.proofs.TestLaws.{and-left, and-right, and-of, impossible}
 use Rattle.base.proofs.FirstLaws.{or-else-last}
 use Rattle.base.proofs.ListLaws.{getD-list, length-list}
 use Rattle.base.proofs.FilledLaws.{list-same}
-use Rattle.scheme.specs.Arcs.{aimed}
+use Rattle.scheme.specs.Targets.{aimed}
 
 -- ---- one aim
 
--- an entry without a target takes it
-pub aim-taken : (l : List ℕ) (at to : ℕ) → getD l at 0 ≡ 255 → set l at to ≡ aimed l at to
+-- an entry without an explicit arc takes it
+pub aim-taken : (l : List ℕ) (at to : ℕ) → 16 ≤ getD l at 0 → set l at to ≡ aimed l at to
 unfolding aimed
-aim-taken l at to e = rw (eq-eqb _ _ e) refl
+aim-taken l at to h = rw (le-leb 16 (getD l at 0) h) refl
 
--- an entry with a target keeps it
-pub aim-left : (l : List ℕ) (at to : ℕ) → (getD l at 0 ≡ 255 → ⊥) → l ≡ aimed l at to
+-- an entry with one keeps it
+pub aim-left : (l : List ℕ) (at to : ℕ) → getD l at 0 < 16 → l ≡ aimed l at to
 unfolding aimed
-aim-left l at to e = rw (ne-eqb _ _ e) refl
+aim-left l at to h = rw (lt-leb 16 (getD l at 0) h) refl
 
 -- ---- one entry of a table
 

@@ -1,4 +1,4 @@
--- The words of the nodes as they are read: what a word's place tells of the side's form, value and codes.
+-- The words of the nodes as they are read: what a word's place tells of the side's form, value and targets.
 -- Assumes nothing.
 use Prim.Native.Nat.{ℕ, _+_, _-_, _*_, _/_, _%_, _≤_, _<_}
 use mathlib.Core.Path.{_≡_, refl, sym, ap, ap₂, _∙_}
@@ -21,9 +21,9 @@ use Rattle.base.proofs.BelowLaws.{all-at, all-of}
 use Rattle.base.proofs.FirstLaws.{least-none-of, least-same}
 use Rattle.base.proofs.ListLaws.{getD-list, length-list}
 use Rattle.base.proofs.FilledLaws.{filled-over, stored-filled}
-use Rattle.model.specs.Scheme.{Side, left, right, onSide, byte, placesOf, kindAt, wordAt, wordForm, wordEmpty, upTo}
+use Rattle.model.specs.Scheme.{Side, left, right, onSide, byte, placesOf, kindAt, wordAt, wordForm, wordEmpty, upTo, placeCode, placed}
 use Rattle.scheme.specs.Words.{sideOf, wordPlace, row, freshAt, emptyAt, fitsAt}
-use Rattle.scheme.specs.Tables.{placeCode, rowed, placed}
+use Rattle.scheme.specs.Targets.{rowed}
 use Rattle.scheme.proofs.MarkLaws.{stands, length-rowed, rowed-else, rowed-at}
 
 -- ---- tests of a byte
@@ -78,7 +78,7 @@ module _ (b : List ℕ) where
       let split : k ≡ 4 * s + (k % 4) = omega arith in
       ap (row b side) split ∙ row-at side s (k % 4) (omega arith) ∙ ap (λ (t : Bool). cond t (wordAt b side s (k % 4)) 255) (le-ltb (k % 4) (placesOf b) (omega arith))
 
-  -- the codes of node s among the side's
+  -- the targets of node s among the side's
   placed-at : (side : Side) (s i : ℕ) → i < 4 → placed b side (4 * s + i) ≡ placeCode (least (placesOf b) (stands b (wordPlace b side s) i))
   unfolding placed
   placed-at side s i l =
@@ -186,17 +186,17 @@ module _ (b : List ℕ) (s other kind n places at : ℕ) (w : Placed b s other k
       (true-or-false (ltb (k - 4 * s) (placesOf b))))
 
   -- before the word is read the row of node s in the table is clear
-  pub codes-clear : {l : List ℕ} → l ≡ filled 64 (4 * s) (placed b side) 255 → (length l ≡ 64) × ((i : ℕ) → i < 4 → getD l (4 * s + i) 0 ≡ 255)
-  codes-clear e =
+  pub targets-clear : {l : List ℕ} → l ≡ filled 64 (4 * s) (placed b side) 255 → (length l ≡ 64) × ((i : ℕ) → i < 4 → getD l (4 * s + i) 0 ≡ 255)
+  targets-clear e =
       let small = w .small in
       (filled-length 64 _ 255 _ e, λ i h. filled-high 64 _ 255 _ e (4 * s + i) (omega arith) (omega arith))
 
   -- the table with the word of a node that the side has
-  pub on-codes : {l : List ℕ} → n ≤ 3 → l ≡ filled 64 (4 * s) (placed b side) 255 → all places (fitsAt b n at) ≡ true
+  pub on-targets : {l : List ℕ} → n ≤ 3 → l ≡ filled 64 (4 * s) (placed b side) 255 → all places (fitsAt b n at) ≡ true
       → rowed l (4 * s) b at places ≡ filled 64 (4 * (s + 1)) (placed b side) 255
-  on-codes {l} few e q =
+  on-targets {l} few e q =
       let small = w .small in
-      let clear = codes-clear e in
+      let clear = targets-clear e in
       let long : length (rowed l (4 * s) b at places) ≡ 64 = length-rowed b at l (4 * s) places ∙ clear .0 in
       let full : length (filled 64 (4 * (s + 1)) (placed b side) 255) ≡ 64 = filled-length 64 (placed b side) 255 (4 * (s + 1)) refl in
       ext-getD 0 _ _ (long ∙ sym full) (λ k u.
@@ -220,9 +220,9 @@ module _ (b : List ℕ) (s other kind n places at : ℕ) (w : Placed b s other k
       (true-or-false (ltb k (4 * s))))
 
   -- an empty word leaves the table as it is
-  pub off-codes : {l : List ℕ} → l ≡ filled 64 (4 * s) (placed b side) 255 → all places (emptyAt b at) ≡ true → l ≡ filled 64 (4 * (s + 1)) (placed b side) 255
+  pub off-targets : {l : List ℕ} → l ≡ filled 64 (4 * s) (placed b side) 255 → all places (emptyAt b at) ≡ true → l ≡ filled 64 (4 * (s + 1)) (placed b side) 255
   unfolding emptyAt
-  off-codes e q =
+  off-targets e q =
       filled-over 64 (placed b side) 255 (4 * s) (4 * (s + 1)) e (omega arith) (λ k h u.
       let split : k ≡ 4 * s + (k - 4 * s) = omega arith in
       let i : k - 4 * s < 4 = omega arith in

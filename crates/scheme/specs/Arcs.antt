@@ -1,11 +1,11 @@
--- The arcs of a side: what is known where they are read, and how an arc becomes the target of its ends.
+-- The arcs of a side: what is known where they are read, and the test of an arc.
 -- Assumes nothing.
 use Prim.Native.Nat.{ℕ, _+_, _*_, _≤_}
 use mathlib.Core.Path.{_≡_}
 use mathlib.Core.Logic.{_⊎_}
-use mathlib.Core.Bool.{Bool, true, false, cond}
+use mathlib.Core.Bool.{Bool, true, false}
 use mathlib.Core.List.{List}
-use lib.ListN.{length, getD, set}
+use lib.ListN.{length, getD}
 use lib.Dec.{eqb, ltb, leb}
 use Rattle.base.specs.Test.{_and_, _⇒_}
 use Rattle.base.specs.Below.{all}
@@ -32,7 +32,3 @@ keyOf d s t = d * 65536 + s * 256 + t
 unfoldable pub arcTest : ℕ → ℕ → List ℕ → ℕ → ℕ → ℕ → ℕ → ℕ → Bool
 arcTest n nodes kinds other low d s t = leb d n and leb s t and ltb t nodes
     and (eqb (getD kinds s 0) other ⇒ false) and (eqb (getD kinds t 0) other ⇒ false) and leb low (keyOf d s t)
-
--- the target at a place becomes `to` where there is none
-unfoldable pub aimed : List ℕ → ℕ → ℕ → List ℕ
-aimed l at to = cond (eqb (getD l at 0) 255) (set l at to) l

@@ -2,5 +2,5 @@ pub mod Place
 pub mod Frame
 pub mod Words
 pub mod Arcs
-pub mod Tables
+pub mod Targets
 pub mod Reading

@@ -6,7 +6,7 @@ use mathlib.Core.Bool.{Bool, true, false, cond}
 use mathlib.Core.List.{List}
 use lib.ListN.{replicate}
 use Rattle.model.specs.Scheme.{left, right, inForm, schemeOf}
-use Rattle.model.specs.Tables.{codesOf, twiceOf}
+use Rattle.model.specs.Codes.{twiceOf}
 use Rattle.model.specs.declared.Scheme.{Scheme}
 use Rattle.scheme.specs.declared.frame.Form.{Form}
 use Rattle.scheme.specs.declared.frame.Form.the-variants.{Laid, Broken}
@@ -30,13 +30,11 @@ blank = record {
   rarcs = replicate 192 0;
 }
 
--- a scheme, and beside it what is noted of its arcs
+-- a scheme, and beside it its nodes with two arcs of a dimension
 abbrev pub readAs : Bool → Scheme → Reading
 readAs ok S = record {
   ok = ok;
   scheme = S;
-  lcodes = codesOf S left;
-  rcodes = codesOf S right;
   ltwice = twiceOf S left;
   rtwice = twiceOf S right;
 }
@@ -44,8 +42,8 @@ readAs ok S = record {
 unfoldable pub reading : List ℕ → Reading
 reading b = readAs (inForm b) (cond (inForm b) (schemeOf b) blank)
 
--- arrays that are those of a scheme
-pub record Held (S : Scheme) (orbit kinds lwords rwords larcs ltargets rarcs rtargets : List ℕ) : Type 0 where
+-- arrays that are those of a scheme, and of its nodes with two arcs of a dimension
+pub record Held (S : Scheme) (orbit kinds lwords rwords larcs ltargets rarcs rtargets : List ℕ) (ltwice rtwice : List Bool) : Type 0 where
   pub orbitIs : orbit ≡ S .orbit
   pub kindsIs : kinds ≡ S .kinds
   pub lwordsIs : lwords ≡ S .lwords
@@ -54,20 +52,8 @@ pub record Held (S : Scheme) (orbit kinds lwords rwords larcs ltargets rarcs rta
   pub ltargetsIs : ltargets ≡ S .ltargets
   pub rarcsIs : rarcs ≡ S .rarcs
   pub rtargetsIs : rtargets ≡ S .rtargets
-
--- arrays with what is noted of its arcs
-pub record Noted (S : Scheme) (lcodes rcodes : List ℕ) (ltwice rtwice : List Bool) : Type 0 where
-  pub lcodesIs : lcodes ≡ codesOf S left
-  pub rcodesIs : rcodes ≡ codesOf S right
   pub ltwiceIs : ltwice ≡ twiceOf S left
   pub rtwiceIs : rtwice ≡ twiceOf S right
-
--- arrays in which nothing is noted yet
-pub record Unnoted (lcodes rcodes : List ℕ) (ltwice rtwice : List Bool) : Type 0 where
-  pub lcodesIs : lcodes ≡ replicate 64 255
-  pub rcodesIs : rcodes ≡ replicate 64 255
-  pub ltwiceIs : ltwice ≡ replicate 16 false
-  pub rtwiceIs : rtwice ≡ replicate 16 false
 
 -- numbers that are those of a scheme
 pub record Counted (S : Scheme) (n places nodes lcount rcount : ℕ) : Type 0 where
@@ -78,8 +64,8 @@ pub record Counted (S : Scheme) (n places nodes lcount rcount : ℕ) : Type 0 wh
   pub rcountIs : rcount ≡ S .rcount
 
 -- bytes in the form have their layout and their arrays
-abbrev pub Gathered : List ℕ → List ℕ → List ℕ → List ℕ → List ℕ → List ℕ → List ℕ → List ℕ → List ℕ → List ℕ → List ℕ → List Bool → List Bool → Form → Type 0
-Gathered b orbit kinds lwords rwords larcs ltargets rarcs rtargets lcodes rcodes ltwice rtwice (Laid l) =
+abbrev pub Gathered : List ℕ → List ℕ → List ℕ → List ℕ → List ℕ → List ℕ → List ℕ → List ℕ → List ℕ → List Bool → List Bool → Form → Type 0
+Gathered b orbit kinds lwords rwords larcs ltargets rarcs rtargets ltwice rtwice (Laid l) =
     (inForm b ≡ true) × Counted (schemeOf b) (l .n) (l .places) (l .nodes) (l .lcount) (l .rcount)
-    × Held (schemeOf b) orbit kinds lwords rwords larcs ltargets rarcs rtargets × Noted (schemeOf b) lcodes rcodes ltwice rtwice
-Gathered b orbit kinds lwords rwords larcs ltargets rarcs rtargets lcodes rcodes ltwice rtwice Broken = inForm b ≡ false
+    × Held (schemeOf b) orbit kinds lwords rwords larcs ltargets rarcs rtargets ltwice rtwice
+Gathered b orbit kinds lwords rwords larcs ltargets rarcs rtargets ltwice rtwice Broken = inForm b ≡ false

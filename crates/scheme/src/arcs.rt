@@ -1,4 +1,4 @@
-// The arcs of one side: each is tested and stored as it is read, and becomes the target of its ends where they have none yet.
+// The arcs of one side: each is tested and stored as it is read, and becomes the target of its ends where no earlier one is.
 use crate::cursor::wide;
 use crate::frame::Layout;
 ghost use mathlib.Core.Path.{_≡_};
@@ -7,10 +7,10 @@ ghost use Prim.Native.Nat.{_+_, _*_, _≤_, _<_};
 ghost use lib.ListN.{length, replicate};
 ghost use Rattle.base.specs.Filled.{stored};
 ghost use Rattle.base.specs.Lists.{list};
-ghost use Rattle.model.specs.Scheme.{arcByte, arcCount, arcsForm, arcsOf, targetsOf};
+ghost use Rattle.model.specs.Scheme.{arcByte, arcCount, arcsForm, arcsOf, placedAt, targetsOf};
 ghost use Rattle.scheme.specs.Words.{sideOf};
-ghost use Rattle.scheme.specs.Arcs.{ArcsPlaced, keyOf, arcTest, aimed};
-ghost use Rattle.scheme.specs.Tables.{placedAt, coded, crowded, Linked, codesTo, twiceTo};
+ghost use Rattle.scheme.specs.Arcs.{ArcsPlaced, keyOf, arcTest};
+ghost use Rattle.scheme.specs.Targets.{aimed, crowded, Linked, twiceTo};
 
 fn number(b: u8) -> u32
     ensures { λ r. ⌜ (r ≡ b) × (r ≤ 255) ⌝ }
@@ -50,42 +50,32 @@ fn arc_fits(n: u8, nodes: u8, kinds: &[u8; 16], other: u8, low: u32, d: u8, s: u
     kinds[far] != other
 }
 
-// An arc of dimension d from node s to `to`: the first of a node and dimension is the target, and the code; where there was an arc,
+// An arc of dimension d from node s to `to`: the first explicit one of a node and dimension is the target; where there was an arc,
 // explicit or implicit, the node has two.
-fn aim(
-    targets: &mut [u8; 64],
-    codes: &mut [u8; 64],
-    twice: &mut [bool; 16],
-    s: usize,
-    d: usize,
-    to: u8,
-)
+fn aim(targets: &mut [u8; 64], twice: &mut [bool; 16], s: usize, d: usize, to: u8)
     requires { ⌜ (s < 16) × (d < 4) ⌝ }
     ensures { λ _. ⌜ now (targets .exit) ≡ aimed (now (targets .entry)) (4 * s + d) to ⌝ }
-    ensures { λ _. ⌜ now (codes .exit) ≡ coded (now (targets .entry)) (now (codes .entry)) (4 * s + d) to ⌝ }
-    ensures { λ _. ⌜ now (twice .exit) ≡ crowded (now (targets .entry)) (now (codes .entry)) (now (twice .entry)) s (4 * s + d) ⌝ }
+    ensures { λ _. ⌜ now (twice .exit) ≡ crowded (now (targets .entry)) (now (twice .entry)) s (4 * s + d) ⌝ }
 {
     let at = 4 * s + d;
-    if targets[at] != 255 {
-        twice[s] = true;
-        return;
-    }
-    if codes[at] != 255 {
+    let old = targets[at];
+    if old != 255 {
         twice[s] = true;
     }
-    targets[at] = to;
-    codes[at] = to;
+    if 16 <= old {
+        targets[at] = to;
+    }
 }
 
 // Both ends of an arc; a loop has one.
-fn link(targets: &mut [u8; 64], codes: &mut [u8; 64], twice: &mut [bool; 16], d: u8, s: u8, t: u8)
+fn link(targets: &mut [u8; 64], twice: &mut [bool; 16], d: u8, s: u8, t: u8)
     requires { ⌜ (d < 4) × (s < 16) × (t < 16) ⌝ }
-    ensures { λ _. ⌜ Linked d s t (now (targets .entry)) (now (codes .entry)) (now (twice .entry)) (now (targets .exit)) (now (codes .exit)) (now (twice .exit)) ⌝ }
+    ensures { λ _. ⌜ Linked d s t (now (targets .entry)) (now (twice .entry)) (now (targets .exit)) (now (twice .exit)) ⌝ }
 {
     let i = wide(d);
-    aim(targets, codes, twice, wide(s), i, t);
+    aim(targets, twice, wide(s), i, t);
     if s != t {
-        aim(targets, codes, twice, wide(t), i, s);
+        aim(targets, twice, wide(t), i, s);
     }
 }
 
@@ -109,15 +99,12 @@ fn read_targets(
     from: usize,
     count: usize,
     targets: &mut [u8; 64],
-    codes: &mut [u8; 64],
     twice: &mut [bool; 16],
 ) -> bool
     requires { ⌜ ArcsPlaced (now bytes) l (now kinds) other from count ⌝ }
-    requires { ⌜ now targets ≡ replicate 64 255 ⌝ }
-    requires { ⌜ (now codes ≡ list 64 (placedAt (now bytes) (sideOf other))) × (now twice ≡ replicate 16 false) ⌝ }
+    requires { ⌜ (now targets ≡ list 64 (placedAt (now bytes) (sideOf other))) × (now twice ≡ replicate 16 false) ⌝ }
     ensures { λ r. ⌜ r ≡ arcsForm (now (bytes .entry)) (sideOf other) ⌝ }
     ensures { λ r. ⌜ (r ≡ true → now (targets .exit) ≡ targetsOf (now (bytes .entry)) (sideOf other)) ⌝ }
-    ensures { λ r. ⌜ (r ≡ true → now (codes .exit) ≡ codesTo (placedAt (now (bytes .entry)) (sideOf other)) (arcByte (now (bytes .entry)) (sideOf other)) (arcCount (now (bytes .entry)) (sideOf other))) ⌝ }
     ensures { λ r. ⌜ (r ≡ true → now (twice .exit) ≡ twiceTo (placedAt (now (bytes .entry)) (sideOf other)) (arcByte (now (bytes .entry)) (sideOf other)) (arcCount (now (bytes .entry)) (sideOf other))) ⌝ }
 {
     let n = l.n;
@@ -133,7 +120,7 @@ fn read_targets(
             return false;
         }
         low = key(d, s, t) + 1;
-        link(targets, codes, twice, d, s, t);
+        link(targets, twice, d, s, t);
         a += 1;
     }
     true
@@ -149,18 +136,16 @@ pub fn read_arcs(
     count: usize,
     arcs: &mut [u8; 192],
     targets: &mut [u8; 64],
-    codes: &mut [u8; 64],
     twice: &mut [bool; 16],
 ) -> bool
     requires { ⌜ ArcsPlaced (now bytes) l (now kinds) other from count ⌝ }
-    requires { ⌜ (now arcs ≡ replicate 192 0) × (now targets ≡ replicate 64 255) ⌝ }
-    requires { ⌜ (now codes ≡ list 64 (placedAt (now bytes) (sideOf other))) × (now twice ≡ replicate 16 false) ⌝ }
+    requires { ⌜ now arcs ≡ replicate 192 0 ⌝ }
+    requires { ⌜ (now targets ≡ list 64 (placedAt (now bytes) (sideOf other))) × (now twice ≡ replicate 16 false) ⌝ }
     ensures { λ r. ⌜ r ≡ arcsForm (now (bytes .entry)) (sideOf other) ⌝ }
     ensures { λ r. ⌜ now (arcs .exit) ≡ arcsOf (now (bytes .entry)) (sideOf other) ⌝ }
     ensures { λ r. ⌜ (r ≡ true → now (targets .exit) ≡ targetsOf (now (bytes .entry)) (sideOf other)) ⌝ }
-    ensures { λ r. ⌜ (r ≡ true → now (codes .exit) ≡ codesTo (placedAt (now (bytes .entry)) (sideOf other)) (arcByte (now (bytes .entry)) (sideOf other)) (arcCount (now (bytes .entry)) (sideOf other))) ⌝ }
     ensures { λ r. ⌜ (r ≡ true → now (twice .exit) ≡ twiceTo (placedAt (now (bytes .entry)) (sideOf other)) (arcByte (now (bytes .entry)) (sideOf other)) (arcCount (now (bytes .entry)) (sideOf other))) ⌝ }
 {
     copy(bytes, from, 3 * count, arcs);
-    read_targets(bytes, l, kinds, other, from, count, targets, codes, twice)
+    read_targets(bytes, l, kinds, other, from, count, targets, twice)
 }

@@ -13,16 +13,13 @@ use model::Scheme;
 use nodes::read_nodes;
 use nodes::read_orbit;
 ghost use mathlib.Core.Path.{_≡_};
-ghost use Rattle.scheme.specs.Reading.{Counted, Held, Noted, Unnoted, Gathered, blank, reading};
+ghost use Rattle.scheme.specs.Reading.{Counted, Held, Gathered, blank, reading};
 
-// What reading a scheme's bytes gives: the scheme, or a blank one beside the refusal, and what is noted of its arcs on the way, for
-// the left and for the right side: `codes` has what a node has at a dimension as one byte, at 4 * s + i, and `twice` the nodes that
-// have two arcs of a dimension (specs/Tables.antt of model).
+// What reading a scheme's bytes gives: the scheme, or a blank one beside the refusal, and the nodes that have two arcs of a dimension,
+// on the left and on the right.
 pub struct Reading {
     pub ok: bool,
     pub scheme: Scheme,
-    pub lcodes: [u8; 64],
-    pub rcodes: [u8; 64],
     pub ltwice: [bool; 16],
     pub rtwice: [bool; 16],
 }
@@ -38,14 +35,11 @@ fn gather(
     ltargets: &mut [u8; 64],
     rarcs: &mut [u8; 192],
     rtargets: &mut [u8; 64],
-    lcodes: &mut [u8; 64],
-    rcodes: &mut [u8; 64],
     ltwice: &mut [bool; 16],
     rtwice: &mut [bool; 16],
 ) -> Form
-    requires { ⌜ Held blank (now orbit) (now kinds) (now lwords) (now rwords) (now larcs) (now ltargets) (now rarcs) (now rtargets) ⌝ }
-    requires { ⌜ Unnoted (now lcodes) (now rcodes) (now ltwice) (now rtwice) ⌝ }
-    ensures { λ r. ⌜ Gathered (now (bytes .entry)) (now (orbit .exit)) (now (kinds .exit)) (now (lwords .exit)) (now (rwords .exit)) (now (larcs .exit)) (now (ltargets .exit)) (now (rarcs .exit)) (now (rtargets .exit)) (now (lcodes .exit)) (now (rcodes .exit)) (now (ltwice .exit)) (now (rtwice .exit)) r ⌝ }
+    requires { ⌜ Held blank (now orbit) (now kinds) (now lwords) (now rwords) (now larcs) (now ltargets) (now rarcs) (now rtargets) (now ltwice) (now rtwice) ⌝ }
+    ensures { λ r. ⌜ Gathered (now (bytes .entry)) (now (orbit .exit)) (now (kinds .exit)) (now (lwords .exit)) (now (rwords .exit)) (now (larcs .exit)) (now (ltargets .exit)) (now (rarcs .exit)) (now (rtargets .exit)) (now (ltwice .exit)) (now (rtwice .exit)) r ⌝ }
 {
     let Form::Laid(l) = frame(bytes) else {
         return Form::Broken;
@@ -53,7 +47,7 @@ fn gather(
     if !read_orbit(bytes, l, orbit) {
         return Form::Broken;
     }
-    if !read_nodes(bytes, l, kinds, lwords, rwords, lcodes, rcodes) {
+    if !read_nodes(bytes, l, kinds, lwords, rwords, ltargets, rtargets) {
         return Form::Broken;
     }
     if !read_arcs(
@@ -65,7 +59,6 @@ fn gather(
         wide(l.lcount),
         larcs,
         ltargets,
-        lcodes,
         ltwice,
     ) {
         return Form::Broken;
@@ -79,7 +72,6 @@ fn gather(
         wide(l.rcount),
         rarcs,
         rtargets,
-        rcodes,
         rtwice,
     ) {
         return Form::Broken;
@@ -108,17 +100,13 @@ fn settle(
     ltargets: &mut [u8; 64],
     rarcs: &mut [u8; 192],
     rtargets: &mut [u8; 64],
-    lcodes: &mut [u8; 64],
-    rcodes: &mut [u8; 64],
     ltwice: &mut [bool; 16],
     rtwice: &mut [bool; 16],
 ) -> Header
-    requires { ⌜ Held blank (now orbit) (now kinds) (now lwords) (now rwords) (now larcs) (now ltargets) (now rarcs) (now rtargets) ⌝ }
-    requires { ⌜ Unnoted (now lcodes) (now rcodes) (now ltwice) (now rtwice) ⌝ }
+    requires { ⌜ Held blank (now orbit) (now kinds) (now lwords) (now rwords) (now larcs) (now ltargets) (now rarcs) (now rtargets) (now ltwice) (now rtwice) ⌝ }
     ensures { λ r. ⌜ r .ok ≡ reading (now (bytes .entry)) .ok ⌝ }
     ensures { λ r. ⌜ Counted (reading (now (bytes .entry)) .scheme) (r .n) (r .places) (r .nodes) (r .lcount) (r .rcount) ⌝ }
-    ensures { λ r. ⌜ Held (reading (now (bytes .entry)) .scheme) (now (orbit .exit)) (now (kinds .exit)) (now (lwords .exit)) (now (rwords .exit)) (now (larcs .exit)) (now (ltargets .exit)) (now (rarcs .exit)) (now (rtargets .exit)) ⌝ }
-    ensures { λ r. ⌜ Noted (reading (now (bytes .entry)) .scheme) (now (lcodes .exit)) (now (rcodes .exit)) (now (ltwice .exit)) (now (rtwice .exit)) ⌝ }
+    ensures { λ r. ⌜ Held (reading (now (bytes .entry)) .scheme) (now (orbit .exit)) (now (kinds .exit)) (now (lwords .exit)) (now (rwords .exit)) (now (larcs .exit)) (now (ltargets .exit)) (now (rarcs .exit)) (now (rtargets .exit)) (now (ltwice .exit)) (now (rtwice .exit)) ⌝ }
 {
     match gather(
         bytes,
@@ -130,8 +118,6 @@ fn settle(
         ltargets,
         rarcs,
         rtargets,
-        lcodes,
-        rcodes,
         ltwice,
         rtwice,
     ) {
@@ -152,8 +138,6 @@ fn settle(
             *ltargets = [255u8; 64];
             *rarcs = [0u8; 192];
             *rtargets = [255u8; 64];
-            *lcodes = [255u8; 64];
-            *rcodes = [255u8; 64];
             *ltwice = [false; 16];
             *rtwice = [false; 16];
             Header {
@@ -180,8 +164,6 @@ pub fn read(bytes: &[u8]) -> Reading
     let mut ltargets = [255u8; 64];
     let mut rarcs = [0u8; 192];
     let mut rtargets = [255u8; 64];
-    let mut lcodes = [255u8; 64];
-    let mut rcodes = [255u8; 64];
     let mut ltwice = [false; 16];
     let mut rtwice = [false; 16];
     let h = settle(
@@ -194,8 +176,6 @@ pub fn read(bytes: &[u8]) -> Reading
         &mut ltargets,
         &mut rarcs,
         &mut rtargets,
-        &mut lcodes,
-        &mut rcodes,
         &mut ltwice,
         &mut rtwice,
     );
@@ -216,8 +196,6 @@ pub fn read(bytes: &[u8]) -> Reading
             rcount: h.rcount,
             rarcs: rarcs,
         },
-        lcodes: lcodes,
-        rcodes: rcodes,
         ltwice: ltwice,
         rtwice: rtwice,
     }

@@ -16,7 +16,7 @@ abbrev places : tie.After-walk → tie.After-wide
 places l = l .before .before .before .before .before
 
 abbrev walk-done : tie.After-cols → tie.After-walk
-walk-done a = a .before .before .before .before .before .before .before .before .before .before
+walk-done a = a .before .before .before .before .before .before .before .before .before .before .before
 
 unmark-requires : tie.Need-unmark-requires
 unmark-requires c κs = search needs
@@ -58,7 +58,7 @@ wide-requires-2 c κs = search needs
 
 settle-requires : tie.Need-settle-requires
 settle-requires c κs =
-    let n = c .before .before .before .before .before .before .before in
+    let n = c .before .before .before .before .before .before in
     let e = n .before in
     let a = e .before .before .before in
     let l = walk-done (a .before) in
@@ -72,14 +72,14 @@ same-length-3 c = search needs
 same-length-4 : tie.Need-same-length-4
 same-length-4 c =
     let r = c .before .before .before .before in
-    let a = r .before .before .before .before .before .before .before .before .before .before .before .before in
+    let a = r .before .before .before .before .before .before .before .before .before .before .before in
     let l = walk-done (a .before) in
     r .settle .kept .1 .1 .0 ∙ (a .assign .kept .1 .1 .0 ∙ (l .walk .kept .1 .1 .1 .1 .0 ∙ l .before .before .before .before .before .before .before .before .unmark .kept .1 .0))
 
 returns-2 : tie.Need-returns-2
 returns-2 c =
     let r = c .before .before .before .before in
-    let n = r .before .before .before .before .before .before .before .before in
+    let n = r .before .before .before .before .before .before .before in
     let e = n .before in
     let a = e .before .before .before in
     let l = walk-done (a .before) in

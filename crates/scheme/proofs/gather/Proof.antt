@@ -1,6 +1,7 @@
 -- `scheme::gather` meets its contract.
 -- Assumes nothing.
-use mathlib.Core.Path.{_≡_, sym, _∙_}
+use mathlib.Core.Path.{_≡_, refl, sym, _∙_}
+use mathlib.Core.Logic.{inl, inr}
 use mathlib.Core.Bool.{true}
 use borrow.Author.Tests.{not-true, not-false}
 use denote.Ref.{now}
@@ -9,7 +10,7 @@ use Rattle.base.specs.Below.{all}
 use Rattle.model.specs.Scheme.{left, right, nodesOf, nodeForm}
 use Rattle.scheme.specs.Frame.{LaidOut}
 use Rattle.scheme.specs.Reading.{blank}
-use Rattle.scheme.proofs.ReadLaws.{no-orbit, no-nodes, no-arcs, placed-left, placed-right, all-formed, counts, holds, notes}
+use Rattle.scheme.proofs.ReadLaws.{no-orbit, no-nodes, no-arcs, placed-side, all-formed, counts, holds, blank-twice}
 use Rattle.scheme.proofs.gather.Statement.{statement}
 use Rattle.scheme.proofs.gather.Tie as tie
 
@@ -21,7 +22,7 @@ abbrev past-orbit : tie.Else2 → tie.Else1
 past-orbit c = c .before .before .before .before .before .before .before
 
 abbrev past-nodes : tie.Else3 → tie.Else2
-past-nodes c = c .before .before .before .before .before .before .before .before
+past-nodes c = c .before .before .before .before .before .before .before
 
 laid : (c : tie.After-known-told) → LaidOut (now (c .before .before .before .before .before .args .bytes)) (c .before .l .given .0 .0)
 laid c = rw (c .before .l .given .1) at (c .before .before .before .frame .ensures)
@@ -43,7 +44,7 @@ returns c = rw (c .enum-told .given .1) at (c .before .before .frame .ensures)
 
 read-orbit-requires : tie.Need-read-orbit-requires
 unfolding blank
-read-orbit-requires c κs = (laid (c .before), c .before .before .before .before .before .before .pre .0 .orbitIs)
+read-orbit-requires c κs = (laid (c .before), c .before .before .before .before .before .before .pre .orbitIs)
 
 returns-2 : tie.Need-returns-2
 returns-2 c = no-orbit _ (sym (c .before .read-orbit .ensures .0) ∙ not-true _ (c .if1 .taken))
@@ -53,7 +54,7 @@ unfolding blank
 read-nodes-requires c κs =
     let k = told (c .before .before .before .before .before) in
     let p = k .before .before .before .before .before .pre in
-    (laid k, ((p .0 .kindsIs, p .0 .lwordsIs, p .0 .rwordsIs), (p .1 .lcodesIs, p .1 .rcodesIs)))
+    (laid k, ((p .kindsIs, p .lwordsIs, p .rwordsIs), (p .ltargetsIs, p .rtargetsIs)))
 
 returns-3 : tie.Need-returns-3
 returns-3 c = no-nodes _ (sym (c .before .read-nodes .ensures .0) ∙ not-true _ (c .if2 .taken))
@@ -64,11 +65,12 @@ wide-requires c κs = search needs
 read-arcs-requires : tie.Need-read-arcs-requires
 unfolding blank
 read-arcs-requires c κs =
-    let e = c .before .before .before .before .before .before in
+    let e = c .before .before .before .before .before in
     let k = told (past-orbit e) in
-    let p = k .before .before .before .before .before .pre in (
-      placed-left _ _ (laid k) (nodes e) (e .before .read-nodes .ensures .1 .0 (not-false _ (e .if2 .left))) (c .before .before .before .before .wide .ensures .0),
-      ((p .0 .larcsIs, p .0 .ltargetsIs), (e .before .read-nodes .ensures .1 .1 .1 .1 .0 (not-false _ (e .if2 .left)), p .1 .ltwiceIs)),
+    let p = k .before .before .before .before .before .pre in
+    let l = laid k in (
+      placed-side _ _ l (nodes e) (e .before .read-nodes .ensures .1 .0 (not-false _ (e .if2 .left))) 3 (inl refl) (l .leftsIs) (c .before .before .before .wide .ensures .0 ∙ l .lcountIs),
+      (p .larcsIs, (e .before .read-nodes .ensures .1 .1 .1 .1 .0 (not-false _ (e .if2 .left)), p .ltwiceIs ∙ blank-twice left)),
     )
 
 returns-4 : tie.Need-returns-4
@@ -80,11 +82,12 @@ wide-requires-2 c κs = search needs
 read-arcs-requires-2 : tie.Need-read-arcs-requires-2
 unfolding blank
 read-arcs-requires-2 c κs =
-    let e = past-nodes (c .before .before .before .before .before .before) in
+    let e = past-nodes (c .before .before .before .before .before) in
     let k = told (past-orbit e) in
-    let p = k .before .before .before .before .before .pre in (
-      placed-right _ _ (laid k) (nodes e) (e .before .read-nodes .ensures .1 .0 (not-false _ (e .if2 .left))) (c .before .before .before .before .wide2 .ensures .0),
-      ((p .0 .rarcsIs, p .0 .rtargetsIs), (e .before .read-nodes .ensures .1 .1 .1 .1 .1 (not-false _ (e .if2 .left)), p .1 .rtwiceIs)),
+    let p = k .before .before .before .before .before .pre in
+    let l = laid k in (
+      placed-side _ _ l (nodes e) (e .before .read-nodes .ensures .1 .0 (not-false _ (e .if2 .left))) 1 (inr refl) (l .rightsIs) (c .before .before .before .wide2 .ensures .0 ∙ l .rcountIs),
+      (p .rarcsIs, (e .before .read-nodes .ensures .1 .1 .1 .1 .1 (not-false _ (e .if2 .left)), p .rtwiceIs ∙ blank-twice right)),
     )
 
 returns-5 : tie.Need-returns-5
@@ -92,7 +95,7 @@ returns-5 c = no-arcs _ right (sym (c .before .read-arcs2 .ensures .0) ∙ not-t
 
 returns-6 : tie.Need-returns-6
 returns-6 c =
-    let lefts = c .before .before .before .before .before .before .before .before in
+    let lefts = c .before .before .before .before .before .before .before in
     let e = past-nodes lefts in
     let o = past-orbit e in
     let k = told o in
@@ -107,9 +110,8 @@ returns-6 c =
     let form = all-formed _ _ (laid k) (nodes e) (sym (orbit-read .0) ∙ orbit-held) (sym (left-read .0) ∙ left-held) (sym (right-read .0) ∙ right-held) in (
       form,
       counts _ _ (laid k) (nodes e),
-      holds _ (orbit-read .1 orbit-held) (nodes-read .1 .0 nodes-held) (nodes-read .1 .1 .0 nodes-held) (nodes-read .1 .1 .1 .0 nodes-held)
-          (left-read .1 .0) (left-read .1 .1 .0 left-held) (right-read .1 .0) (right-read .1 .1 .0 right-held),
-      notes _ form (left-read .1 .1 .1 .0 left-held) (left-read .1 .1 .1 .1 left-held) (right-read .1 .1 .1 .0 right-held) (right-read .1 .1 .1 .1 right-held),
+      holds _ form (orbit-read .1 orbit-held) (nodes-read .1 .0 nodes-held) (nodes-read .1 .1 .0 nodes-held) (nodes-read .1 .1 .1 .0 nodes-held)
+          (left-read .1 .0) (left-read .1 .1 .0 left-held) (left-read .1 .1 .1 left-held) (right-read .1 .0) (right-read .1 .1 .0 right-held) (right-read .1 .1 .1 right-held),
     )
 
 pub gather-spec : {M : Type 1} → statement M

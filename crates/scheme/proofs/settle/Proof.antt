@@ -15,11 +15,11 @@ enum-told : tie.Need-enum-told
 enum-told c = search needs
 
 returns : tie.Need-returns
-returns c = let g = rw (c .before .l .given .1) at (c .before .before .before .gather .ensures) in settled-formed _ (g .0) (g .1) (g .2) (g .3)
+returns c = let g = rw (c .before .l .given .1) at (c .before .before .before .gather .ensures) in settled-formed _ (g .0) (g .1) (g .2)
 
 returns-2 : tie.Need-returns-2
 returns-2 c =
-    let k = c .before .before .before .before .before .before .before .before .before .before .before .before in
+    let k = c .before .before .before .before .before .before .before .before .before .before in
     settled-broken _ (rw (k .enum-told .given .1) at (k .before .before .gather .ensures))
 
 pub settle-spec : {M : Type 1} → statement M

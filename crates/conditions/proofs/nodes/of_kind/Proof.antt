@@ -4,7 +4,7 @@ use Prim.Native.Nat.{_≤_, _-_}
 use mathlib.Core.Path.{_≡_}
 use mathlib.Core.Logic.{⊎-elim}
 use native.Mathlib.Omega.{arith}
-use Rattle.conditions.specs.Nodes.{Listed, NodesOf}
+use Rattle.conditions.specs.Nodes.{Listed}
 use Rattle.conditions.proofs.NodeLaws.{listed-none, listed-few, listed-skip, listed-more}
 use Rattle.conditions.proofs.nodes.of_kind.Statement.{statement}
 use Rattle.conditions.proofs.nodes.of_kind.Tie as tie

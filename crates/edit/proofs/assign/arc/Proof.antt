@@ -1,10 +1,8 @@
 -- `edit::assign::arc` meets its contract.
 -- Assumes nothing.
-use Prim.Native.Nat.{_+_, _*_, _<_}
+use Prim.Native.Nat.{_<_}
 use mathlib.Core.Path.{refl}
 use native.Mathlib.Omega.{arith}
-use lib.ListN.{length}
-use denote.Ref.{now}
 use borrow.Author.Needs.{needs}
 use Rattle.edit.proofs.ArcTestLaws.{code-none, code-explicit, code-hook, code-implicit, arc-read, firm-node, firm-explicit, firm-implicit}
 use Rattle.edit.proofs.assign.arc.Statement.{statement}

@@ -5,7 +5,7 @@ use mathlib.Core.Bool.{true}
 use denote.Ref.{now}
 use Rattle.model.specs.Scheme.{inForm, schemeOf}
 use Rattle.conditions.specs.Verdict.{VerdictOf}
-use Rattle.kernel.proofs.StageLaws.{judged, form-bad, form-good, form-refused, read-scheme, judged-good, judge-asks, read-sides, no-fault, its-fault, no-fault-accepted, stage-refused, stage-on, not-zero}
+use Rattle.kernel.proofs.StageLaws.{judged, form-bad, form-good, form-refused, read-scheme, judged-good, judge-asks, no-fault, its-fault, no-fault-accepted, stage-refused, stage-on, not-zero}
 use borrow.Author.Needs.{needs}
 use Rattle.kernel.proofs.stages.staged.Statement.{statement}
 use Rattle.kernel.proofs.stages.staged.Tie as tie
@@ -21,7 +21,7 @@ module _ (e : tie.Else1) where
 -- the scheme is judged
 module _ (j : tie.After-judge) where
   abbrev read-done : tie.Else1
-  read-done = j .before .before .before .before .before .before .before .before .before .before .before
+  read-done = j .before .before .before .before .before .before .before .before .before .before
 
   verdict : VerdictOf (read-done .before .read .result .scheme) (j .judge .result)
   verdict = j .judge .ensures (judge-asks _ _ (read-done .before .read .ensures) (form read-done))
@@ -36,18 +36,18 @@ returns : tie.Need-returns
 returns c = stage-refused _ _ _ _ _ _ (form-refused _ (form-bad _ _ (c .before .read .ensures) (c .if1 .taken)))
 
 judge-requires : tie.Need-judge-requires
-judge-requires c κs = let e = c .before .before .before .before .before .before .before .before .before .before in judge-asks _ _ (e .before .read .ensures) (form e)
+judge-requires c κs = let e = c .before .before .before .before .before .before .before .before .before in judge-asks _ _ (e .before .read .ensures) (form e)
 
 enum-told : tie.Need-enum-told
 enum-told c = search needs
 
 apply-at-requires : tie.Need-apply-at-requires
 apply-at-requires c κs =
-    let j = c .before .before .before .before .before .before .before .before in
+    let j = c .before .before .before .before .before .before in
     let e = read-done j in
     let p = e .before .before .before .before .before .pre in
     let none = no-fault _ _ (answer-is j) (c .before .before .enum-told .given .1) in
-    (p .0, (no-fault-accepted _ _ none (scheme-is e), (read-sides _ _ (e .before .read .ensures) (form e) _ (verdict j .tree), (p .1 .0, p .1 .1))))
+    (p .0, (no-fault-accepted _ _ none (scheme-is e), (verdict j .tree, (p .1 .0, p .1 .1))))
 
 same-length : tie.Need-same-length
 same-length c = search needs
@@ -59,11 +59,11 @@ returns-2 : tie.Need-returns-2
 returns-2 c =
     let a = c .before .before .before .before in
     let o = a .before .before .before in
-    let j = o .before .before .before .before .before .before in
+    let j = o .before .before .before .before in
     stage-on _ _ _ _ _ _ _ _ (no-fault _ _ (answer-is j) (o .enum-told .given .1)) (scheme-is (read-done j)) (a .apply-at .ensures)
 
 returns-3 : tie.Need-returns-3
-returns-3 c = stage-refused _ _ _ _ _ _ (its-fault _ _ (answer-is (c .before .before .before .before .before)) (λ e. not-zero (rw e at (c .match .keys2))))
+returns-3 c = stage-refused _ _ _ _ _ _ (its-fault _ _ (answer-is (c .before .before .before)) (λ e. not-zero (rw e at (c .match .keys2))))
 
 pub staged-spec : {M : Type 1} → statement M
 staged-spec =

@@ -16,9 +16,9 @@ read-targets-requires c κs = search needs
 
 returns : tie.Need-returns
 returns c =
-    let o = c .before .before .before .before in
+    let o = c .before .before .before in
     let p = o .before .before .before .pre in
-    (c .read-targets .ensures .0, (arcs-value _ _ _ _ _ _ (p .0) (p .1 .0 .0) (o .copy .ensures), c .read-targets .ensures .1))
+    (c .read-targets .ensures .0, (arcs-value _ _ _ _ _ _ (p .0) (p .1 .0) (o .copy .ensures), c .read-targets .ensures .1))
 
 pub read-arcs-spec : {M : Type 1} → statement M
 read-arcs-spec = tie.close (tie.spec mul-copy copy-requires read-targets-requires returns)

@@ -1,4 +1,4 @@
--- `scheme::arcs::read_targets` meets its contract. The loop's invariant: the first a arcs are in the form, and give the tables.
+-- `scheme::arcs::read_targets` meets its contract. The loop's invariant: the first a arcs are in the form, and give the targets.
 -- Assumes nothing.
 use Prim.Native.Nat.{_-_, _≤_}
 use mathlib.Core.Path.{_≡_, sym, _∙_}
@@ -14,10 +14,10 @@ use Rattle.scheme.proofs.arcs.read_targets.Statement.{statement}
 use Rattle.scheme.proofs.arcs.read_targets.Tie as tie
 
 abbrev Inv-loop : tie.InvT-loop
-Inv-loop bytes kinds other from count targets₀ codes₀ twice₀ n nodes low₀ a₀ targets codes twice low a = (a ≤ count) × Joined bytes other a low targets codes twice
+Inv-loop bytes kinds other from count targets₀ twice₀ n nodes low₀ a₀ targets twice low a = (a ≤ count) × Joined bytes other a low targets twice
 
 abbrev μ-loop : tie.MeasureT-loop
-μ-loop bytes kinds other from count targets₀ codes₀ twice₀ n nodes low₀ a₀ targets codes twice low a = count - a
+μ-loop bytes kinds other from count targets₀ twice₀ n nodes low₀ a₀ targets twice low a = count - a
 
 -- the test of the arc is its form
 tested : (c : tie.After-arc-fits Inv-loop μ-loop) → let l = c .before .before .before .before .before in let a = l .before .before .args in
@@ -33,7 +33,7 @@ held : (c : tie.Else1 Inv-loop μ-loop) → let l = c .before .before .before .b
 held c = sym (tested (c .before)) ∙ not-false _ (c .if1 .left)
 
 loop-holds : tie.Need-loop-holds Inv-loop μ-loop
-loop-holds c = let p = c .before .pre in (omega arith, joined-none _ _ _ _ _ _ (p .0) (p .1 .0) (p .1 .1 .0) (p .1 .1 .1))
+loop-holds c = let p = c .before .pre in (omega arith, joined-none _ _ _ _ _ _ (p .0) (p .1 .0) (p .1 .1))
 
 mul-at : tie.Need-mul-at Inv-loop μ-loop
 mul-at c = let p = c .before .before .before .pre .0 in let few = p .few in omega arith
@@ -65,7 +65,7 @@ returns c =
     let p = l .before .before .pre .0 in
     let off = sym (tested (c .before)) ∙ not-true _ (c .if1 .taken) in (
       joined-stops _ _ _ _ _ _ p (l .loop .a) (c .before .before .before .before .before .loop-test .taken) off,
-      ((λ e. absurd (true≢false (sym e))), ((λ e. absurd (true≢false (sym e))), (λ e. absurd (true≢false (sym e))))),
+      ((λ e. absurd (true≢false (sym e))), (λ e. absurd (true≢false (sym e)))),
     )
 
 key-requires : tie.Need-key-requires Inv-loop μ-loop
@@ -76,7 +76,7 @@ add-low c = omega (arith, c .key .ensures .1)
 
 link-requires : tie.Need-link-requires Inv-loop μ-loop
 link-requires c κs =
-    let e = c .before .before .before .before in
+    let e = c .before .before .before in
     let p = e .before .before .before .before .before .before .before .before .pre .0 in
     read-small _ _ _ _ _ _ p _ _ _ _ (reads _ _ _ _ _ _ p _) (held e)
 
@@ -88,7 +88,7 @@ loop-less c = omega arith
 
 loop-again : tie.Need-loop-again Inv-loop μ-loop
 loop-again c =
-    let k = c .before .before .before .before in
+    let k = c .before .before .before in
     let e = k .before in
     let l = e .before .before .before .before .before .before in
     let p = l .before .before .pre .0 in
@@ -99,7 +99,7 @@ returns-2 c =
     let l = c .before in
     let p = l .before .before .pre .0 in
     let v = joined-value _ _ _ _ _ _ p _ _ (l .loop .inv .1) (omega arith) (omega arith) in
-    (joined-form _ _ _ _ _ _ p _ _ (l .loop .inv .1) (omega arith) (omega arith), ((λ e. v .0), ((λ e. v .1), (λ e. v .2))))
+    (joined-form _ _ _ _ _ _ p _ _ (l .loop .inv .1) (omega arith) (omega arith), ((λ e. v .0), (λ e. v .1)))
 
 pub read-targets-spec : {M : Type 1} → statement M
 read-targets-spec =

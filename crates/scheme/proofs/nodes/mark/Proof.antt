@@ -30,14 +30,14 @@ returns-3 c =
     let at = ap (λ x. a .base + x) (w .wide .ensures .0) in
     (mark-twice _ _ _ _ (a .p) (w .before .before .if1 .left) (w .before .if2 .left) at (c .if3 .taken), λ e. absurd (true≢false (sym e)))
 
-cast-codes : tie.Need-cast-codes
-cast-codes c = search needs
+cast-targets : tie.Need-cast-targets
+cast-targets c = search needs
 
-add-codes : tie.Need-add-codes
-add-codes c = search needs
+add-targets : tie.Need-add-targets
+add-targets c = search needs
 
-element-write-codes : tie.Need-element-write-codes
-element-write-codes c = search needs
+element-write-targets : tie.Need-element-write-targets
+element-write-targets c = search needs
 
 returns-4 : tie.Need-returns-4
 returns-4 c =
@@ -57,7 +57,7 @@ mark-spec =
     add-at
     element-copy-out-if3
     returns-3
-    cast-codes
-    add-codes
-    element-write-codes
+    cast-targets
+    add-targets
+    element-write-targets
     returns-4)

@@ -12,16 +12,16 @@ use Rattle.base.proofs.BelowLaws.{all-stops, all-ends}
 use Rattle.model.specs.Scheme.{placesOf, nodesOf}
 use Rattle.scheme.specs.Frame.{LaidOut}
 use Rattle.scheme.proofs.FrameLaws.{node-inside}
-use Rattle.scheme.proofs.NodeLaws.{Passed, passed-none, passed-more, kinds-value, lwords-value, rwords-value, lcodes-value, rcodes-value}
+use Rattle.scheme.proofs.NodeLaws.{Passed, passed-none, passed-more, kinds-value, lwords-value, rwords-value, ltargets-value, rtargets-value}
 use Rattle.scheme.proofs.nodes.read_nodes.Statement.{statement}
 use Rattle.scheme.proofs.nodes.read_nodes.Tie as tie
 
 abbrev Inv-loop : tie.InvT-loop
-Inv-loop bytes l kinds₀ lwords₀ rwords₀ lcodes₀ rcodes₀ places nodes at₀ s₀ kinds lwords rwords lcodes rcodes at s =
-    (s ≤ nodes) × Passed bytes s at kinds lwords rwords lcodes rcodes
+Inv-loop bytes l kinds₀ lwords₀ rwords₀ ltargets₀ rtargets₀ places nodes at₀ s₀ kinds lwords rwords ltargets rtargets at s =
+    (s ≤ nodes) × Passed bytes s at kinds lwords rwords ltargets rtargets
 
 abbrev μ-loop : tie.MeasureT-loop
-μ-loop bytes l kinds₀ lwords₀ rwords₀ lcodes₀ rcodes₀ places nodes at₀ s₀ kinds lwords rwords lcodes rcodes at s = nodes - s
+μ-loop bytes l kinds₀ lwords₀ rwords₀ ltargets₀ rtargets₀ places nodes at₀ s₀ kinds lwords rwords ltargets rtargets at s = nodes - s
 
 -- what the layout tells before the loop
 known : (c : tie.After-wide2 Inv-loop μ-loop) → let a = c .before .before .before .args in let b = now (a .bytes) in
@@ -55,7 +55,7 @@ read-node-requires c κs =
     let l = c .before .before .before .before .before in
     let i = l .loop .inv .1 in
     let k = known (l .before) in
-    (k .2, ((omega arith, i .atIs), (i .lwordsIs, (i .rwordsIs, (i .lcodesIs, i .rcodesIs)))))
+    (k .2, ((omega arith, i .atIs), (i .lwordsIs, (i .rwordsIs, (i .ltargetsIs, i .rtargetsIs)))))
 
 returns : tie.Need-returns Inv-loop μ-loop
 returns c =
@@ -101,7 +101,7 @@ returns-2 c =
     let i = l .loop .inv .1 in
     let h : l .loop .s ≤ nodesOf (now (l .before .before .before .before .args .bytes)) = omega arith in
     let g : nodesOf (now (l .before .before .before .before .args .bytes)) ≤ l .loop .s = omega arith in
-    (all-ends _ _ _ (i .formed) h g, ((λ e. kinds-value _ i h g), ((λ e. lwords-value _ i h g), ((λ e. rwords-value _ i h g), ((λ e. lcodes-value _ i h g), (λ e. rcodes-value _ i h g))))))
+    (all-ends _ _ _ (i .formed) h g, ((λ e. kinds-value _ i h g), ((λ e. lwords-value _ i h g), ((λ e. rwords-value _ i h g), ((λ e. ltargets-value _ i h g), (λ e. rtargets-value _ i h g))))))
 
 pub read-nodes-spec : {M : Type 1} → statement M
 read-nodes-spec =

@@ -8,7 +8,7 @@ use lib.ListN.{length}
 use Rattle.scheme.specs.Words.{sideOf}
 use borrow.Author.Needs.{needs}
 use Rattle.scheme.proofs.FrameLaws.{dimension-small, places-small, word-inside}
-use Rattle.scheme.proofs.WordLaws.{Placed, on-form, on-value, on-codes, off-form, off-value, off-codes, codes-clear}
+use Rattle.scheme.proofs.WordLaws.{Placed, on-form, on-value, on-targets, off-form, off-value, off-targets, targets-clear}
 use Rattle.scheme.proofs.nodes.read_side.Statement.{statement}
 use Rattle.scheme.proofs.nodes.read_side.Tie as tie
 
@@ -54,7 +54,7 @@ returns c =
       off-form _ _ _ _ _ _ _ w (c .before .if1 .taken) (c .empty .ensures),
       (
         (λ e. off-value _ _ _ _ _ _ _ w (p .0) (sym (c .empty .ensures) ∙ e)),
-        (λ e. off-codes _ _ _ _ _ _ _ w (p .1) (sym (c .empty .ensures) ∙ e)),
+        (λ e. off-targets _ _ _ _ _ _ _ w (p .1) (sym (c .empty .ensures) ∙ e)),
       ),
     )
 
@@ -67,7 +67,7 @@ read-word-requires c κs =
     let h = inside a in
     let w = placed a in
     let few = w .few in
-    ((dimension a, omega arith, omega (arith, w .placesIs), omega arith), codes-clear _ _ _ _ _ _ _ w (a .before .before .pre .1 .1 .1 .1))
+    ((dimension a, omega arith, omega (arith, w .placesIs), omega arith), targets-clear _ _ _ _ _ _ _ w (a .before .before .pre .1 .1 .1 .1))
 
 returns-2 : tie.Need-returns-2
 returns-2 c =
@@ -78,7 +78,7 @@ returns-2 c =
       on-form _ _ _ _ _ _ _ w (c .before .before .before .if1 .left) (r .0),
       (
         (λ e. r .1 .0 e ∙ on-value _ _ _ _ _ _ _ w (p .0)),
-        (λ e. r .1 .1 e ∙ on-codes _ _ _ _ _ _ _ w (dimension a) (p .1) (sym (r .0) ∙ e)),
+        (λ e. r .1 .1 e ∙ on-targets _ _ _ _ _ _ _ w (dimension a) (p .1) (sym (r .0) ∙ e)),
       ),
     )
 

@@ -11,16 +11,16 @@ use Rattle.base.specs.Filled.{stored}
 use Rattle.base.proofs.BelowLaws.{all-none, all-more, all-stops, all-ends}
 use Rattle.base.proofs.FilledLaws.{stored-none, stored-more, stored-all}
 use Rattle.scheme.specs.Words.{fitsAt}
-use Rattle.scheme.specs.Tables.{rowed}
+use Rattle.scheme.specs.Targets.{rowed}
 use Rattle.scheme.proofs.MarkLaws.{rowed-none, rowed-more, rowed-all, rowed-fits}
 use Rattle.scheme.proofs.nodes.read_word.Statement.{statement}
 use Rattle.scheme.proofs.nodes.read_word.Tie as tie
 
 abbrev Inv-loop : tie.InvT-loop
-Inv-loop bytes n places at words₀ codes₀ base p₀ words codes p = (p ≤ places) × (all p (fitsAt bytes n at) ≡ true) × (words ≡ stored words₀ base bytes at p) × (codes ≡ rowed codes₀ base bytes at p)
+Inv-loop bytes n places at words₀ targets₀ base p₀ words targets p = (p ≤ places) × (all p (fitsAt bytes n at) ≡ true) × (words ≡ stored words₀ base bytes at p) × (targets ≡ rowed targets₀ base bytes at p)
 
 abbrev μ-loop : tie.MeasureT-loop
-μ-loop bytes n places at words₀ codes₀ base p₀ words codes p = places - p
+μ-loop bytes n places at words₀ targets₀ base p₀ words targets p = places - p
 
 -- whether the byte could be marked is whether it fits
 fits : (c : tie.After-mark Inv-loop μ-loop) → let l = c .before .before .before .before in let a = l .before .before .args in

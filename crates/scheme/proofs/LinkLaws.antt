@@ -1,4 +1,4 @@
--- The tables of a side as its arcs are read: targets, codes, and the nodes that have two arcs of a dimension.
+-- The targets of a side, and its nodes with two arcs of a dimension, as its arcs are read.
 -- Assumes nothing.
 use Prim.Native.Nat.{ℕ, _+_, _*_, _/_, _%_, _≤_, _<_}
 use mathlib.Core.Path.{_≡_, refl, sym, ap, ap₂, _∙_}
@@ -16,67 +16,43 @@ use Rattle.base.specs.Test.{_and_, _or_, bit}
 use Rattle.base.specs.Below.{any, count}
 use Rattle.base.specs.First.{first, least, when, _orElse_}
 use Rattle.base.specs.Lists.{list}
-use Rattle.base.proofs.TestLaws.{and-left, and-right, and-of, and-no-left, and-no-right, impossible, same-test}
+use Rattle.base.proofs.TestLaws.{and-left, and-right, and-of, and-no-right, impossible, same-test}
 use Rattle.base.proofs.BelowLaws.{any-at, any-of, count-step}
 use Rattle.base.proofs.FirstLaws.{some-not-none, or-else-cases, or-else-none, when-at, when-none, first-step, least-at}
 use Rattle.base.proofs.ListLaws.{getD-list, length-list}
-use Rattle.base.proofs.FilledLaws.{list-same, list-all}
-use Rattle.model.specs.Scheme.{Side, placesOf, nodesOf, wordAt, touching, farEnd}
-use Rattle.scheme.specs.Arcs.{aimed}
-use Rattle.scheme.specs.Tables.{placeCode, placed, placedAt, coded, crowded, Linked, loop, ends}
+use Rattle.base.proofs.FilledLaws.{list-same}
+use Rattle.model.specs.Scheme.{Side, placesOf, nodesOf, wordAt, touching, farEnd, placeCode, placed, placedAt}
+use Rattle.scheme.specs.Targets.{aimed, crowded, Linked, loop, ends}
 use Rattle.scheme.proofs.TargetLaws.{aim-taken, aim-left, hits, more, ends-at, ends-set, ends-kept}
 
 -- ---- one aim
 
--- the entry has a target: its code stays
-pub coded-left : (targets codes : List ℕ) (at to : ℕ) → (getD targets at 0 ≡ 255 → ⊥) → codes ≡ coded targets codes at to
-unfolding coded
-coded-left targets codes at to e = rw (ne-eqb _ _ e) refl
-
--- the entry has a target: its node has two arcs
-pub crowded-left : (targets codes : List ℕ) (twice : List Bool) (s at : ℕ) → (getD targets at 0 ≡ 255 → ⊥)
-    → set twice s true ≡ crowded targets codes twice s at
+-- an arc stands there: its node has two
+pub crowded-taken : (targets : List ℕ) (twice : List Bool) (s at : ℕ) → (getD targets at 0 ≡ 255 → ⊥) → set twice s true ≡ crowded targets twice s at
 unfolding crowded
-crowded-left targets codes twice s at e = sym (ap (λ (t : Bool). cond t twice (set twice s true)) (and-no-left _ (ne-eqb _ _ e)))
-
--- the entry has no target: it takes the code
-pub coded-taken : (targets codes : List ℕ) (at to : ℕ) → getD targets at 0 ≡ 255 → set codes at to ≡ coded targets codes at to
-unfolding coded
-coded-taken targets codes at to e = rw (eq-eqb _ _ e) refl
-
--- an implicit arc stands there: its node has two
-pub crowded-taken : (targets codes : List ℕ) (twice : List Bool) (s at : ℕ) → (getD codes at 0 ≡ 255 → ⊥)
-    → set twice s true ≡ crowded targets codes twice s at
-unfolding crowded
-crowded-taken targets codes twice s at e = sym (ap (λ (t : Bool). cond t twice (set twice s true)) (and-no-right _ (ne-eqb _ _ e)))
+crowded-taken targets twice s at e = rw (ne-eqb _ _ e) refl
 
 -- nothing stands there: no node has two by this arc
-pub crowded-free : (targets codes : List ℕ) (twice : List Bool) (s at : ℕ) → getD targets at 0 ≡ 255 → getD codes at 0 ≡ 255
-    → twice ≡ crowded targets codes twice s at
+pub crowded-free : (targets : List ℕ) (twice : List Bool) (s at : ℕ) → getD targets at 0 ≡ 255 → twice ≡ crowded targets twice s at
 unfolding crowded
-crowded-free targets codes twice s at e f = sym (ap (λ (t : Bool). cond t twice (set twice s true)) (and-of (eq-eqb _ _ e) (eq-eqb _ _ f)))
+crowded-free targets twice s at e = rw (eq-eqb _ _ e) refl
 
--- the tables after one aim
-abbrev pub Aimed : ℕ → ℕ → ℕ → List ℕ → List ℕ → List Bool → List ℕ → List ℕ → List Bool → Type 0
-Aimed s d to targets codes twice targets′ codes′ twice′ = (targets′ ≡ aimed targets (4 * s + d) to)
-    × ((codes′ ≡ coded targets codes (4 * s + d) to) × (twice′ ≡ crowded targets codes twice s (4 * s + d)))
+-- after one aim
+abbrev pub Aimed : ℕ → ℕ → ℕ → List ℕ → List Bool → List ℕ → List Bool → Type 0
+Aimed s d to targets twice targets′ twice′ = (targets′ ≡ aimed targets (4 * s + d) to) × (twice′ ≡ crowded targets twice s (4 * s + d))
 
 -- a loop is one aim
-pub loop-is : {d s t i x : ℕ} {targets codes targets′ codes′ : List ℕ} {twice twice′ : List Bool} → i ≡ d → x ≡ s → s ≡ t
-    → Aimed x i t targets codes twice targets′ codes′ twice′ → Linked d s t targets codes twice targets′ codes′ twice′
-loop-is {t = t} {targets = targets} {codes} {twice = twice} e f g (p, (q, r)) = loop g
+pub loop-is : {d s t i x : ℕ} {targets targets′ : List ℕ} {twice twice′ : List Bool} → i ≡ d → x ≡ s → s ≡ t
+    → Aimed x i t targets twice targets′ twice′ → Linked d s t targets twice targets′ twice′
+loop-is {t = t} {targets = targets} {twice = twice} e f g (p, r) = loop g
     (p ∙ ap₂ (λ (y j : ℕ). aimed targets (4 * y + j) t) f e)
-    (q ∙ ap₂ (λ (y j : ℕ). coded targets codes (4 * y + j) t) f e)
-    (r ∙ ap₂ (λ (y j : ℕ). crowded targets codes twice y (4 * y + j)) f e)
+    (r ∙ ap₂ (λ (y j : ℕ). crowded targets twice y (4 * y + j)) f e)
 
 -- another arc is two aims
-pub ends-are : {d s t i x y : ℕ} {targets codes targets₁ codes₁ targets′ codes′ : List ℕ} {twice twice₁ twice′ : List Bool} → i ≡ d → x ≡ s → y ≡ t
-    → (s ≡ t → ⊥) → Aimed x i t targets codes twice targets₁ codes₁ twice₁ → Aimed y i s targets₁ codes₁ twice₁ targets′ codes′ twice′
-    → Linked d s t targets codes twice targets′ codes′ twice′
-ends-are e f g ne (p, (q, r)) (u, (v, w)) = ends ne
-    (u ∙ rw (p, e, f, g) refl)
-    (v ∙ rw (p, q, e, f, g) refl)
-    (w ∙ rw (p, q, r, e, f, g) refl)
+pub ends-are : {d s t i x y : ℕ} {targets targets₁ targets′ : List ℕ} {twice twice₁ twice′ : List Bool} → i ≡ d → x ≡ s → y ≡ t
+    → (s ≡ t → ⊥) → Aimed x i t targets twice targets₁ twice₁ → Aimed y i s targets₁ twice₁ targets′ twice′
+    → Linked d s t targets twice targets′ twice′
+ends-are e f g ne (p, r) (u, w) = ends ne (u ∙ rw (p, e, f, g) refl) (w ∙ rw (p, r, e, f, g) refl)
 
 -- ---- flags
 
@@ -110,28 +86,30 @@ any-same n p q h = same-test _ _
     (λ t. let w = any-at n p t in any-of n q (w .0) (w .1) (sym (h (w .0) (w .1)) ∙ w .2))
     (λ t. let w = any-at n q t in any-of n p (w .0) (w .1) (h (w .0) (w .1) ∙ w .2))
 
--- ---- the tables by ends and counts
+-- ---- targets by ends and counts
 
 module _ (place : ℕ → ℕ) where
   -- node u has two arcs of dimension i
   abbrev over : (ℕ → ℕ → ℕ) → ℕ → ℕ → Bool
   over N u i = leb 2 (N u i + bit (ltb (place (4 * u + i)) 255))
 
-  -- the tables show ends E, of which there are N: there is an end just where there are some
-  pub record Shown (E : ℕ → ℕ → Option ℕ) (N : ℕ → ℕ → ℕ) (targets codes : List ℕ) (twice : List Bool) : Type 0 where
-    pub targetsAre : targets ≡ list 64 (λ k. Option·getD (E (k / 4) (k % 4)) 255)
-    pub codesAre : codes ≡ list 64 (λ k. Option·getD (E (k / 4) (k % 4)) (place k))
+  -- what stands for an implicit arc, or for none, is a byte that is no node
+  abbrev pub Places : Type 0
+  Places = (k : ℕ) → (16 ≤ place k) × (place k ≤ 255)
+
+  -- the targets show ends E, of which there are N: there is an end just where there are some
+  pub record Shown (E : ℕ → ℕ → Option ℕ) (N : ℕ → ℕ → ℕ) (targets : List ℕ) (twice : List Bool) : Type 0 where
+    pub targetsAre : targets ≡ list 64 (λ k. Option·getD (E (k / 4) (k % 4)) (place k))
     pub twiceAre : twice ≡ list 16 (λ u. any 4 (λ i. leb 2 (N u i + bit (ltb (place (4 * u + i)) 255))))
     pub small : (u i x : ℕ) → E u i ≡ some x → x < 16
     pub empty : (u i : ℕ) → E u i ≡ none → N u i ≡ 0
     pub counted : (u i x : ℕ) → E u i ≡ some x → 1 ≤ N u i
 
-  -- ends and counts that agree are shown by the same tables
-  shown-same : {E F : ℕ → ℕ → Option ℕ} {N M : ℕ → ℕ → ℕ} {targets codes : List ℕ} {twice : List Bool} → ((u i : ℕ) → E u i ≡ F u i)
-      → ((u i : ℕ) → N u i ≡ M u i) → Shown E N targets codes twice → Shown F M targets codes twice
+  -- ends and counts that agree are shown by the same targets
+  shown-same : {E F : ℕ → ℕ → Option ℕ} {N M : ℕ → ℕ → ℕ} {targets : List ℕ} {twice : List Bool} → ((u i : ℕ) → E u i ≡ F u i)
+      → ((u i : ℕ) → N u i ≡ M u i) → Shown E N targets twice → Shown F M targets twice
   shown-same e n w = record {
-    targetsAre = w .targetsAre ∙ list-same 64 _ _ (λ k h. ap (λ (o : Option ℕ). Option·getD o 255) (e (k / 4) (k % 4)));
-    codesAre = w .codesAre ∙ list-same 64 _ _ (λ k h. ap (λ (o : Option ℕ). Option·getD o (place k)) (e (k / 4) (k % 4)));
+    targetsAre = w .targetsAre ∙ list-same 64 _ _ (λ k h. ap (λ (o : Option ℕ). Option·getD o (place k)) (e (k / 4) (k % 4)));
     twiceAre = w .twiceAre ∙ flags-same 16 _ _ (λ u h. any-same 4 _ _ (λ i l. ap (λ (m : ℕ). leb 2 (m + bit (ltb (place (4 * u + i)) 255))) (n u i)));
     small = λ u i x q. w .small u i x (e u i ∙ q);
     empty = λ u i q. sym (n u i) ∙ w .empty u i (e u i ∙ q);
@@ -170,13 +148,11 @@ module _ (place : ℕ → ℕ) where
             ∙ sym (ap₂ (λ (m : ℕ) (t : Bool). leb 2 (m + bit t)) (ap₂ (λ (m : ℕ) (t : Bool). m + bit t) n q) p)
 
     -- what stays true of ends and counts with an arc of dimension d from node s to `to` more
-    grown : {targets codes targets′ codes′ : List ℕ} {twice twice′ : List Bool} → to < 16 → Shown E N targets codes twice
-        → targets′ ≡ list 64 (λ k. Option·getD (more E d s to (k / 4) (k % 4)) 255)
-        → codes′ ≡ list 64 (λ k. Option·getD (more E d s to (k / 4) (k % 4)) (place k))
-        → twice′ ≡ list 16 (λ u. any 4 (over (plus N d s) u)) → Shown (more E d s to) (plus N d s) targets′ codes′ twice′
-    grown ht w a b c = record {
-      targetsAre = a;
-      codesAre = b;
+    grown : {targets targets′ : List ℕ} {twice twice′ : List Bool} → to < 16 → Shown E N targets twice
+        → targets′ ≡ list 64 (λ k. Option·getD (more E d s to (k / 4) (k % 4)) (place k))
+        → twice′ ≡ list 16 (λ u. any 4 (over (plus N d s) u)) → Shown (more E d s to) (plus N d s) targets′ twice′
+    grown ht w b c = record {
+      targetsAre = b;
       twiceAre = c;
       small = λ u i x q. ⊎-elim
           (λ e. w .small u i x e)
@@ -192,42 +168,38 @@ module _ (place : ℕ → ℕ) where
     }
 
     -- an arc of dimension d from node s to `to` more
-    pub shown-more : {targets codes : List ℕ} {twice : List Bool} → to < 16 → ((k : ℕ) → place k ≤ 255) → Shown E N targets codes twice
-        → Shown (more E d s to) (plus N d s) (aimed targets (4 * s + d) to) (coded targets codes (4 * s + d) to) (crowded targets codes twice s (4 * s + d))
-    shown-more {targets} {codes} {twice} ht fits w = go (E s d) refl
+    pub shown-more : {targets : List ℕ} {twice : List Bool} → to < 16 → Places → Shown E N targets twice
+        → Shown (more E d s to) (plus N d s) (aimed targets (4 * s + d) to) (crowded targets twice s (4 * s + d))
+    shown-more {targets} {twice} ht fits w = go (E s d) refl
       where
-        at-target : (o : Option ℕ) → E s d ≡ o → getD targets (4 * s + d) 0 ≡ Option·getD o 255
-        at-target o q = ends-at E (λ k. 255) d s (w .targetsAre) hs hd ∙ ap (λ (p : Option ℕ). Option·getD p 255) q
+        at-entry : (o : Option ℕ) → E s d ≡ o → getD targets (4 * s + d) 0 ≡ Option·getD o (place (4 * s + d))
+        at-entry o q = ends-at E place d s (w .targetsAre) hs hd ∙ ap (λ (p : Option ℕ). Option·getD p (place (4 * s + d))) q
 
-        at-code : E s d ≡ none → getD codes (4 * s + d) 0 ≡ place (4 * s + d)
-        at-code q = ends-at E place d s (w .codesAre) hs hd ∙ ap (λ (p : Option ℕ). Option·getD p (place (4 * s + d))) q
-
-        flagged : E s d ≡ none → crowded targets codes twice s (4 * s + d) ≡ list 16 (λ u. any 4 (over (plus N d s) u))
+        flagged : E s d ≡ none → crowded targets twice s (4 * s + d) ≡ list 16 (λ u. any 4 (over (plus N d s) u))
         flagged q = by-cases (ℕ-discrete (place (4 * s + d)) 255)
             (λ e.
-            sym (crowded-free targets codes twice s (4 * s + d) (at-target none q) (at-code q ∙ e)) ∙ w .twiceAre
+            sym (crowded-free targets twice s (4 * s + d) (at-entry none q ∙ e)) ∙ w .twiceAre
             ∙ flags-same 16 _ _ (λ u h. alone (w .empty s d q) (le-ltb (place (4 * s + d)) 255 (omega arith)) u))
             (λ ne.
-            let less : place (4 * s + d) < 255 = omega (arith, fits (4 * s + d)) in
+            let less : place (4 * s + d) < 255 = omega (arith, fits (4 * s + d) .1) in
             let one : bit (ltb (place (4 * s + d)) 255) ≡ 1 = ap bit (lt-ltb _ _ less) in
-            sym (crowded-taken targets codes twice s (4 * s + d) (λ e. ne (sym (at-code q) ∙ e)))
+            sym (crowded-taken targets twice s (4 * s + d) (λ e. ne (sym (at-entry none q) ∙ e)))
             ∙ flags-set 16 _ _ s (w .twiceAre) hs (made (omega arith)) else-where)
 
         go : (o : Option ℕ) → E s d ≡ o
-            → Shown (more E d s to) (plus N d s) (aimed targets (4 * s + d) to) (coded targets codes (4 * s + d) to) (crowded targets codes twice s (4 * s + d))
-        go none q = grown ht w
-            (sym (aim-taken targets (4 * s + d) to (at-target none q)) ∙ ends-set E (λ k. 255) d s to (w .targetsAre) hs hd q)
-            (sym (coded-taken targets codes (4 * s + d) to (at-target none q)) ∙ ends-set E place d s to (w .codesAre) hs hd q)
+            → Shown (more E d s to) (plus N d s) (aimed targets (4 * s + d) to) (crowded targets twice s (4 * s + d))
+        go none q =
+            let here : getD targets (4 * s + d) 0 ≡ place (4 * s + d) = at-entry none q in
+            grown ht w
+            (sym (aim-taken targets (4 * s + d) to (omega (arith, fits (4 * s + d) .0))) ∙ ends-set E place d s to (w .targetsAre) hs hd q)
             (flagged q)
         go (some x) q =
             let less : x < 16 = w .small s d x q in
-            let here : getD targets (4 * s + d) 0 ≡ x = at-target (some x) q in
-            let full : getD targets (4 * s + d) 0 ≡ 255 → ⊥ = λ e. omega arith in
+            let here : getD targets (4 * s + d) 0 ≡ x = at-entry (some x) q in
             let some-there : 1 ≤ N s d = w .counted s d x q in
             grown ht w
-            (sym (aim-left targets (4 * s + d) to full) ∙ ends-kept E (λ k. 255) d s to x (w .targetsAre) hd q)
-            (sym (coded-left targets codes (4 * s + d) to full) ∙ ends-kept E place d s to x (w .codesAre) hd q)
-            (sym (crowded-left targets codes twice s (4 * s + d) full) ∙ flags-set 16 _ _ s (w .twiceAre) hs (made (omega arith)) else-where)
+            (sym (aim-left targets (4 * s + d) to (omega arith)) ∙ ends-kept E place d s to x (w .targetsAre) hd q)
+            (sym (crowded-taken targets twice s (4 * s + d) (λ e. omega arith)) ∙ flags-set 16 _ _ s (w .twiceAre) hs (made (omega arith)) else-where)
 
   -- ---- one arc
 
@@ -236,13 +208,12 @@ module _ (place : ℕ → ℕ) where
     abbrev pub touches : ℕ → ℕ → ℕ → ℕ
     touches a u i = count a (touching part u i)
 
-    -- without arcs the tables have the implicit ones, of which a node and dimension has at most one
-    pub shown-none : {targets codes : List ℕ} {twice : List Bool} → targets ≡ replicate 64 255 → codes ≡ list 64 place → twice ≡ replicate 16 false
-        → Shown (farEnd part 0) (touches 0) targets codes twice
+    -- without arcs the targets are the implicit ones, of which a node and dimension has at most one
+    pub shown-none : {targets : List ℕ} {twice : List Bool} → targets ≡ list 64 place → twice ≡ replicate 16 false
+        → Shown (farEnd part 0) (touches 0) targets twice
     unfolding farEnd first count
-    shown-none e f g = record {
-      targetsAre = e ∙ list-all 64 255 _ (λ k h. refl);
-      codesAre = f ∙ list-same 64 _ _ (λ k h. refl);
+    shown-none f g = record {
+      targetsAre = f ∙ list-same 64 _ _ (λ k h. refl);
       twiceAre = g ∙ flags-all 16 false _ (λ u h. impossible _ (λ t. let w = any-at 4 _ t in one (ltb (place (4 * u + w .0)) 255) (w .2)));
       small = λ u i x q. absurd (some-not-none q refl);
       empty = λ u i q. refl;
@@ -300,27 +271,26 @@ module _ (place : ℕ → ℕ) where
       count-ends true false Y n e = omega arith
 
       -- arc a more
-      pub linked-more : {targets codes targets′ codes′ : List ℕ} {twice twice′ : List Bool} → d < 4 → s < 16 → t < 16 → ((k : ℕ) → place k ≤ 255)
-          → Shown (farEnd part a) (touches a) targets codes twice → Linked d s t targets codes twice targets′ codes′ twice′
-          → Shown (farEnd part (a + 1)) (touches (a + 1)) targets′ codes′ twice′
+      pub linked-more : {targets targets′ : List ℕ} {twice twice′ : List Bool} → d < 4 → s < 16 → t < 16 → Places
+          → Shown (farEnd part a) (touches a) targets twice → Linked d s t targets twice targets′ twice′
+          → Shown (farEnd part (a + 1)) (touches (a + 1)) targets′ twice′
       unfolding farEnd
-      linked-more hd hs ht fits w (loop e p q r) = rw (p, q, r) (shown-same
+      linked-more hd hs ht fits w (loop e p r) = rw (p, r) (shown-same
           (λ u i. end-loop (eqb d i) (eqb s u) (eqb t u) (farEnd part a u i) (ap (λ (x : ℕ). eqb x u) e) ∙ sym (first-step a _))
           (λ u i. count-loop (eqb d i) (eqb s u) (eqb t u) (touches a u i) (ap (λ (x : ℕ). eqb x u) e) ∙ sym (count-step a (touching part u i)))
           (shown-more (farEnd part a) (touches a) d s t hs hd ht fits w))
-      linked-more hd hs ht fits w (ends ne p q r) = rw (p, q, r) (shown-same
+      linked-more hd hs ht fits w (ends ne p r) = rw (p, r) (shown-same
           (λ u i. end-ends (eqb d i) (eqb s u) (eqb t u) (farEnd part a u i) ∙ sym (first-step a _))
           (λ u i. count-ends (eqb d i) (eqb s u) (eqb t u) (touches a u i) (λ x y. ne (eqb-true _ _ x ∙ sym (eqb-true _ _ y))) ∙ sym (count-step a (touching part u i)))
           (shown-more (more (farEnd part a) d s t) (plus (touches a) d s) d t s ht hd hs fits (shown-more (farEnd part a) (touches a) d s t hs hd ht fits w)))
 
 -- ---- implicit arcs
 
--- what stands for an implicit arc is a byte
-pub placed-byte : (b : List ℕ) (side : Side) → placesOf b ≤ 4 → (k : ℕ) → placedAt b side k ≤ 255
+pub places : (b : List ℕ) (side : Side) → placesOf b ≤ 4 → Places (placedAt b side)
 unfolding placed
-placed-byte b side few k = go (ltb k (4 * nodesOf b)) (least (placesOf b) _) refl
+places b side few k = go (ltb k (4 * nodesOf b)) (least (placesOf b) _) refl
   where
-    go : (t : Bool) (o : Option ℕ) → least (placesOf b) (λ p. eqb (wordAt b side (k / 4) p) (k % 4)) ≡ o → cond t (placeCode o) 255 ≤ 255
-    go false o e = omega arith
-    go true none e = omega arith
-    go true (some p) e = let l = least-at (placesOf b) _ p e .0 in omega arith
+    go : (t : Bool) (o : Option ℕ) → least (placesOf b) (λ p. eqb (wordAt b side (k / 4) p) (k % 4)) ≡ o → (16 ≤ cond t (placeCode o) 255) × (cond t (placeCode o) 255 ≤ 255)
+    go false o e = (omega arith, omega arith)
+    go true none e = (omega arith, omega arith)
+    go true (some p) e = let l = least-at (placesOf b) _ p e .0 in (omega arith, omega arith)
