@@ -123,32 +123,16 @@ blank-twice left = sym (blank-held .ltwiceIs)
 blank-twice right = sym (blank-held .rtwiceIs)
 
 module _ (b : List ℕ) where
-  pub read-formed : inForm b ≡ true → reading b ≡ readAs true (schemeOf b)
-  unfolding reading
-  read-formed e = rw e refl
-
-  pub read-broken : inForm b ≡ false → reading b ≡ readAs false blank
+  pub read-broken : inForm b ≡ false → readAs false blank ≡ reading b
   unfolding reading
   read-broken e = rw e refl
 
-  pub settled-formed : {n places nodes lcount rcount : ℕ} {orbit kinds lwords rwords larcs ltargets rarcs rtargets : List ℕ} {ltwice rtwice : List Bool} → inForm b ≡ true
-      → Counted (schemeOf b) n places nodes lcount rcount → Held (schemeOf b) orbit kinds lwords rwords larcs ltargets rarcs rtargets ltwice rtwice
-      → (true ≡ reading b .ok) × (Counted (reading b .scheme) n places nodes lcount rcount
-      × Held (reading b .scheme) orbit kinds lwords rwords larcs ltargets rarcs rtargets ltwice rtwice)
-  settled-formed e c h = rw (read-formed e) (refl, (c, h))
-
-  pub settled-broken : inForm b ≡ false
-      → (false ≡ reading b .ok) × (Counted (reading b .scheme) 0 0 0 0 0
-      × Held (reading b .scheme) (replicate 4 0) (replicate 16 0) (replicate 64 255) (replicate 64 255) (replicate 192 0) (replicate 64 255) (replicate 192 0) (replicate 64 255)
-      (replicate 16 false) (replicate 16 false))
-  unfolding blank
-  settled-broken e = rw (read-broken e) (refl, (record { nIs = refl; placesIs = refl; nodesIs = refl; lcountIs = refl; rcountIs = refl }, blank-held))
-
   -- the reading is made of its parts
-  pub made : {ok : Bool} {n places nodes lcount rcount : ℕ} {orbit kinds lwords rwords larcs ltargets rarcs rtargets : List ℕ} {ltwice rtwice : List Bool}
-      → ok ≡ reading b .ok → Counted (reading b .scheme) n places nodes lcount rcount → Held (reading b .scheme) orbit kinds lwords rwords larcs ltargets rarcs rtargets ltwice rtwice
+  pub read-formed : {n places nodes lcount rcount : ℕ} {orbit kinds lwords rwords larcs ltargets rarcs rtargets : List ℕ} {ltwice rtwice : List Bool}
+      → inForm b ≡ true → Counted (schemeOf b) n places nodes lcount rcount
+      → Held (schemeOf b) orbit kinds lwords rwords larcs ltargets rarcs rtargets ltwice rtwice
       → _≡_ {A = Reading} (record {
-        ok = ok;
+        ok = true;
         scheme = record {
           n = n;
           places = places;
@@ -168,7 +152,7 @@ module _ (b : List ℕ) where
         rtwice = rtwice;
       }) (reading b)
   unfolding reading
-  made e c h = rw (
+  read-formed e c h = rw (
     e,
     c .nIs,
     c .placesIs,

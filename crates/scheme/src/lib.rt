@@ -13,7 +13,8 @@ use model::Scheme;
 use nodes::read_nodes;
 use nodes::read_orbit;
 ghost use mathlib.Core.Path.{_≡_};
-ghost use Rattle.scheme.specs.Reading.{Counted, Held, Gathered, blank, reading};
+ghost use mathlib.Core.Bool.{false};
+ghost use Rattle.scheme.specs.Reading.{Held, Gathered, blank, readAs, reading};
 
 // What reading a scheme's bytes gives: the scheme, or a blank one beside the refusal, and the nodes that have two arcs of a dimension,
 // on the left and on the right.
@@ -79,76 +80,29 @@ fn gather(
     Form::Laid(l)
 }
 
-// The numbers of a scheme, and whether the bytes are in the form.
-struct Header {
-    ok: bool,
-    n: u8,
-    places: u8,
-    nodes: u8,
-    lcount: u8,
-    rcount: u8,
-}
-
-// As `gather`, with the arrays blank again where the bytes are not in the form.
-fn settle(
-    bytes: &[u8],
-    orbit: &mut [u8; 4],
-    kinds: &mut [u8; 16],
-    lwords: &mut [u8; 64],
-    rwords: &mut [u8; 64],
-    larcs: &mut [u8; 192],
-    ltargets: &mut [u8; 64],
-    rarcs: &mut [u8; 192],
-    rtargets: &mut [u8; 64],
-    ltwice: &mut [bool; 16],
-    rtwice: &mut [bool; 16],
-) -> Header
-    requires { ⌜ Held blank (now orbit) (now kinds) (now lwords) (now rwords) (now larcs) (now ltargets) (now rarcs) (now rtargets) (now ltwice) (now rtwice) ⌝ }
-    ensures { λ r. ⌜ r .ok ≡ reading (now (bytes .entry)) .ok ⌝ }
-    ensures { λ r. ⌜ Counted (reading (now (bytes .entry)) .scheme) (r .n) (r .places) (r .nodes) (r .lcount) (r .rcount) ⌝ }
-    ensures { λ r. ⌜ Held (reading (now (bytes .entry)) .scheme) (now (orbit .exit)) (now (kinds .exit)) (now (lwords .exit)) (now (rwords .exit)) (now (larcs .exit)) (now (ltargets .exit)) (now (rarcs .exit)) (now (rtargets .exit)) (now (ltwice .exit)) (now (rtwice .exit)) ⌝ }
+// What stands beside the refusal.
+fn refused() -> Reading
+    ensures { λ r. ⌜ r ≡ readAs false blank ⌝ }
 {
-    match gather(
-        bytes,
-        orbit,
-        kinds,
-        lwords,
-        rwords,
-        larcs,
-        ltargets,
-        rarcs,
-        rtargets,
-        ltwice,
-        rtwice,
-    ) {
-        Form::Laid(l) => Header {
-            ok: true,
-            n: l.n,
-            places: l.places,
-            nodes: l.nodes,
-            lcount: l.lcount,
-            rcount: l.rcount,
+    Reading {
+        ok: false,
+        scheme: Scheme {
+            n: 0,
+            places: 0,
+            orbit: [0u8; 4],
+            nodes: 0,
+            kinds: [0u8; 16],
+            lwords: [255u8; 64],
+            rwords: [255u8; 64],
+            ltargets: [255u8; 64],
+            rtargets: [255u8; 64],
+            lcount: 0,
+            larcs: [0u8; 192],
+            rcount: 0,
+            rarcs: [0u8; 192],
         },
-        Form::Broken => {
-            *orbit = [0u8; 4];
-            *kinds = [0u8; 16];
-            *lwords = [255u8; 64];
-            *rwords = [255u8; 64];
-            *larcs = [0u8; 192];
-            *ltargets = [255u8; 64];
-            *rarcs = [0u8; 192];
-            *rtargets = [255u8; 64];
-            *ltwice = [false; 16];
-            *rtwice = [false; 16];
-            Header {
-                ok: false,
-                n: 0,
-                places: 0,
-                nodes: 0,
-                lcount: 0,
-                rcount: 0,
-            }
-        }
+        ltwice: [false; 16],
+        rtwice: [false; 16],
     }
 }
 
@@ -166,7 +120,7 @@ pub fn read(bytes: &[u8]) -> Reading
     let mut rtargets = [255u8; 64];
     let mut ltwice = [false; 16];
     let mut rtwice = [false; 16];
-    let h = settle(
+    let Form::Laid(l) = gather(
         bytes,
         &mut orbit,
         &mut kinds,
@@ -178,22 +132,24 @@ pub fn read(bytes: &[u8]) -> Reading
         &mut rtargets,
         &mut ltwice,
         &mut rtwice,
-    );
+    ) else {
+        return refused();
+    };
     Reading {
-        ok: h.ok,
+        ok: true,
         scheme: Scheme {
-            n: h.n,
-            places: h.places,
+            n: l.n,
+            places: l.places,
             orbit: orbit,
-            nodes: h.nodes,
+            nodes: l.nodes,
             kinds: kinds,
             lwords: lwords,
             rwords: rwords,
             ltargets: ltargets,
             rtargets: rtargets,
-            lcount: h.lcount,
+            lcount: l.lcount,
             larcs: larcs,
-            rcount: h.rcount,
+            rcount: l.rcount,
             rarcs: rarcs,
         },
         ltwice: ltwice,
