@@ -11,7 +11,7 @@ use lib.Dec.{leb, ltb}
 use borrow.Author.Tests.{leb-true, leb-false, ltb-true, ltb-false}
 use Rattle.base.specs.Test.{_and_, _or_, bit}
 use Rattle.base.specs.Below.{all, any, count}
-use Rattle.base.proofs.TestLaws.{and-left, and-right, and-of, or-cases, or-left, or-right, true-or-false}
+use Rattle.base.proofs.TestLaws.{and-left, and-right, and-of, or-cases, or-left, or-right, true-or-false, impossible}
 
 pub below-suc : {k n : ℕ} → k < suc n → (k ≡ n) ⊎ (k < n)
 below-suc h = eq-or-lt-of-le (le-of-suc-le-suc h)
@@ -197,15 +197,23 @@ count-lt p k (suc n) h e = ⊎-elim
     (λ w. let r = count-lt p k n w e in omega arith)
     (below-suc h)
 
+pub le-or-lt : (a b : ℕ) → (a ≤ b) ⊎ (b < a)
+le-or-lt a b = ⊎-elim (λ t. inl (leb-true a b t)) (λ t. inr (leb-false a b t)) (true-or-false (leb a b))
+
+-- a number from 1 to 3 is one of these
+pub one-to-three : (k : ℕ) → 1 ≤ k → k ≤ 3 → (k ≡ 1) ⊎ ((k ≡ 2) ⊎ (k ≡ 3))
+one-to-three zero g h = absurd (omega arith)
+one-to-three (suc zero) g h = inl refl
+one-to-three (suc (suc zero)) g h = inr (inl refl)
+one-to-three (suc (suc (suc zero))) g h = inr (inr refl)
+one-to-three (suc (suc (suc (suc k)))) g h = absurd (omega arith)
+
 -- two numbers that have p, with as many below, are one
 pub count-injective : (p : ℕ → Bool) (j k : ℕ) → p j ≡ true → p k ≡ true → count j p ≡ count k p → j ≡ k
 count-injective p j k e f q = ⊎-elim
     (λ l. ⊎-elim (λ w. w) (λ w. let r = count-lt p j k w e in absurd (omega arith)) (eq-or-lt-of-le l))
     (λ w. let r = count-lt p k j w f in absurd (omega arith))
     (le-or-lt j k)
-  where
-    le-or-lt : (a b : ℕ) → (a ≤ b) ⊎ (b < a)
-    le-or-lt a b = ⊎-elim (λ t. inl (leb-true a b t)) (λ t. inr (leb-false a b t)) (true-or-false (leb a b))
 
 -- as many as are counted, each has its place
 pub count-reaches : (p : ℕ → Bool) (n k : ℕ) → k < count n p → (x : ℕ) × (x < n) × (p x ≡ true) × (count x p ≡ k)
@@ -267,12 +275,8 @@ unfolding count
 count-single zero f h = omega arith
 count-single (suc n) f h = go (f n) refl (count-single n f (λ j k l m. h j k l (omega arith)))
   where
-    false-of : (b : Bool) → (b ≡ true → ⊥) → b ≡ false
-    false-of true n = absurd (n refl)
-    false-of false n = refl
-
     go : (b : Bool) → f n ≡ b → count n f ≤ 1 → count n f + bit b ≤ 1
-    go true e few = let none = count-zero n f (λ j l. false-of (f j) (λ q. h j n l (omega arith) q e)) in omega arith
+    go true e few = let none = count-zero n f (λ j l. impossible (f j) (λ q. h j n l (omega arith) q e)) in omega arith
     go false e few = omega arith
 
 pub any-same : (n : ℕ) (f g : ℕ → Bool) → ((k : ℕ) → k < n → f k ≡ g k) → any n f ≡ any n g

@@ -25,15 +25,15 @@ module _ {A : Type 0} where
       let b : k < n = omega (arith, length-list n f) in
       getD-list n k f (f 0) b ∙ h k b ∙ sym (getD-list n k g (f 0) b))
 
+  -- a list of one value over and over
+  pub list-all : (n : ℕ) (z : A) (f : ℕ → A) → ((k : ℕ) → k < n → f k ≡ z) → replicate n z ≡ list n f
+  list-all n z f h = ext-getD z _ _ (length-replicate n z ∙ sym (length-list n f)) (λ k l.
+      let l′ : k < n = omega (arith, length-replicate n z) in
+      getD-replicate n k z z l′ ∙ sym (getD-list n k f z l′ ∙ h k l′))
+
 -- a test of two orders that hold together
 pub same-ltb : (a b c d : ℕ) → (a < b → c < d) → (c < d → a < b) → ltb a b ≡ ltb c d
 same-ltb a b c d f g = same-test _ _ (λ t. lt-ltb c d (f (ltb-true a b t))) (λ t. lt-ltb a b (g (ltb-true c d t)))
-
--- a list of one word over and over
-pub list-all : (n z : ℕ) (f : ℕ → ℕ) → ((k : ℕ) → k < n → f k ≡ z) → replicate n z ≡ list n f
-list-all n z f h = ext-getD z _ _ (length-replicate n z ∙ sym (length-list n f)) (λ k l.
-    let l′ : k < n = omega (arith, length-replicate n z) in
-    getD-replicate n k z z l′ ∙ sym (getD-list n k f z l′ ∙ h k l′))
 
 module _ (n : ℕ) (f : ℕ → ℕ) (z : ℕ) where
   pub filled-none : replicate n z ≡ filled n 0 f z

@@ -26,11 +26,7 @@ use Rattle.bench.specs.declared.framing.Layout.{Layout}
 use Rattle.bench.proofs.FramingLaws.{laid-framed, dart-count}
 use Rattle.bench.proofs.SessionLaws.{is-map}
 use Rattle.bench.proofs.ShortLaws.{refused-few, last-few}
-
-and-false : (t : Bool) → (t and false) ≡ false
-unfolding _and_
-and-false true = refl
-and-false false = refl
+use Rattle.base.proofs.TestLaws.{and-no-right}
 
 pub printed-fault : (b : List ℕ) → framed b ≡ false → printed b ≡ refusedLine 11
 unfolding printed _and_
@@ -40,7 +36,7 @@ printed-fault b e = rw e refl
 many-slots : (n N : ℕ) (t b : List ℕ) → 1024 < N → readAnswer n N t b ≡ BadCall
 unfolding readAnswer readFault when _orElse_ _and_
 many-slots n N t b h =
-    let over : sizesOk n N t ≡ false = ap (λ (x : Bool). x and eqb (length t) (6 * N)) (ap (λ (x : Bool). (eqb n 2 or eqb n 3) and leb 1 N and x) (lt-leb N 1024 h) ∙ and-false ((eqb n 2 or eqb n 3) and leb 1 N)) in
+    let over : sizesOk n N t ≡ false = ap (λ (x : Bool). x and eqb (length t) (6 * N)) (ap (λ (x : Bool). (eqb n 2 or eqb n 3) and leb 1 N and x) (lt-leb N 1024 h) ∙ and-no-right ((eqb n 2 or eqb n 3) and leb 1 N) refl) in
     rw over refl
 
 module _ (b : List ℕ) (l : Layout) (laid : Laid b l) where
@@ -48,7 +44,7 @@ module _ (b : List ℕ) (l : Layout) (laid : Laid b l) where
   unfolding printed
   printed-small h =
       let short : leb 3 (mapLength b) ≡ false = rw (is-map b l laid) (lt-leb 3 (l .map) h) in
-      rw (short, and-false (framed b)) refl
+      rw (short, and-no-right (framed b) refl) refl
 
   module _ (long : 3 ≤ l .map) where
     printed-read : printed b ≡ cond (eqb (number (mapAnswer b)) 0) (runLines b) (refusedLine (number (mapAnswer b)))

@@ -1,32 +1,27 @@
 -- No line is long: the numbers of an edit's answer are small.
 -- Assumes nothing.
 use Prim.Native.Nat.{ℕ, _*_, _≤_, _<_}
-use mathlib.Core.Path.{_≡_, refl, sym, ap, _∙_, subst}
-use mathlib.Core.Logic.{_⊎_, ⊎-elim}
-use mathlib.Core.Bool.{Bool}
+use mathlib.Core.Path.{_≡_, refl, sym, subst}
 use mathlib.Core.Option.{Option, none, some, Option·getD}
 use mathlib.Core.List.{List}
 use native.Mathlib.Nat.{mul-le-mul-left}
 use native.Mathlib.Omega.{arith}
 use lib.ListN.{length}
 use borrow.Author.Tests.{leb-true, ne-eqb}
-use Rattle.base.specs.First.{when, _orElse_}
 use Rattle.base.specs.Below.{count}
 use Rattle.base.proofs.TestLaws.{and-left, and-right}
 use Rattle.base.proofs.BelowLaws.{count-le}
-use Rattle.base.proofs.FirstLaws.{or-else-cases, when-at}
 use Rattle.model.specs.Answer.{number}
 use Rattle.model.specs.Map.{view, unused}
 use Rattle.model.specs.Scheme.{schemeOf, nodesOf, deleted}
-use Rattle.model.specs.Conditions.{schemeFault, noted, hookFault, incidenceFault}
 use Rattle.model.specs.Edit.{orbitSize, addedDarts, deletedDarts}
-use Rattle.model.specs.Calls.{bytesFault, roomFault, orbitOf, editFault, editAnswer}
+use Rattle.model.specs.Calls.{orbitOf, editFault, editAnswer}
 use Rattle.model.specs.Bench.{shown, dartLine, lastLine, refusedLine}
 use Rattle.model.specs.declared.Answer.{Answer}
 use Rattle.model.specs.declared.Answer.the-variants.{Done, Edited, Written, BadCall, BadForm, BadHook, BadIncidence, BadCycle, OtherDimension, BadTable, NoDart, NoMatch, NoRoom, BadFile, ShortOutput}
 use Rattle.model.proofs.CallLaws.{granted}
 use Rattle.model.proofs.SchemeLaws.{nodes-few}
-use Rattle.kernel.proofs.RefusalLaws.{cycle-number}
+use Rattle.kernel.proofs.RefusalLaws.{refuses-edit}
 use Rattle.bench.proofs.DecimalLaws.{decimal-short}
 use Rattle.bench.proofs.LineLaws.{digits, dart-length, last-length, refused-length}
 
@@ -48,31 +43,6 @@ number-few NoMatch = omega arith
 number-few NoRoom = omega arith
 number-few BadFile = omega arith
 number-few ShortOutput = omega arith
-
--- what is answered, if anything, is a refusal
-abbrev Refuses : Option Answer → Type 0
-Refuses o = (a : Answer) → o ≡ some a → number a ≡ 0 → ⊥
-
-either : {o r : Option Answer} → Refuses o → Refuses r → Refuses (o orElse r)
-either {o} {r} p q a e z = ⊎-elim (λ w. p a w z) (λ w. q a (w .1) z) (or-else-cases o r a e)
-
-tested : (t : Bool) (x : Answer) → (number x ≡ 0 → ⊥) → Refuses (when t x)
-tested t x f a e z = f (ap number (when-at t e .1) ∙ z)
-
-note : (f : ℕ → Answer) (o : Option ℕ) → ((s : ℕ) → number (f s) ≡ 0 → ⊥) → Refuses (noted f o)
-note f none g a e z = let w : _≡_ {A = ℕ} 0 1 = cc in omega arith
-note f (some s) g a e z = g s (let w : f s ≡ a = cc in ap number w ∙ z)
-
-edit-refuses : (n N : ℕ) (t store b : List ℕ) (d : ℕ) → Refuses (editFault n N t store b d)
-unfolding editFault bytesFault schemeFault roomFault
-edit-refuses n N t store b d =
-    either (tested _ BadCall (λ z. absurd (omega arith)))
-    (either (either (tested _ BadForm (λ z. absurd (omega arith))) (either (note BadHook (hookFault (schemeOf b)) (λ s z. absurd (omega arith)))
-    (either (note BadIncidence (incidenceFault (schemeOf b)) (λ s z. absurd (omega arith))) (λ a e z. let five = cycle-number (schemeOf b) a e in absurd (omega arith)))))
-    (either (tested _ OtherDimension (λ z. absurd (omega arith)))
-    (either (tested _ BadTable (λ z. absurd (omega arith)))
-    (either (tested _ NoDart (λ z. absurd (omega arith)))
-    (either (tested _ NoMatch (λ z. absurd (omega arith))) (tested _ NoRoom (λ z. absurd (omega arith))))))))
 
 -- ---- the line of an edit
 
@@ -116,7 +86,7 @@ module _ (n N : ℕ) (t store b : List ℕ) (d : ℕ) where
       go : (o : Option Answer) → editFault n N t store b d ≡ o → length (dartLine d (Option·getD (editFault n N t store b d) (Edited (orbitSize (view N t) (schemeOf b) (orbitOf n N t store b d))
           (addedDarts (view N t) (schemeOf b) (orbitOf n N t store b d)) (deletedDarts (view N t) (schemeOf b) (orbitOf n N t store b d))))) ≤ 23
       go none q = rw q (granted-short q)
-      go (some a) q = rw q (refused-short d a h (edit-refuses n N t store b d a q))
+      go (some a) q = rw q (refused-short d a h (refuses-edit n N t store b d a q))
 
 -- ---- the other lines
 

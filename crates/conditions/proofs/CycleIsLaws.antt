@@ -1,6 +1,6 @@
 -- The tests of cycles over codes are the model's over arcs, and the stored pairs are those with i + 2 ≤ j ≤ n.
 -- Assumes nothing.
-use Prim.Native.Nat.{ℕ, zero, suc, _+_, _*_, _-_, _≤_, _<_}
+use Prim.Native.Nat.{ℕ, suc, _+_, _*_, _-_, _≤_, _<_}
 use mathlib.Core.Path.{_≡_, refl, sym, ap, ap₂, _∙_, subst}
 use mathlib.Core.Logic.{_⊎_, inl, inr}
 use mathlib.Core.Bool.{Bool, true, false, not, cond}
@@ -26,6 +26,8 @@ use Rattle.conditions.specs.Arcs.{entry, Coded}
 use Rattle.conditions.specs.Cycles.{farApart, goesRound, fromNode, fromPlace, cycleBy, pairBy, Coding, pairs, pairCount, atPair, atNode}
 use Rattle.conditions.proofs.CodeLaws.{Small, small-arc}
 use Rattle.conditions.proofs.CycleSearchLaws.{pair-small}
+use Rattle.base.proofs.BelowLaws.{one-to-three}
+use Rattle.model.proofs.AcceptedLaws.{node-small}
 
 -- ---- what the model says, by the arc of s at i
 
@@ -76,15 +78,12 @@ module _ (S : Scheme) (f : Formed S) (side : Side) (codes : List ℕ) (cd : Code
   none-code : (s i : ℕ) → s < S .nodes → i < 4 → arcAt S side s i ≡ absent → entry codes s i ≡ 255
   none-code s i h l e = cd .at s i h l ∙ ap arcCode e
 
-  sixteen : (t : ℕ) → t < S .nodes → t < 16
-  sixteen t h = let n = f .nodesFew in omega arith
-
   pub coding : Coding (S .nodes) codes
   coding = record { small = λ s i h l. go s i h l (arcAt S side s i) refl }
     where
       go : (s i : ℕ) → s < S .nodes → i < 4 → (x : Arc) → arcAt S side s i ≡ x → (entry codes s i ≡ 255 → ⊥) → entry codes s i < 20
       go s i h l absent e ne = absurd (ne (none-code s i h l e))
-      go s i h l (explicit t) e ne = let c = node-code s i t h l e in let k = sixteen t (c .1) in rw (c .0) (omega arith)
+      go s i h l (explicit t) e ne = let c = node-code s i t h l e in let k = node-small S f t (c .1) in rw (c .0) (omega arith)
       go s i h l (implicit p) e ne = let c = place-code s i p h l e in let k = c .1 in rw (c .0) (omega arith)
 
   module _ (s i j : ℕ) (hs : s < S .nodes) (hi : i < 4) (hj : j < 4) where
@@ -92,9 +91,9 @@ module _ (S : Scheme) (f : Formed S) (side : Side) (codes : List ℕ) (cd : Code
     last-is v h = go (arcAt S side v j) refl
       where
         go : (x : Arc) → arcAt S side v j ≡ x → eqb (entry codes v j) s ≡ atEnd x (eqb s)
-        go absent e = let k = sixteen s hs in rw (none-code v j h hj e) (ne-eqb 255 s (λ q. absurd (omega arith)))
+        go absent e = let k = node-small S f s hs in rw (none-code v j h hj e) (ne-eqb 255 s (λ q. absurd (omega arith)))
         go (explicit r) e = rw (node-code v j r h hj e .0) (eqb-same r s s r sym sym)
-        go (implicit p) e = let k = sixteen s hs in rw (place-code v j p h hj e .0) (ne-eqb (16 + p) s (λ q. absurd (omega arith)))
+        go (implicit p) e = let k = node-small S f s hs in rw (place-code v j p h hj e .0) (ne-eqb (16 + p) s (λ q. absurd (omega arith)))
 
     round-is : (u : ℕ) → u < S .nodes → goesRound codes s i j u ≡ atEnd (arcAt S side u i) (λ v. atEnd (arcAt S side v j) (eqb s))
     unfolding goesRound
@@ -103,7 +102,7 @@ module _ (S : Scheme) (f : Formed S) (side : Side) (codes : List ℕ) (cd : Code
         go : (x : Arc) → arcAt S side u i ≡ x
             → cond (ltb (entry codes u i) 16) (eqb (entry codes (entry codes u i) j) s) false ≡ atEnd x (λ v. atEnd (arcAt S side v j) (eqb s))
         go absent e = rw (none-code u i h hi e)
-        go (explicit v) e = let c = node-code u i v h hi e in rw (c .0, lt-ltb v 16 (sixteen v (c .1))) (last-is v (c .1))
+        go (explicit v) e = let c = node-code u i v h hi e in rw (c .0, lt-ltb v 16 (node-small S f v (c .1))) (last-is v (c .1))
         go (implicit p) e = rw (place-code u i p h hi e .0, le-ltb (16 + p) 16 (omega arith))
 
     -- a position's code, against the code of the j-arc of s
@@ -112,7 +111,7 @@ module _ (S : Scheme) (f : Formed S) (side : Side) (codes : List ℕ) (cd : Code
       where
         go : (y : Arc) → arcAt S side s j ≡ y → eqb (16 + p) (entry codes s j) ≡ atPlaces y (implicit p) eqb
         go absent e = rw (none-code s j hs hj e) (ne-eqb (16 + p) 255 (λ q. absurd (omega arith)))
-        go (explicit r) e = let c = node-code s j r hs hj e in let k = sixteen r (c .1) in rw (c .0) (ne-eqb (16 + p) r (λ q. absurd (omega arith)))
+        go (explicit r) e = let c = node-code s j r hs hj e in let k = node-small S f r (c .1) in rw (c .0) (ne-eqb (16 + p) r (λ q. absurd (omega arith)))
         go (implicit o) e = rw (place-code s j o hs hj e .0) (eqb-same (16 + p) (16 + o) o p (λ q. omega arith) (λ q. omega arith))
 
     node-is : (t : ℕ) → t < S .nodes
@@ -127,7 +126,7 @@ module _ (S : Scheme) (f : Formed S) (side : Side) (codes : List ℕ) (cd : Code
         go absent e = rw (none-code t j h hj e) (sym (not-none (arcAt S side s j)))
         go (explicit u) e =
             let c = node-code t j u h hj e in
-            rw (c .0, lt-ltb u 16 (sixteen u (c .1))) (round-is u (c .1)
+            rw (c .0, lt-ltb u 16 (node-small S f u (c .1))) (round-is u (c .1)
             ∙ sym (ap (λ (b : Bool). atEnd (arcAt S side u i) (λ v. atEnd (arcAt S side v j) (eqb s)) or b) (not-node (arcAt S side s j) u) ∙ or-false _))
         go (implicit p) e =
             let c = place-code t j p h hj e in
@@ -140,7 +139,7 @@ module _ (S : Scheme) (f : Formed S) (side : Side) (codes : List ℕ) (cd : Code
       where
         go : (x : Arc) → arcAt S side t i ≡ x → eqb (entry codes t i) (16 + p) ≡ atPlaces (implicit p) x eqb
         go absent e = rw (none-code t i h hi e) (ne-eqb 255 (16 + p) (λ q. absurd (omega arith)))
-        go (explicit r) e = let c = node-code t i r h hi e in let k = sixteen r (c .1) in rw (c .0) (ne-eqb r (16 + p) (λ q. absurd (omega arith)))
+        go (explicit r) e = let c = node-code t i r h hi e in let k = node-small S f r (c .1) in rw (c .0) (ne-eqb r (16 + p) (λ q. absurd (omega arith)))
         go (implicit o) e = rw (place-code t i o h hi e .0) (eqb-same (16 + o) (16 + p) p o (λ q. omega arith) (λ q. omega arith))
 
     place-is : (p : ℕ) → p < 4
@@ -156,7 +155,7 @@ module _ (S : Scheme) (f : Formed S) (side : Side) (codes : List ℕ) (cd : Code
         go absent e = rw (none-code s j hs hj e)
         go (explicit t) e =
             let c = node-code s j t hs hj e in
-            rw (c .0, lt-ltb t 16 (sixteen t (c .1))) (arc-same p t l (c .1) ∙ sym (or-false _))
+            rw (c .0, lt-ltb t 16 (node-small S f t (c .1))) (arc-same p t l (c .1) ∙ sym (or-false _))
         go (implicit q) e =
             let c = place-code s j q hs hj e in
             let k = c .1 in
@@ -174,7 +173,7 @@ module _ (S : Scheme) (f : Formed S) (side : Side) (codes : List ℕ) (cd : Code
         go absent e = rw (none-code s i hs hi e) (sym (on-none S side s i j e))
         go (explicit t) e =
             let c = node-code s i t hs hi e in
-            rw (c .0, lt-ltb t 16 (sixteen t (c .1))) (node-is t (c .1) ∙ sym (on-node S side s i j t e))
+            rw (c .0, lt-ltb t 16 (node-small S f t (c .1))) (node-is t (c .1) ∙ sym (on-node S side s i j t e))
         go (implicit p) e =
             let c = place-code s i p hs hi e in
             let k = c .1 in
@@ -201,15 +200,8 @@ module _ (S : Scheme) (f : Formed S) (lefts rights : List ℕ) (cl : Coded S lef
 
   pair-by : (s i j : ℕ) → s < S .nodes → i < 4 → j < 4 → pairBy (kind S s) (S .orbit) lefts rights s i j ≡ cycleOk S s i j
   unfolding pairBy cycleOk _and_ _⇒_
-  pair-by s i j h a b = let k = f .kinds s h in go (of-three (kind S s) (k .0) (k .1))
+  pair-by s i j h a b = let k = f .kinds s h in go (one-to-three (kind S s) (k .0) (k .1))
     where
-      of-three : (x : ℕ) → 1 ≤ x → x ≤ 3 → (x ≡ 1) ⊎ ((x ≡ 2) ⊎ (x ≡ 3))
-      of-three zero l m = absurd (omega arith)
-      of-three (suc zero) l m = inl refl
-      of-three (suc (suc zero)) l m = inr (inl refl)
-      of-three (suc (suc (suc zero))) l m = inr (inr refl)
-      of-three (suc (suc (suc (suc x)))) l m = absurd (omega arith)
-
       onLeft : cycleBy (S .orbit) lefts s i j ≡ onCycle S left s i j
       onLeft = cycle-by S f left lefts cl s i j h a b
 

@@ -8,12 +8,12 @@ use mathlib.Core.List.{List}
 use native.Mathlib.Omega.{arith}
 use lib.ListN.{getD}
 use lib.Dec.{eqb, leb}
-use borrow.Author.Tests.{eqb-true, eqb-false, ne-eqb, leb-true, leb-false, lt-leb, not-true}
+use borrow.Author.Tests.{ne-eqb, leb-true, leb-false, lt-leb, not-true}
 use Rattle.base.specs.Test.{_and_, _or_, _⇒_}
 use Rattle.base.specs.Below.{all, any, count}
 use Rattle.base.specs.First.{least}
 use Rattle.base.proofs.TestLaws.{and-no-left, true-or-false}
-use Rattle.base.proofs.BelowLaws.{all-not, all-step, all-same, any-at, any-of, count-zero}
+use Rattle.base.proofs.BelowLaws.{all-not, all-step, all-same, any-at, any-of, count-zero, one-to-three}
 use Rattle.base.proofs.FirstLaws.{least-same}
 use Rattle.base.proofs.ListLaws.{getD-list}
 use Rattle.model.specs.Scheme.{Side, left, right, kind, word, arcs, arcPart}
@@ -85,12 +85,6 @@ module _ (n : ℕ) (kinds lefts rights : List ℕ) (ltwice rtwice : List Bool) (
     offends-not er b e = rw (el, er, e)
 
 -- ---- what they say of a scheme
-
-one-to-three : (k : ℕ) → 1 ≤ k → k ≤ 3 → (k ≡ 1) ⊎ ((k ≡ 2) ⊎ (k ≡ 3))
-one-to-three k g h = ⊎-elim
-    (λ e. inl (eqb-true k 1 e))
-    (λ e. ⊎-elim (λ d. inr (inl (eqb-true k 2 d))) (λ d. let x = eqb-false k 1 e in let y = eqb-false k 2 d in inr (inr (omega arith))) (true-or-false (eqb k 2)))
-    (true-or-false (eqb k 1))
 
 abbrev agree : Bool → Bool → Bool
 agree true q = q

@@ -12,6 +12,7 @@ use Rattle.model.specs.declared.Scheme.{Scheme}
 use Rattle.model.specs.declared.Answer.{Answer}
 use Rattle.model.specs.declared.Answer.the-variants.{BadHook, BadIncidence, BadCycle}
 use Rattle.model.proofs.AcceptedLaws as AcceptedLaws
+use Rattle.model.proofs.AcceptedLaws.{node-small}
 
 pub data SmallFault : Answer → Type 0 where
   hookSmall : {x : ℕ} → x < 16 → SmallFault (BadHook x)
@@ -23,19 +24,16 @@ noted-at g none a e = absurd (some-not-none e refl)
 noted-at g (some x) a e = (x, refl, (cc))
 
 module _ (S : Scheme) (f : Formed S) where
-  node-small : (x : ℕ) → x < S .nodes → x < 16
-  node-small x h = let n = f .nodesFew in omega arith
-
   hook-small : (x : ℕ) → hookFault S ≡ some x → x < 16
   unfolding hookFault
   hook-small x e = ⊎-elim
       (λ w. let q = when-at _ w .1 in omega arith)
-      (λ w. node-small x (least-at _ _ x (w .1) .0))
+      (λ w. node-small S f x (least-at _ _ x (w .1) .0))
       (or-else-cases _ _ x e)
 
   incidence-small : (x : ℕ) → incidenceFault S ≡ some x → x < 16
   unfolding incidenceFault
-  incidence-small x e = node-small x (least-at _ _ x e .0)
+  incidence-small x e = node-small S f x (least-at _ _ x e .0)
 
   cycle-small : (a : Answer) → cycleFault S ≡ some a → SmallFault a
   unfolding cycleFault
@@ -44,7 +42,7 @@ module _ (S : Scheme) (f : Formed S) where
       let s = first-at _ _ a e in
       let i = first-at _ _ a (s .2) in
       let j = first-at _ _ a (i .2) in
-      subst SmallFault (when-at _ (j .2) .1) (cycleSmall (node-small (s .0) (s .1)) (omega (arith, i .1)) (omega (arith, j .1)))
+      subst SmallFault (when-at _ (j .2) .1) (cycleSmall (node-small S f (s .0) (s .1)) (omega (arith, i .1)) (omega (arith, j .1)))
 
   pub fault-small : (a : Answer) → schemeFault S ≡ some a → SmallFault a
   unfolding schemeFault

@@ -1,6 +1,6 @@
 -- The tree that no arc leads out of has the nodes that a path over left arcs leads to, and so tells the hook's fault.
 -- Assumes nothing.
-use Prim.Native.Nat.{ℕ, zero, suc, _≤_, _<_}
+use Prim.Native.Nat.{ℕ, zero, suc, _<_}
 use mathlib.Core.Path.{_≡_, refl, sym, ap, _∙_, subst}
 use mathlib.Core.Logic.{_⊎_, inl, inr, ⊎-elim}
 use mathlib.Core.Bool.{Bool, true, false, true≢false}
@@ -8,11 +8,11 @@ use mathlib.Core.Option.{some}
 use mathlib.Core.List.{List}
 use native.Mathlib.Omega.{arith}
 use lib.ListN.{getD}
-use lib.Dec.{eqb, leb}
-use borrow.Author.Tests.{eqb-true, eq-eqb, leb-true, leb-false}
+use lib.Dec.{eqb}
+use borrow.Author.Tests.{eqb-true, eq-eqb}
 use Rattle.base.specs.Test.{_and_, _or_}
 use Rattle.base.specs.First.{when, there}
-use Rattle.base.proofs.TestLaws.{and-left, and-right, and-of, or-cases, or-left, or-right, true-or-false}
+use Rattle.base.proofs.TestLaws.{and-left, and-right, and-of, or-cases, or-left, or-right, same-test}
 use Rattle.base.proofs.FirstLaws.{first-at, first-of, when-at, there-at}
 use Rattle.model.specs.Reach.{Leads, here, step}
 use Rattle.model.specs.Scheme.{left, arcs, arcPart, has}
@@ -23,6 +23,7 @@ use Rattle.model.proofs.ReachLaws.{path-start, path-leads, path-found, path-non
 use Rattle.conditions.specs.Tree.{Ends, Spanning, TreeOf}
 use Rattle.conditions.specs.declared.tree.Tree.{Tree}
 use Rattle.conditions.proofs.TreeLaws.{few}
+use Rattle.base.proofs.BelowLaws.{le-or-lt}
 
 module _ (S : Scheme) (f : Formed S) where
   -- an arc between two nodes is a step of a path
@@ -95,9 +96,6 @@ module _ (S : Scheme) (f : Formed S) where
         (λ l. absurd (true≢false (sym e ∙ ap there (path-none (S .nodes) (λ t. eqb t 0) (leftArc S) s l))))
         (λ l. l)
         (le-or-lt (S .nodes) s)
-      where
-        le-or-lt : (a b : ℕ) → (a ≤ b) ⊎ (b < a)
-        le-or-lt a b = ⊎-elim (λ q. inl (leb-true a b q)) (λ q. inr (leb-false a b q)) (true-or-false (leb a b))
 
     path-marked : (s : ℕ) → there (pathTo S s) ≡ true → getD (t .reached) s false ≡ true
     unfolding pathTo
@@ -116,11 +114,5 @@ module _ (S : Scheme) (f : Formed S) where
       once = g .spans .once;
       path = λ k h. entry-path (suc k) k (omega arith) h;
       entry = λ s e. g .spans .found s (path-marked s e);
-      reached = λ s h. same (getD (t .reached) s false) (there (pathTo S s)) (marked-path s) (path-marked s);
+      reached = λ s h. same-test (getD (t .reached) s false) (there (pathTo S s)) (marked-path s) (path-marked s);
     }
-      where
-        same : (a b : Bool) → (a ≡ true → b ≡ true) → (b ≡ true → a ≡ true) → a ≡ b
-        same true true u v = refl
-        same true false u v = sym (u refl)
-        same false true u v = v refl
-        same false false u v = refl

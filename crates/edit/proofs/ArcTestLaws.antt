@@ -11,7 +11,7 @@ use lib.ListN.{getD}
 use lib.Dec.{eqb}
 use borrow.Author.Tests.{eq-eqb, ne-eqb, lt-ltb, le-ltb}
 use Rattle.base.specs.Test.{_and_, _or_}
-use Rattle.base.proofs.TestLaws.{and-of, or-left, or-right}
+use Rattle.base.proofs.TestLaws.{and-of, or-left, or-right, and-no-right}
 use Rattle.base.proofs.BelowLaws.{all-none, all-more, all-stops, all-ends}
 use Rattle.model.specs.Map.{Map}
 use Rattle.edit.specs.Store.{next, dartAt}
@@ -65,16 +65,11 @@ module _ (m : Map) (s : List ℕ) (i from p r q x y z : ℕ) (n : q ≡ getD s (
 
 -- ---- one arc
 
-and-false : (b : Bool) → (b and false) ≡ false
-unfolding _and_
-and-false true = refl
-and-false false = refl
-
 module _ (m : Map) (s : List ℕ) (size : ℕ) (dims cols : List ℕ) (j i from : ℕ) where
   not-tree : ((j ≡ 0) ⊎ (getD dims j 0 ≡ i → ⊥)) → (not (eqb j 0) and eqb (getD dims j 0) i) ≡ false
   unfolding _and_
   not-tree (inl z) = rw (eq-eqb j 0 z)
-  not-tree (inr ne) = rw (ne-eqb (getD dims j 0) i ne) (and-false (not (eqb j 0)))
+  not-tree (inr ne) = rw (ne-eqb (getD dims j 0) i ne) (and-no-right (not (eqb j 0)) refl)
 
   module _ (t to : ℕ) (e : to ≡ getD cols t 0) where
     pub explicit-later : from < to → true ≡ explicitTest m s size dims cols j i from t

@@ -4,7 +4,7 @@ use Prim.Native.Nat.{ℕ, zero, suc, _≤_, _<_}
 use mathlib.Core.Path.{_≡_, refl, sym, ap, _∙_, subst}
 use mathlib.Core.Logic.{_⊎_, ⊎-elim, inl, inr}
 use mathlib.Core.Bool.{Bool, true, false, not, cond}
-use mathlib.Core.Option.{Option, none, some, Option·getD}
+use mathlib.Core.Option.{Option, none, Option·getD}
 use mathlib.Core.List.{List, [], _∷_}
 use native.Mathlib.Omega.{arith}
 use lib.ListN.{length, getD, take, replicate}
@@ -12,21 +12,21 @@ use lib.Dec.{ltb}
 use borrow.Author.Tests.{eqb-true, eqb-false, eq-eqb, ne-eqb, le-ltb, leb-true}
 use Rattle.base.specs.First.{when, there, _orElse_}
 use Rattle.base.proofs.TestLaws.{true-or-false, and-left, and-right, or-cases}
-use Rattle.base.proofs.FirstLaws.{or-else-none, when-none, when-at, some-not-none}
+use Rattle.base.proofs.FirstLaws.{or-else-none, when-none}
 use Rattle.model.specs.Map.{Map, view, words, live, recordOf}
 use Rattle.model.specs.Alike.{Alike}
 use Rattle.model.specs.File.{file, fileForm, fileMap}
 use Rattle.model.specs.WellFormed.{WellFormed, wellFormed}
 use Rattle.model.specs.Scheme.{inForm, schemeOf}
-use Rattle.model.specs.Conditions.{hookFault, incidenceFault, schemeFault, noted}
+use Rattle.model.specs.Conditions.{schemeFault}
 use Rattle.model.specs.Accepted.{Accepted}
 use Rattle.model.specs.Edit.{orbitSize, addedDarts, deletedDarts, dartOf, edited}
 use Rattle.model.specs.Answer.{number, values}
 use Rattle.model.specs.Rewriting.{Rewriting}
-use Rattle.model.specs.Calls.{sizesOk, orbitOf, tableFault, checkTable, bytesFault, checkScheme, roomFault, editFault, editAnswer, readFault, readAnswer, readTable, writeFault, writeAnswer}
+use Rattle.model.specs.Calls.{sizesOk, orbitOf, checkTable, bytesFault, checkScheme, editFault, editAnswer, readFault, readAnswer, readTable, writeFault, writeAnswer}
 use Rattle.model.specs.Sequence.{Holds, AlikeTables, outcomeOf, writtenFile}
 use Rattle.model.specs.declared.Answer.{Answer}
-use Rattle.model.specs.declared.Answer.the-variants.{Done, Edited, Written, BadHook, BadIncidence}
+use Rattle.model.specs.declared.Answer.the-variants.{Done, Edited, Written}
 use Rattle.model.proofs.AnswerLaws.{answers-same}
 use Rattle.model.proofs.SchemeLaws.{formed}
 use Rattle.model.proofs.AcceptedLaws.{accepted-iff}
@@ -42,7 +42,7 @@ use Rattle.file.proofs.RoundTrip.{written-form, read-back, written-back}
 use Rattle.model.proofs.SequenceLaws.{alike-throughout}
 use Rattle.kernel.specs.Promises.{MapEdited, FileRead, FileWritten}
 use Rattle.kernel.specs.Demands.{Demand1, EditDone, Demand2, Demand3}
-use Rattle.kernel.proofs.RefusalLaws.{table-order, scheme-order, edit-order, read-order, write-order, refused-keeps, after-one, after-others, cycle-number, cond-true, cond-false}
+use Rattle.kernel.proofs.RefusalLaws.{table-order, scheme-order, edit-order, read-order, write-order, refused-keeps, after-one, after-others, cond-true, cond-false, done-none, refuses-bytes, refuses-edit, refuses-read, refuses-write}
 
 -- ---- demand 1
 
@@ -60,50 +60,6 @@ demand1 = record {
 }
 
 -- ---- demand 2
-
--- whatever a chain of refusals gives is a refusal
-abbrev Refuses : Option Answer → Type 0
-Refuses o = (a : Answer) → o ≡ some a → number a ≡ 0 → ⊥
-
-refuses-when : (t : Bool) (a : Answer) → (number a ≡ 0 → ⊥) → Refuses (when t a)
-refuses-when t a h b e z = h (ap number (when-at _ e .1) ∙ z)
-
-refuses-or : (o p : Option Answer) → Refuses o → Refuses p → Refuses (o orElse p)
-unfolding _orElse_
-refuses-or none p f g = g
-refuses-or (some x) p f g = f
-
-refuses-noted : (f : ℕ → Answer) (s : Option ℕ) → ((k : ℕ) → number (f k) ≡ 0 → ⊥) → Refuses (noted f s)
-refuses-noted f none h a e z = absurd (some-not-none e refl)
-refuses-noted f (some k) h a e z = let same : f k ≡ a = cc in h k (ap number same ∙ z)
-
--- an answer 0 comes of no refusal
-done-none : (o : Option Answer) (done : Answer) → Refuses o → number (Option·getD o done) ≡ 0 → o ≡ none
-done-none none done f e = refl
-done-none (some a) done f e = absurd (f a refl e)
-
-refuses-bytes : (b : List ℕ) → Refuses (bytesFault b)
-unfolding bytesFault schemeFault
-refuses-bytes b = refuses-or _ _ (refuses-when _ _ (λ e. omega arith)) (refuses-or _ _
-    (refuses-noted BadHook (hookFault (schemeOf b)) (λ k e. omega arith)) (refuses-or _ _
-    (refuses-noted BadIncidence (incidenceFault (schemeOf b)) (λ k e. omega arith))
-    (λ a e z. let five = cycle-number (schemeOf b) a e in omega arith)))
-
-refuses-edit : (n N : ℕ) (t store b : List ℕ) (d : ℕ) → Refuses (editFault n N t store b d)
-unfolding editFault roomFault
-refuses-edit n N t store b d = refuses-or _ _ (refuses-when _ _ (λ e. omega arith)) (refuses-or _ _ (refuses-bytes b) (refuses-or _ _
-    (refuses-when _ _ (λ e. omega arith)) (refuses-or _ _ (refuses-when _ _ (λ e. omega arith)) (refuses-or _ _
-    (refuses-when _ _ (λ e. omega arith)) (refuses-or _ _ (refuses-when _ _ (λ e. omega arith)) (refuses-when _ _ (λ e. omega arith)))))))
-
-refuses-read : (n N : ℕ) (t b : List ℕ) → Refuses (readFault n N t b)
-unfolding readFault
-refuses-read n N t b = refuses-or _ _ (refuses-when _ _ (λ e. omega arith)) (refuses-or _ _
-    (refuses-when _ _ (λ e. omega arith)) (refuses-when _ _ (λ e. omega arith)))
-
-refuses-write : (n N : ℕ) (t out : List ℕ) → Refuses (writeFault n N t out)
-unfolding writeFault tableFault
-refuses-write n N t out = refuses-or _ _ (refuses-or _ _ (refuses-when _ _ (λ e. omega arith)) (refuses-when _ _ (λ e. omega arith)))
-    (refuses-when _ _ (λ e. omega arith))
 
 -- ---- a scheme
 

@@ -1,5 +1,6 @@
 -- Demand 1: each call answers with the first refusal in document 01's order that applies, and with done where none does;
 -- a refused edit leaves every word of the table, and the store comes back zero save after 1, when nothing is written.
+-- What a chain of refusals gives never has the number of done.
 -- Assumes nothing.
 use Prim.Native.Nat.{ℕ, _*_}
 use mathlib.Core.Path.{_≡_, refl, sym, ap, _∙_}
@@ -11,7 +12,7 @@ use lib.ListN.{length, drop, replicate}
 use lib.Dec.{eqb}
 use Rattle.base.specs.Test.{_and_}
 use Rattle.base.specs.First.{when, _orElse_, there}
-use Rattle.base.proofs.FirstLaws.{first-at, when-at, or-else-last}
+use Rattle.base.proofs.FirstLaws.{first-at, when-at, or-else-last, some-not-none}
 use Rattle.model.specs.Answer.{number}
 use Rattle.model.specs.Scheme.{inForm, schemeOf}
 use Rattle.model.specs.Map.{view}
@@ -224,3 +225,49 @@ module _ (n N : ℕ) (t store b : List ℕ) (d : ℕ) where
   pub after-others : (number (editAnswer n N t store b d) ≡ 1 → ⊥) → editStore n N t store b d ≡ replicate (length store) 0
   unfolding sized others editRefusals editStore
   after-others h = cond-true sized (zeros store) store (not-first sized others (λ e. h (edit-order n N t store b d ∙ e)))
+
+-- ---- refusals are not done
+
+-- whatever a chain of refusals gives is a refusal
+abbrev pub Refuses : Option Answer → Type 0
+Refuses o = (a : Answer) → o ≡ some a → number a ≡ 0 → ⊥
+
+pub refuses-when : (t : Bool) (a : Answer) → (number a ≡ 0 → ⊥) → Refuses (when t a)
+refuses-when t a h b e z = h (ap number (when-at _ e .1) ∙ z)
+
+pub refuses-or : (o p : Option Answer) → Refuses o → Refuses p → Refuses (o orElse p)
+unfolding _orElse_
+refuses-or none p f g = g
+refuses-or (some x) p f g = f
+
+pub refuses-noted : (f : ℕ → Answer) (s : Option ℕ) → ((k : ℕ) → number (f k) ≡ 0 → ⊥) → Refuses (noted f s)
+refuses-noted f none h a e z = absurd (some-not-none e refl)
+refuses-noted f (some k) h a e z = let same : f k ≡ a = cc in h k (ap number same ∙ z)
+
+-- an answer 0 comes of no refusal
+pub done-none : (o : Option Answer) (done : Answer) → Refuses o → number (Option·getD o done) ≡ 0 → o ≡ none
+done-none none done f e = refl
+done-none (some a) done f e = absurd (f a refl e)
+
+pub refuses-bytes : (b : List ℕ) → Refuses (bytesFault b)
+unfolding bytesFault schemeFault
+refuses-bytes b = refuses-or _ _ (refuses-when _ _ (λ e. omega arith)) (refuses-or _ _
+    (refuses-noted BadHook (hookFault (schemeOf b)) (λ k e. omega arith)) (refuses-or _ _
+    (refuses-noted BadIncidence (incidenceFault (schemeOf b)) (λ k e. omega arith))
+    (λ a e z. let five = cycle-number (schemeOf b) a e in omega arith)))
+
+pub refuses-edit : (n N : ℕ) (t store b : List ℕ) (d : ℕ) → Refuses (editFault n N t store b d)
+unfolding editFault roomFault
+refuses-edit n N t store b d = refuses-or _ _ (refuses-when _ _ (λ e. omega arith)) (refuses-or _ _ (refuses-bytes b) (refuses-or _ _
+    (refuses-when _ _ (λ e. omega arith)) (refuses-or _ _ (refuses-when _ _ (λ e. omega arith)) (refuses-or _ _
+    (refuses-when _ _ (λ e. omega arith)) (refuses-or _ _ (refuses-when _ _ (λ e. omega arith)) (refuses-when _ _ (λ e. omega arith)))))))
+
+pub refuses-read : (n N : ℕ) (t b : List ℕ) → Refuses (readFault n N t b)
+unfolding readFault
+refuses-read n N t b = refuses-or _ _ (refuses-when _ _ (λ e. omega arith)) (refuses-or _ _
+    (refuses-when _ _ (λ e. omega arith)) (refuses-when _ _ (λ e. omega arith)))
+
+pub refuses-write : (n N : ℕ) (t out : List ℕ) → Refuses (writeFault n N t out)
+unfolding writeFault tableFault
+refuses-write n N t out = refuses-or _ _ (refuses-or _ _ (refuses-when _ _ (λ e. omega arith)) (refuses-when _ _ (λ e. omega arith)))
+    (refuses-when _ _ (λ e. omega arith))

@@ -17,18 +17,18 @@ use Rattle.base.specs.First.{when, _orElse_, there}
 use Rattle.base.proofs.TestLaws.{and-of, and-no-left, and-no-right}
 use Rattle.base.proofs.BelowLaws.{count-same, count-not}
 use Rattle.base.proofs.ListLaws.{length-list}
-use Rattle.base.proofs.FirstLaws.{some-not-none, when-at, when-none, or-else-cases, or-else-none}
+use Rattle.base.proofs.FirstLaws.{when-none, or-else-none}
 use Rattle.model.specs.Answer.{number}
 use Rattle.model.specs.Map.{view, live, unused}
 use Rattle.model.specs.WellFormed.{wellFormed}
 use Rattle.model.specs.Scheme.{left, right, inForm, wordsOf, schemeOf}
 use Rattle.model.specs.Codes.{twiceOf}
-use Rattle.model.specs.Conditions.{hookFault, incidenceFault, schemeFault, noted}
+use Rattle.model.specs.Conditions.{schemeFault}
 use Rattle.model.specs.Accepted.{Accepted}
 use Rattle.model.specs.Calls.{zeros, sizesOk, bytesFault, orbitOf, editFault, editAnswer, editTable, editStore}
 use Rattle.model.specs.declared.Scheme.{Scheme}
 use Rattle.model.specs.declared.Answer.{Answer}
-use Rattle.model.specs.declared.Answer.the-variants.{Done, BadCall, BadForm, BadHook, BadIncidence, OtherDimension, BadTable, NoDart}
+use Rattle.model.specs.declared.Answer.the-variants.{Done, BadCall, BadForm, OtherDimension, BadTable, NoDart}
 use Rattle.model.proofs.AnswerLaws.{answers-of}
 use Rattle.model.proofs.WellFormedLaws.{wellFormed-iff}
 use Rattle.model.proofs.SchemeLaws.{formed}
@@ -40,7 +40,7 @@ use Rattle.edit.specs.Apply.{At, Applied, rewritten}
 use Rattle.table.specs.Words.{Sized}
 use Rattle.kernel.specs.Promises.{MapEdited}
 use Rattle.kernel.specs.Stages.{dartFault, dartDone, dartTable, AppliedAt, Staged}
-use Rattle.kernel.proofs.RefusalLaws.{cycle-number}
+use Rattle.kernel.proofs.RefusalLaws.{refuses-bytes}
 
 -- ---- the scheme's bytes
 
@@ -110,24 +110,6 @@ module _ (b : List ℕ) (S : Scheme) (e : inForm b ≡ true) (s : S ≡ schemeOf
   unfolding judged bytesFault when _orElse_
   judged-good a f = f ∙ rw (e, s)
 
--- no refusal of the bytes is done
-noted-number : (f : ℕ → Answer) (k : ℕ) → ((x : ℕ) → number (f x) ≡ k) → (o : Option ℕ) (a : Answer) → noted f o ≡ some a → number a ≡ k
-noted-number f k h none a e = absurd (some-not-none e refl)
-noted-number f k h (some x) a e = let q : f x ≡ a = cc in ap number (sym q) ∙ h x
-
-fault-number : (b : List ℕ) (a : Answer) → bytesFault b ≡ some a → number a ≡ 0 → ⊥
-unfolding bytesFault schemeFault
-fault-number b a e z = ⊎-elim
-    (λ w. let q : number a ≡ 2 = ap number (sym (when-at _ w .1)) in omega arith)
-    (λ w. ⊎-elim
-    (λ v. let q = noted-number BadHook 3 (λ x. refl) (hookFault (schemeOf b)) a v in omega arith)
-    (λ v. ⊎-elim
-    (λ u. let q = noted-number BadIncidence 4 (λ x. refl) (incidenceFault (schemeOf b)) a u in omega arith)
-    (λ u. let q = cycle-number (schemeOf b) a (u .1) in omega arith)
-    (or-else-cases _ _ a (v .1)))
-    (or-else-cases _ _ a (w .1)))
-    (or-else-cases _ _ a e)
-
 -- bytes judged done have no fault, and any other answer is their fault
 module _ (b : List ℕ) (r : Answer) (j : r ≡ judged b) where
   pub no-fault : r ≡ Done → bytesFault b ≡ none
@@ -136,7 +118,7 @@ module _ (b : List ℕ) (r : Answer) (j : r ≡ judged b) where
     where
       go : (o : Option Answer) → bytesFault b ≡ o → bytesFault b ≡ none
       go none q = q
-      go (some a) q = absurd (fault-number b a q (ap number (ap (λ (o : Option Answer). Option·getD o Done) (sym q) ∙ sym j ∙ e)))
+      go (some a) q = absurd (refuses-bytes b a q (ap number (ap (λ (o : Option Answer). Option·getD o Done) (sym q) ∙ sym j ∙ e)))
 
   pub its-fault : (r ≡ Done → ⊥) → bytesFault b ≡ some r
   unfolding judged

@@ -50,6 +50,9 @@ module _ (S : Scheme) (f : Formed S) where
   pub at-least-two : 2 ≤ S .n
   at-least-two = ⊎-elim (λ e. omega arith) (λ e. omega arith) (f .dimension)
 
+  pub node-small : (s : ℕ) → s < S .nodes → s < 16
+  node-small s h = let n = f .nodesFew in omega arith
+
   pub kind-cases : (s : ℕ) → s < S .nodes → (deleted S s ≡ true) ⊎ ((preserved S s ≡ true) ⊎ (added S s ≡ true))
   kind-cases s h = let k = f .kinds s h in one-of-three (kind S s) (k .0) (k .1)
 

@@ -42,16 +42,12 @@ module _ (m : Map) (S : Scheme) (O : ℕ → Bool) (slot : (u : ℕ) → O u ≡
       sym (ap (λ (b : Bool). cond b (Option·getD (nth (m .slots) (unused m) (rank m S O u s)) 0) (image m S u s)) a ∙ ap (λ (o : Option ℕ). Option·getD o 0) (f .1)) in
       subst (λ (x : ℕ). (x < m .slots) × (m .state x ≡ 0) × (count x (unused m) ≡ rank m S O u s)) same (n .0, eqb-true _ _ (n .1), n .2)
 
-  -- the dart of a left pair is its image
-  pub dart-image : (u s : ℕ) → has S left s ≡ true → dartOf m S O u s ≡ image m S u s
-  dart-image = dart-left m S O
-
   pub left-alive : (u s : ℕ) → O u ≡ true → s < S .nodes → has S left s ≡ true → m .state (dartOf m S O u s) ≡ 1
-  left-alive u s e h l = ap (m .state) (dart-image u s l) ∙ A .darts u (slot u e) e s h l .1
+  left-alive u s e h l = ap (m .state) (dart-left m S O u s l) ∙ A .darts u (slot u e) e s h l .1
 
   pub dart-slot : (u s : ℕ) → O u ≡ true → s < S .nodes → dartOf m S O u s < m .slots
   dart-slot u s e h = ⊎-elim
-      (λ l. subst (λ (x : ℕ). x < m .slots) (sym (dart-image u s l)) (A .darts u (slot u e) e s h l .0))
+      (λ l. subst (λ (x : ℕ). x < m .slots) (sym (dart-left m S O u s l)) (A .darts u (slot u e) e s h l .0))
       (λ a. free-at u s e h a .0)
       (kinds s h)
 
@@ -59,7 +55,7 @@ module _ (m : Map) (S : Scheme) (O : ℕ → Bool) (slot : (u : ℕ) → O u ≡
       → dartOf m S O u s ≡ dartOf m S O v t → (u ≡ v) × (s ≡ t)
   dart-injective u s v t e f h l q = ⊎-elim
       (λ a. ⊎-elim
-      (λ b. A .different u (slot u e) e s h a v (slot v f) f t l b (sym (dart-image u s a) ∙ q ∙ dart-image v t b))
+      (λ b. A .different u (slot u e) e s h a v (slot v f) f t l b (sym (dart-left m S O u s a) ∙ q ∙ dart-left m S O v t b))
       (λ b. absurd (apart (left-alive u s e h a) (ap (m .state) q ∙ free-at v t f l b .1)))
       (kinds t l))
       (λ a. ⊎-elim

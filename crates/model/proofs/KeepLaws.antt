@@ -25,6 +25,7 @@ use Rattle.model.proofs.CycleLaws.{cycle-at, cycle-of, not-absent, not-
 use Rattle.model.proofs.AcceptedLaws.{kind-cases, left-or-added}
 use Rattle.model.proofs.MatchLaws.{GoodOrbit, arc-of}
 use Rattle.model.proofs.EditLaws as E
+use Rattle.model.proofs.RankLaws.{dart-left}
 
 one-not-zero : _≡_ {A = ℕ} 1 0 → ⊥
 one-not-zero e = omega arith
@@ -74,9 +75,6 @@ module _ (m : Map) (S : Scheme) (O : ℕ → Bool) (w : WellFormed (S .n) m) (g 
   injective : (u s v t : ℕ) → O u ≡ true → O v ≡ true → s < S .nodes → t < S .nodes → D u s ≡ D v t → (u ≡ v) × (s ≡ t)
   injective = E.dart-injective m S O (o .slot) kinds A room
 
-  dart-left : (u s : ℕ) → has S left s ≡ true → D u s ≡ image m S u s
-  dart-left = E.dart-image m S O (o .slot) kinds A room
-
   alive-of : (u s : ℕ) → O u ≡ true → s < S .nodes → has S left s ≡ true → m .state (D u s) ≡ 1
   alive-of = E.left-alive m S O (o .slot) kinds A room
 
@@ -106,14 +104,14 @@ module _ (m : Map) (S : Scheme) (O : ℕ → Bool) (w : WellFormed (S .n) m) (g 
   old-explicit v t i r e h l a =
       let x = explicit-end S left (g .sides left) t i r a in
       let q = eqb-true _ _ (arc-of m S g O o (image m S) A v e t h l i (x .2) (explicit r) a) in
-      (ap (m .link i) (dart-left v t l) ∙ q ∙ sym (dart-left v r (x .1)), x .0, x .1)
+      (ap (m .link i) (dart-left m S O v t l) ∙ q ∙ sym (dart-left m S O v r (x .1)), x .0, x .1)
 
   old-implicit : (v t i p : ℕ) → O v ≡ true → t < S .nodes → has S left t ≡ true → i ≤ S .n → arcAt S left t i ≡ implicit p
       → (m .link i (D v t) ≡ D (m .link (orbitDim S p) v) t) × (O (m .link (orbitDim S p) v) ≡ true)
   unfolding arcHolds
   old-implicit v t i p e h l k a =
       let q = eqb-true _ _ (arc-of m S g O o (image m S) A v e t h l i k (implicit p) a) in
-      (ap (m .link i) (dart-left v t l) ∙ q ∙ sym (dart-left _ t l), o .link v p e (implicit-from S left t i p a .0))
+      (ap (m .link i) (dart-left m S O v t l) ∙ q ∙ sym (dart-left m S O _ t l), o .link v p e (implicit-from S left t i p a .0))
 
   -- ---- loose ends: links that the edit does not name
 

@@ -8,7 +8,7 @@ use mathlib.Core.Option.{Option, none, some, Option·getD}
 use mathlib.Core.List.{List}
 use native.Mathlib.Decide.{ℕ-discrete}
 use native.Mathlib.Omega.{arith}
-use lib.ListN.{length, getD, set, replicate, length-set, length-replicate, getD-replicate}
+use lib.ListN.{length, getD, set, replicate, length-set}
 use lib.Seq.{ext-getD, getD-set-same, getD-set-other}
 use lib.Dec.{eqb, ltb, leb}
 use borrow.Author.Tests.{eq-eqb, ne-eqb, eqb-true, lt-ltb, le-ltb, le-leb}
@@ -16,11 +16,11 @@ use Rattle.base.specs.Test.{_and_, _or_, bit}
 use Rattle.base.specs.Below.{any, count}
 use Rattle.base.specs.First.{first, least, when, _orElse_}
 use Rattle.base.specs.Lists.{list}
-use Rattle.base.proofs.TestLaws.{and-left, and-right, and-of, and-no-right, impossible, same-test}
-use Rattle.base.proofs.BelowLaws.{any-at, any-of, count-step}
+use Rattle.base.proofs.TestLaws.{and-left, and-right, and-of, and-no-right, impossible}
+use Rattle.base.proofs.BelowLaws.{any-at, any-of, count-step, any-same}
 use Rattle.base.proofs.FirstLaws.{some-not-none, or-else-cases, or-else-none, when-at, when-none, first-step, least-at}
 use Rattle.base.proofs.ListLaws.{getD-list, length-list}
-use Rattle.base.proofs.FilledLaws.{list-same}
+use Rattle.base.proofs.FilledLaws.{list-same, list-all}
 use Rattle.model.specs.Scheme.{Side, placesOf, nodesOf, wordAt, touching, farEnd, placeCode, placed, placedAt}
 use Rattle.scheme.specs.Targets.{aimed, crowded, Linked, loop, ends}
 use Rattle.scheme.proofs.TargetLaws.{aim-taken, aim-left, hits, more, ends-at, ends-set, ends-kept}
@@ -56,18 +56,6 @@ ends-are e f g ne (p, r) (u, w) = ends ne (u ∙ rw (p, e, f, g) refl) (w ∙ rw
 
 -- ---- flags
 
--- lists of the same flags are one
-flags-same : (n : ℕ) (f g : ℕ → Bool) → ((k : ℕ) → k < n → f k ≡ g k) → list n f ≡ list n g
-flags-same n f g h = ext-getD false _ _ (length-list n f ∙ sym (length-list n g)) (λ k l.
-    let l′ : k < n = omega (arith, length-list n f) in
-    getD-list n k f false l′ ∙ h k l′ ∙ sym (getD-list n k g false l′))
-
--- a list of one flag over and over
-flags-all : (n : ℕ) (z : Bool) (f : ℕ → Bool) → ((k : ℕ) → k < n → f k ≡ z) → replicate n z ≡ list n f
-flags-all n z f h = ext-getD z _ _ (length-replicate n z ∙ sym (length-list n f)) (λ k l.
-    let l′ : k < n = omega (arith, length-replicate n z) in
-    getD-replicate n k z z l′ ∙ sym (getD-list n k f z l′ ∙ h k l′))
-
 -- one flag is set, and the others stay
 flags-set : (n : ℕ) (f g : ℕ → Bool) {l : List Bool} (s : ℕ) → l ≡ list n f → s < n → g s ≡ true → ((k : ℕ) → (k ≡ s → ⊥) → f k ≡ g k)
     → set l s true ≡ list n g
@@ -79,12 +67,6 @@ flags-set n f g {l} s e hs gs others =
     (λ q. ap (λ (j : ℕ). getD (set l s true) j false) q ∙ getD-set-same l s true false (omega arith) ∙ sym (getD-list n k g false h′ ∙ ap g q ∙ gs))
     (λ ne. getD-set-other l s k true false ne ∙ ap (λ (m : List Bool). getD m k false) e ∙ getD-list n k f false h′ ∙ others k ne
     ∙ sym (getD-list n k g false h′)))
-
--- tests that agree below a bound hold of some number together
-any-same : (n : ℕ) (p q : ℕ → Bool) → ((k : ℕ) → k < n → p k ≡ q k) → any n p ≡ any n q
-any-same n p q h = same-test _ _
-    (λ t. let w = any-at n p t in any-of n q (w .0) (w .1) (sym (h (w .0) (w .1)) ∙ w .2))
-    (λ t. let w = any-at n q t in any-of n p (w .0) (w .1) (h (w .0) (w .1) ∙ w .2))
 
 -- ---- targets by ends and counts
 
@@ -110,7 +92,7 @@ module _ (place : ℕ → ℕ) where
       → ((u i : ℕ) → N u i ≡ M u i) → Shown E N targets twice → Shown F M targets twice
   shown-same e n w = record {
     targetsAre = w .targetsAre ∙ list-same 64 _ _ (λ k h. ap (λ (o : Option ℕ). Option·getD o (place k)) (e (k / 4) (k % 4)));
-    twiceAre = w .twiceAre ∙ flags-same 16 _ _ (λ u h. any-same 4 _ _ (λ i l. ap (λ (m : ℕ). leb 2 (m + bit (ltb (place (4 * u + i)) 255))) (n u i)));
+    twiceAre = w .twiceAre ∙ list-same 16 _ _ (λ u h. any-same 4 _ _ (λ i l. ap (λ (m : ℕ). leb 2 (m + bit (ltb (place (4 * u + i)) 255))) (n u i)));
     small = λ u i x q. w .small u i x (e u i ∙ q);
     empty = λ u i q. sym (n u i) ∙ w .empty u i (e u i ∙ q);
     counted = λ u i x q. let l = w .counted u i x (e u i ∙ q) in omega (arith, n u i);
@@ -179,7 +161,7 @@ module _ (place : ℕ → ℕ) where
         flagged q = by-cases (ℕ-discrete (place (4 * s + d)) 255)
             (λ e.
             sym (crowded-free targets twice s (4 * s + d) (at-entry none q ∙ e)) ∙ w .twiceAre
-            ∙ flags-same 16 _ _ (λ u h. alone (w .empty s d q) (le-ltb (place (4 * s + d)) 255 (omega arith)) u))
+            ∙ list-same 16 _ _ (λ u h. alone (w .empty s d q) (le-ltb (place (4 * s + d)) 255 (omega arith)) u))
             (λ ne.
             let less : place (4 * s + d) < 255 = omega (arith, fits (4 * s + d) .1) in
             let one : bit (ltb (place (4 * s + d)) 255) ≡ 1 = ap bit (lt-ltb _ _ less) in
@@ -214,7 +196,7 @@ module _ (place : ℕ → ℕ) where
     unfolding farEnd first count
     shown-none f g = record {
       targetsAre = f ∙ list-same 64 _ _ (λ k h. refl);
-      twiceAre = g ∙ flags-all 16 false _ (λ u h. impossible _ (λ t. let w = any-at 4 _ t in one (ltb (place (4 * u + w .0)) 255) (w .2)));
+      twiceAre = g ∙ list-all 16 false _ (λ u h. impossible _ (λ t. let w = any-at 4 _ t in one (ltb (place (4 * u + w .0)) 255) (w .2)));
       small = λ u i x q. absurd (some-not-none q refl);
       empty = λ u i q. refl;
       counted = λ u i x q. absurd (some-not-none q refl);
