@@ -205,10 +205,10 @@ grown-more arcs c k node parent dim node′ parent′ dim′ reached reached′ 
       ⊎-elim (λ q. rw q (r .1)) (λ q. rw (r .0) (g .even (omega arith) a q)) (below-step h);
 }
 
--- before the first pass
-pub grown-start : (arcs : List ℕ) (c : ℕ) (node parent dim : List ℕ) (reached : List Bool) (size : ℕ) → Spans arcs c node parent dim reached size
-    → Grown arcs c c node parent dim reached 0 size
-grown-start arcs c node parent dim reached size s = record { spans = s; longer = omega arith; even = λ f. absurd (let some = s .some in omega arith) }
+-- before the first pass, where fewer entries count as passed over
+pub grown-start : (arcs : List ℕ) (c : ℕ) (node parent dim : List ℕ) (reached : List Bool) (last size : ℕ) → Spans arcs c node parent dim reached size
+    → last < size → Grown arcs c c node parent dim reached last size
+grown-start arcs c node parent dim reached last size s h = record { spans = s; longer = omega arith; even = λ f. absurd (omega arith) }
 
 -- no arc leads out of a tree with all left nodes, since arcs join left nodes
 pub closed-walk : (arcs : List ℕ) (c nodes : ℕ) (kinds node parent dim : List ℕ) (reached : List Bool) (size : ℕ)

@@ -69,7 +69,7 @@ read-arcs-requires c κs =
     let k = told (past-orbit e) in
     let p = k .before .before .before .before .before .pre in
     let l = laid k in (
-      placed-side _ _ l (nodes e) (e .before .read-nodes .ensures .1 .0 (not-false _ (e .if2 .left))) 3 (inl refl) (l .leftsIs) (c .before .before .before .wide .ensures .0 ∙ l .lcountIs),
+      placed-side _ _ l (nodes e) (e .before .read-nodes .ensures .1 .0 (not-false _ (e .if2 .left))) _ (inl refl) (l .leftsIs) (c .before .before .before .wide .ensures .0 ∙ l .lcountIs),
       (p .larcsIs, (e .before .read-nodes .ensures .1 .1 .1 .1 .0 (not-false _ (e .if2 .left)), p .ltwiceIs ∙ blank-twice left)),
     )
 
@@ -86,7 +86,7 @@ read-arcs-requires-2 c κs =
     let k = told (past-orbit e) in
     let p = k .before .before .before .before .before .pre in
     let l = laid k in (
-      placed-side _ _ l (nodes e) (e .before .read-nodes .ensures .1 .0 (not-false _ (e .if2 .left))) 1 (inr refl) (l .rightsIs) (c .before .before .before .wide2 .ensures .0 ∙ l .rcountIs),
+      placed-side _ _ l (nodes e) (e .before .read-nodes .ensures .1 .0 (not-false _ (e .if2 .left))) _ (inr refl) (l .rightsIs) (c .before .before .before .wide2 .ensures .0 ∙ l .rcountIs),
       (p .rarcsIs, (e .before .read-nodes .ensures .1 .1 .1 .1 .1 (not-false _ (e .if2 .left)), p .rtwiceIs ∙ blank-twice right)),
     )
 

@@ -15,7 +15,7 @@ abbrev μ-loop : tie.MeasureT-loop
 μ-loop count arcs node₀ parent₀ dim₀ reached₀ size k₀ last₀ node parent dim reached k last = 16 - last
 
 loop-holds : tie.Need-loop-holds Inv-loop μ-loop
-loop-holds c = grown-start _ _ _ _ _ _ _ (c .pre .1)
+loop-holds c = let s = c .pre .1 in grown-start _ _ _ _ _ _ _ _ s (omega (arith, s .some))
 
 grow-requires : tie.Need-grow-requires Inv-loop μ-loop
 grow-requires c κs = let l = c .before .before .before .before .before in (l .before .pre .0, l .loop .inv .spans)
