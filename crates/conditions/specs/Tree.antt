@@ -91,6 +91,7 @@ pub record Closed (arcs : List ℕ) (c : ℕ) (node parent dim : List ℕ) (reac
   pub spans : Spans arcs c node parent dim reached size
   pub even : (a : ℕ) → a < c → Even arcs reached a
 
+-- such a tree as one value
 abbrev pub Spanning : List ℕ → ℕ → Tree → Type 0
 Spanning arcs c t = Closed arcs c (t .node) (t .parent) (t .dim) (t .reached) (t .size)
 

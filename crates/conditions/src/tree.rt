@@ -200,8 +200,8 @@ pub struct Reach {
     pub out: Found,
 }
 
-// The tree of the first `count` arcs, and what it leaves out. Each node's target of a dimension is the far end of its first arc of
-// that dimension, so the targets reach all left nodes unless one is reached by a second arc alone, or not at all: then the arcs are
+// The tree of the first `count` arcs, and what it leaves out. A target that is a node is the far end of the first arc of its
+// dimension, so the targets reach all left nodes unless one is reached by a second arc alone, or not at all: then the arcs are
 // passed over.
 pub fn reach_of<'a>(
     nodes: usize,
