@@ -180,11 +180,11 @@ module _ (b : List ℕ) (q : inForm b ≡ true) where
       ∙ code-of (farEnd (arcPart (schemeOf b) side) (arcCount b side) s i) (least (placesOf b) (reads (schemeOf b) side s i))
 
   -- a target is the code of what the node has at that dimension
-  value-target : (side : Side) → arcs (schemeOf b) side ≡ arcCount b side → (s i : ℕ) → s < 16 → i < 4
+  value-target : (side : Side) (s i : ℕ) → s < 16 → i < 4
       → getD (targets (schemeOf b) side) (4 * s + i) 0 ≡ arcCode (arcAt (schemeOf b) side s i)
   unfolding schemeOf arcAt
-  value-target left same s i h l = targets-at left s i h l
-  value-target right same s i h l = targets-at right s i h l
+  value-target left s i h l = targets-at left s i h l
+  value-target right s i h l = targets-at right s i h l
 
   -- ---- the form, as facts on the value
 
@@ -239,7 +239,7 @@ module _ (b : List ℕ) (q : inForm b ≡ true) where
     dims = λ a h. arc-dim side a (rw same at h);
     from = λ a h. arc-from side a (rw same at h);
     to = λ a h. arc-to side a (rw same at h);
-    coded = value-target side same;
+    coded = value-target side;
   }
 
   pub formed : Formed (schemeOf b)

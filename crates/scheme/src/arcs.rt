@@ -127,7 +127,7 @@ fn read_targets(
 }
 
 // The arcs of the side that has not the nodes of the kind `other`: `count` of them, from `from` on.
-pub fn read_arcs(
+pub(crate) fn read_arcs(
     bytes: &[u8],
     l: Layout,
     kinds: &[u8; 16],

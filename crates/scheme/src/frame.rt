@@ -68,7 +68,7 @@ fn head(bytes: &[u8]) -> Opening
 }
 
 // The layout, where every count is in its range and the bytes end with the right arcs.
-pub fn frame(bytes: &[u8]) -> Form
+pub(crate) fn frame(bytes: &[u8]) -> Form
     ensures { λ r. ⌜ FrameOf (now (bytes .entry)) r ⌝ }
 {
     let Opening::Counts {

@@ -16,7 +16,7 @@ ghost use Rattle.scheme.specs.Words.{sideOf, wordPlace, row, emptyAt, fi
 ghost use Rattle.scheme.specs.Targets.{markable, marked, rowed};
 
 // The orbit type ascends strictly, so that it is enough to compare each dimension with the one before it.
-pub fn read_orbit(bytes: &[u8], l: Layout, orbit: &mut [u8; 4]) -> bool
+pub(crate) fn read_orbit(bytes: &[u8], l: Layout, orbit: &mut [u8; 4]) -> bool
     requires { ⌜ LaidOut (now bytes) l ⌝ }
     requires { ⌜ now orbit ≡ replicate 4 0 ⌝ }
     ensures { λ r. ⌜ r ≡ orbitForm (now (bytes .entry)) ⌝ }
@@ -175,7 +175,7 @@ fn read_node(
     )
 }
 
-pub fn read_nodes(
+pub(crate) fn read_nodes(
     bytes: &[u8],
     l: Layout,
     kinds: &mut [u8; 16],
