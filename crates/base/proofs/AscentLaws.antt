@@ -8,7 +8,7 @@ use native.Mathlib.Numerals.{add-one}
 use native.Mathlib.Omega.{arith}
 use lib.Dec.{ltb}
 use borrow.Author.Tests.{lt-ltb, le-ltb, ltb-true}
-use Rattle.base.specs.Below.{all}
+use Rattle.base.specs.Below.{allBelow}
 use Rattle.base.proofs.TestLaws.{refuted}
 use Rattle.base.proofs.BelowLaws.{below-suc, all-at, all-of}
 
@@ -23,7 +23,7 @@ module _ (key : ℕ → ℕ) where
   above-step a = rw (add-one a) refl
 
   -- where the keys below a ascend, one that is above the last is above them all
-  pub ascends : (a : ℕ) → ((p : ℕ) → p < a → all p (λ o. ltb (key o) (key p)) ≡ true) → above a ≤ key a → all a (λ o. ltb (key o) (key a)) ≡ true
+  pub ascends : (a : ℕ) → ((p : ℕ) → p < a → allBelow p (λ o. ltb (key o) (key p)) ≡ true) → above a ≤ key a → allBelow a (λ o. ltb (key o) (key a)) ≡ true
   unfolding above
   ascends zero up h = all-of 0 _ (λ k l. absurd (omega arith))
   ascends (suc a) up h = all-of (suc a) _ (λ k l. ⊎-elim
@@ -31,7 +31,7 @@ module _ (key : ℕ → ℕ) where
       (λ w. let u : key k < key a = ltb-true (key k) (key a) (all-at a _ (up a (omega arith)) k w) in lt-ltb (key k) (key (suc a)) (omega arith))
       (below-suc l))
 
-  pub descends : (a : ℕ) → key a < above a → all a (λ o. ltb (key o) (key a)) ≡ false
+  pub descends : (a : ℕ) → key a < above a → allBelow a (λ o. ltb (key o) (key a)) ≡ false
   unfolding above
   descends zero h = absurd (omega arith)
   descends (suc a) h = refuted (λ q. all-at (suc a) _ q a (omega arith)) (le-ltb (key a) (key (suc a)) (omega arith))

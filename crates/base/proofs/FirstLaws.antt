@@ -1,4 +1,4 @@
--- Laws of `first`, `least` and `nth`: what is found is there, and nothing is before it.
+-- Laws of `first`, `least` and `nthLowest`: what is found is there, and nothing is before it.
 -- Assumes nothing.
 use Prim.Native.Nat.{ℕ, zero, suc, _+_, _<_}
 use mathlib.Core.Path.{_≡_, refl, sym, ap, ap₂, _∙_}
@@ -11,8 +11,8 @@ use native.Mathlib.Omega.{arith}
 use lib.Dec.{eqb}
 use borrow.Author.Tests.{eqb-true, eq-eqb}
 use Rattle.base.specs.Test.{_and_}
-use Rattle.base.specs.Below.{count}
-use Rattle.base.specs.First.{when, _orElse_, there, first, least, nth}
+use Rattle.base.specs.Below.{countBelow}
+use Rattle.base.specs.First.{someIf, _orElse_, there, first, least, nthLowest}
 use Rattle.base.proofs.TestLaws.{and-left, and-right, and-of}
 use Rattle.base.proofs.BelowLaws.{below-suc, count-same, count-injective, count-reaches}
 
@@ -39,13 +39,13 @@ module _ {A : Type 0} where
   unfolding there
   there-none e = rw e
 
-  pub when-at : (b : Bool) {a c : A} → when b a ≡ some c → (b ≡ true) × (a ≡ c)
-  unfolding when
+  pub when-at : (b : Bool) {a c : A} → someIf b a ≡ some c → (b ≡ true) × (a ≡ c)
+  unfolding someIf
   when-at true e = (refl, cc)
   when-at false e = absurd (some-not-none e refl)
 
-  pub when-none : (b : Bool) (a : A) → when b a ≡ none → b ≡ false
-  unfolding when
+  pub when-none : (b : Bool) (a : A) → someIf b a ≡ none → b ≡ false
+  unfolding someIf
   when-none true a e = absurd (some-not-none {o = some a} {a = a} refl e)
   when-none false a e = refl
 
@@ -123,7 +123,7 @@ module _ {A : Type 0} where
 pub least-at : (n : ℕ) (p : ℕ → Bool) (k : ℕ) → least n p ≡ some k → (k < n) × (p k ≡ true) × ((j : ℕ) → j < k → p j ≡ false)
 unfolding least
 least-at n p k e =
-    let q = first-at n (λ x. when (p x) x) k e in
+    let q = first-at n (λ x. someIf (p x) x) k e in
     let w = when-at (p (q .0)) (q .2) in
     let same : q .0 ≡ k = w .1 in (
       rw (← same) (q .1),
@@ -133,20 +133,20 @@ least-at n p k e =
 
 pub least-none : (n : ℕ) (p : ℕ → Bool) → least n p ≡ none → (k : ℕ) → k < n → p k ≡ false
 unfolding least
-least-none n p e k h = when-none (p k) k (first-none n (λ x. when (p x) x) e k h)
+least-none n p e k h = when-none (p k) k (first-none n (λ x. someIf (p x) x) e k h)
 
 pub least-none-of : (n : ℕ) (p : ℕ → Bool) → ((k : ℕ) → k < n → p k ≡ false) → least n p ≡ none
-unfolding least when
-least-none-of n p f = first-none-of n (λ x. when (p x) x) (λ k h. rw (f k h))
+unfolding least someIf
+least-none-of n p f = first-none-of n (λ x. someIf (p x) x) (λ k h. rw (f k h))
 
 pub least-only : (n : ℕ) (p : ℕ → Bool) (k : ℕ) → k < n → p k ≡ true → ((j : ℕ) → j < n → p j ≡ true → j ≡ k) → least n p ≡ some k
-unfolding least when
+unfolding least someIf
 least-only n p k h e only =
-    first-only n (λ x. when (p x) x) k k h (rw e refl) (λ j b l q. let w = when-at (p j) q in sym (w .1) ∙ only j l (w .0))
+    first-only n (λ x. someIf (p x) x) k k h (rw e refl) (λ j b l q. let w = when-at (p j) q in sym (w .1) ∙ only j l (w .0))
 
 pub least-same : (n : ℕ) (p q : ℕ → Bool) → ((k : ℕ) → k < n → p k ≡ q k) → least n p ≡ least n q
 unfolding least
-least-same n p q f = first-same n (λ x. when (p x) x) (λ x. when (q x) x) (λ k h. ap (λ (b : Bool). when b k) (f k h))
+least-same n p q f = first-same n (λ x. someIf (p x) x) (λ x. someIf (q x) x) (λ k h. ap (λ (b : Bool). someIf b k) (f k h))
 
 module _ {A : Type 0} where
   pub first-step : (i : ℕ) (f : ℕ → Option A) → first (i + 1) f ≡ first i f orElse f i
@@ -169,32 +169,32 @@ module _ {A : Type 0} where
       (below-suc h)
 
 pub least-more : (k : ℕ) (p : ℕ → Bool) → least k p ≡ none → p k ≡ false → least (k + 1) p ≡ none
-unfolding least when
-least-more k p e f = first-more k (λ x. when (p x) x) e (rw f)
+unfolding least someIf
+least-more k p e f = first-more k (λ x. someIf (p x) x) e (rw f)
 
 pub least-hit : (n : ℕ) (p : ℕ → Bool) (k : ℕ) → k < n → least k p ≡ none → p k ≡ true → least n p ≡ some k
-unfolding least when
-least-hit n p k h e f = first-hit n (λ x. when (p x) x) k k h e (rw f)
+unfolding least someIf
+least-hit n p k h e f = first-hit n (λ x. someIf (p x) x) k k h e (rw f)
 
 -- ---- the k-th lowest
 
-pub nth-at : (n : ℕ) (p : ℕ → Bool) (k x : ℕ) → nth n p k ≡ some x → (x < n) × (p x ≡ true) × (count x p ≡ k)
-unfolding nth
+pub nth-at : (n : ℕ) (p : ℕ → Bool) (k x : ℕ) → nthLowest n p k ≡ some x → (x < n) × (p x ≡ true) × (countBelow x p ≡ k)
+unfolding nthLowest
 nth-at n p k x e =
     let l = least-at n _ x e in
     (l .0, and-left _ _ (l .1), eqb-true _ _ (and-right _ _ (l .1)))
 
-pub nth-found : (n : ℕ) (p : ℕ → Bool) (k : ℕ) → k < count n p → (x : ℕ) × (nth n p k ≡ some x)
-unfolding nth least when
+pub nth-found : (n : ℕ) (p : ℕ → Bool) (k : ℕ) → k < countBelow n p → (x : ℕ) × (nthLowest n p k ≡ some x)
+unfolding nthLowest least someIf
 nth-found n p k h =
     let r = count-reaches p n k h in
-    first-of n _ (r .0) (r .0) (r .1) (ap (λ (b : Bool). when b (r .0)) (and-of (r .2) (eq-eqb _ _ (r .3))))
+    first-of n _ (r .0) (r .0) (r .1) (ap (λ (b : Bool). someIf b (r .0)) (and-of (r .2) (eq-eqb _ _ (r .3))))
 
-pub nth-same : (n : ℕ) (p q : ℕ → Bool) (k : ℕ) → ((x : ℕ) → x < n → p x ≡ q x) → nth n p k ≡ nth n q k
-unfolding nth least
-nth-same n p q k f = first-same n _ _ (λ x h. ap₂ (λ (a : Bool) (c : ℕ). when (a and eqb c k) x) (f x h) (count-same x p q (λ y l. f y (omega arith))))
+pub nth-same : (n : ℕ) (p q : ℕ → Bool) (k : ℕ) → ((x : ℕ) → x < n → p x ≡ q x) → nthLowest n p k ≡ nthLowest n q k
+unfolding nthLowest least
+nth-same n p q k f = first-same n _ _ (λ x h. ap₂ (λ (a : Bool) (c : ℕ). someIf (a and eqb c k) x) (f x h) (count-same x p q (λ y l. f y (omega arith))))
 
-pub nth-is : (n : ℕ) (p : ℕ → Bool) (k x : ℕ) → x < n → p x ≡ true → count x p ≡ k → nth n p k ≡ some x
-unfolding nth
+pub nth-is : (n : ℕ) (p : ℕ → Bool) (k x : ℕ) → x < n → p x ≡ true → countBelow x p ≡ k → nthLowest n p k ≡ some x
+unfolding nthLowest
 nth-is n p k x h e c = least-only n _ x h (and-of e (eq-eqb _ _ c))
     (λ j l q. count-injective p j x (and-left _ _ q) e (eqb-true _ _ (and-right _ _ q) ∙ sym c))

@@ -11,7 +11,7 @@ use native.Mathlib.Omega.{arith}
 use lib.ListN.{length, getD, take, drop, set, replicate, length-append, List·getD-append, replicate-append-replicate}
 use lib.Seq.{getD-append-add, take-all, take-add, take-suc-set, drop-drop, sets, sets-eq}
 use Rattle.base.specs.Test.{bit}
-use Rattle.base.specs.Below.{count}
+use Rattle.base.specs.Below.{countBelow}
 use Rattle.base.specs.Lists.{list, listFrom, joined}
 use Rattle.base.proofs.TestLaws.{true-or-false}
 use Rattle.base.proofs.BelowLaws.{below-suc, count-lt}
@@ -102,26 +102,26 @@ module _ {A : Type 0} (w : ℕ) (p : ℕ → Bool) (f : ℕ → List A) (each : 
   length-picked x true = each x ∙ sym (mul-one w)
   length-picked x false = sym (mul-zero w)
 
-  pub length-chosen : (n : ℕ) → length (joined n (λ x. cond (p x) (f x) [])) ≡ w * count n p
-  unfolding joined count
+  pub length-chosen : (n : ℕ) → length (joined n (λ x. cond (p x) (f x) [])) ≡ w * countBelow n p
+  unfolding joined countBelow
   length-chosen zero = sym (mul-zero w)
   length-chosen (suc n) =
-      length-append (joined n (λ x. cond (p x) (f x) [])) (cond (p n) (f n) []) ∙ ap₂ _+_ (length-chosen n) (length-picked n (p n)) ∙ sym (mul-add w (count n p) (bit (p n)))
+      length-append (joined n (λ x. cond (p x) (f x) [])) (cond (p n) (f n) []) ∙ ap₂ _+_ (length-chosen n) (length-picked n (p n)) ∙ sym (mul-add w (countBelow n p) (bit (p n)))
 
-  chosen-last : (n j : ℕ) (d : A) → p n ≡ true → getD (joined n (λ y. cond (p y) (f y) []) ++ cond (p n) (f n) []) (w * count n p + j) d ≡ getD (f n) j d
+  chosen-last : (n j : ℕ) (d : A) → p n ≡ true → getD (joined n (λ y. cond (p y) (f y) []) ++ cond (p n) (f n) []) (w * countBelow n p + j) d ≡ getD (f n) j d
   chosen-last n j d e =
       rw (e, ← length-chosen n) (getD-append-add (joined n (λ y. cond (p y) (f y) [])) (f n) j d)
 
   -- the list of x stands after those of the numbers below x that have p
   pub getD-chosen : (n x j : ℕ) (d : A) → x < n → p x ≡ true → j < w
-      → getD (joined n (λ y. cond (p y) (f y) [])) (w * count x p + j) d ≡ getD (f x) j d
+      → getD (joined n (λ y. cond (p y) (f y) [])) (w * countBelow x p + j) d ≡ getD (f x) j d
   unfolding joined
   getD-chosen zero x j d h e l = absurd (not-suc-le-zero h)
   getD-chosen (suc n) x j d h e l = ⊎-elim
       (λ (q : x ≡ n). rw q (chosen-last n j d (ap p (sym q) ∙ e)))
       (λ (q : x < n).
-      let less : count x p + 1 ≤ count n p = omega (arith, count-lt p x n q e) in
-      List·getD-append (joined n (λ y. cond (p y) (f y) [])) (cond (p n) (f n) []) d (w * count x p + j)
+      let less : countBelow x p + 1 ≤ countBelow n p = omega (arith, count-lt p x n q e) in
+      List·getD-append (joined n (λ y. cond (p y) (f y) [])) (cond (p n) (f n) []) d (w * countBelow x p + j)
       (rw (length-chosen n) (omega (arith, mul-le-mul-left w less))) ∙ getD-chosen n x j d q e l)
       (below-suc h)
 

@@ -5,16 +5,16 @@ use mathlib.Core.Bool.{Bool, true, false}
 use Rattle.base.specs.Test.{_and_, _or_, bit}
 
 -- p holds of each number below n
-unfoldable pub all : ℕ → (ℕ → Bool) → Bool
-all zero p = true
-all (suc n) p = all n p and p n
+unfoldable pub allBelow : ℕ → (ℕ → Bool) → Bool
+allBelow zero p = true
+allBelow (suc n) p = allBelow n p and p n
 
 -- p holds of some number below n
-unfoldable pub any : ℕ → (ℕ → Bool) → Bool
-any zero p = false
-any (suc n) p = any n p or p n
+unfoldable pub anyBelow : ℕ → (ℕ → Bool) → Bool
+anyBelow zero p = false
+anyBelow (suc n) p = anyBelow n p or p n
 
 -- how many numbers below n have p
-unfoldable pub count : ℕ → (ℕ → Bool) → ℕ
-count zero p = 0
-count (suc n) p = count n p + bit (p n)
+unfoldable pub countBelow : ℕ → (ℕ → Bool) → ℕ
+countBelow zero p = 0
+countBelow (suc n) p = countBelow n p + bit (p n)

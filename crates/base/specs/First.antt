@@ -5,13 +5,13 @@ use mathlib.Core.Bool.{Bool, true, false}
 use mathlib.Core.Option.{Option, none, some}
 use lib.Dec.{eqb}
 use Rattle.base.specs.Test.{_and_}
-use Rattle.base.specs.Below.{count}
+use Rattle.base.specs.Below.{countBelow}
 
 module _ {ℓ} {A : Type ℓ} where
   -- a, where the test holds
-  unfoldable pub when : Bool → A → Option A
-  when true a = some a
-  when false a = none
+  unfoldable pub someIf : Bool → A → Option A
+  someIf true a = some a
+  someIf false a = none
 
   -- the first of two that is there
   infixr 25 _orElse_
@@ -30,8 +30,8 @@ module _ {ℓ} {A : Type ℓ} where
 
 -- the least number below n that has p
 unfoldable pub least : ℕ → (ℕ → Bool) → Option ℕ
-least n p = first n (λ x. when (p x) x)
+least n p = first n (λ x. someIf (p x) x)
 
 -- the k-th lowest number below n that has p, counted from 0
-unfoldable pub nth : ℕ → (ℕ → Bool) → ℕ → Option ℕ
-nth n p k = least n (λ x. p x and eqb (count x p) k)
+unfoldable pub nthLowest : ℕ → (ℕ → Bool) → ℕ → Option ℕ
+nthLowest n p k = least n (λ x. p x and eqb (countBelow x p) k)

@@ -9,8 +9,8 @@ use lib.ListN.{length}
 use lib.Dec.{eqb, leb}
 use borrow.Author.Tests.{le-leb, lt-leb, eq-eqb, ne-eqb}
 use Rattle.base.specs.Test.{_and_, _or_}
-use Rattle.base.specs.Below.{count}
-use Rattle.base.specs.First.{when, _orElse_}
+use Rattle.base.specs.Below.{countBelow}
+use Rattle.base.specs.First.{someIf, _orElse_}
 use Rattle.base.proofs.BelowLaws.{count-le}
 use Rattle.base.proofs.ListLaws.{sets-start}
 use Rattle.model.specs.Answer.{number}
@@ -34,7 +34,7 @@ printed-fault b e = rw e refl
 
 -- a table of more than 1,024 slots is refused
 many-slots : (n N : ℕ) (t b : List ℕ) → 1024 < N → readAnswer n N t b ≡ BadCall
-unfolding readAnswer readFault when _orElse_ _and_
+unfolding readAnswer readFault someIf _orElse_ _and_
 many-slots n N t b h =
     let over : sizesOk n N t ≡ false = ap (λ (x : Bool). x and eqb (length t) (6 * N)) (ap (λ (x : Bool). (eqb n 2 or eqb n 3) and leb 1 N and x) (lt-leb N 1024 h) ∙ and-no-right ((eqb n 2 or eqb n 3) and leb 1 N) refl) in
     rw over refl
@@ -66,24 +66,24 @@ module _ (b : List ℕ) (l : Layout) (laid : Laid b l) where
         bad = many-slots _ (mapSlots b) _ _ h
 
     pub printed-run : number (mapAnswer b) ≡ 0 → printed b ≡ dartLines b (l .darts)
-        ++ lastLine (count (mapSlots b) (live (view (mapSlots b) (tableAfter b (l .darts))))) (count (mapSlots b) (unused (view (mapSlots b) (tableAfter b (l .darts)))))
+        ++ lastLine (countBelow (mapSlots b) (live (view (mapSlots b) (tableAfter b (l .darts))))) (countBelow (mapSlots b) (unused (view (mapSlots b) (tableAfter b (l .darts)))))
     unfolding runLines dartLines
     printed-run e =
         printed-read ∙ ap (λ (t : Bool). cond t (runLines b) (refusedLine (number (mapAnswer b)))) (eq-eqb (number (mapAnswer b)) 0 e)
-        ∙ ap (λ (k : ℕ). dartLines b k ++ lastLine (count (mapSlots b) (live (view (mapSlots b) (tableAfter b k)))) (count (mapSlots b) (unused (view (mapSlots b) (tableAfter b k)))))
+        ∙ ap (λ (k : ℕ). dartLines b k ++ lastLine (countBelow (mapSlots b) (live (view (mapSlots b) (tableAfter b k)))) (countBelow (mapSlots b) (unused (view (mapSlots b) (tableAfter b k)))))
         (dart-count b (l .map) (l .scheme) (l .darts) (laid .map) (laid .scheme) (laid .darts))
 
     -- the same, of the counts that were taken
     pub printed-session : (N : ℕ) (t : List ℕ) (x y : ℕ) → number (mapAnswer b) ≡ 0 → N ≡ mapSlots b → t ≡ tableAfter b (l .darts)
-        → x ≡ count N (live (view N t)) → y ≡ count N (unused (view N t)) → printed b ≡ dartLines b (l .darts) ++ lastLine x y
+        → x ≡ countBelow N (live (view N t)) → y ≡ countBelow N (unused (view N t)) → printed b ≡ dartLines b (l .darts) ++ lastLine x y
     printed-session N t x y z e f u w =
         printed-run z ∙ sym (ap₂ (λ (i j : ℕ). dartLines b (l .darts) ++ lastLine i j)
-        (u ∙ ap₂ (λ (M : ℕ) (q : List ℕ). count M (live (view M q))) e f) (w ∙ ap₂ (λ (M : ℕ) (q : List ℕ). count M (unused (view M q))) e f))
+        (u ∙ ap₂ (λ (M : ℕ) (q : List ℕ). countBelow M (live (view M q))) e f) (w ∙ ap₂ (λ (M : ℕ) (q : List ℕ). countBelow M (unused (view M q))) e f))
 
 -- ---- written
 
 -- as many as are counted are few
-pub tally-few : (N : ℕ) (p : ℕ → Bool) (x : ℕ) → x ≡ count N p → N ≤ 1024 → x ≤ 1024
+pub tally-few : (N : ℕ) (p : ℕ → Bool) (x : ℕ) → x ≡ countBelow N p → N ≤ 1024 → x ≤ 1024
 tally-few N p x e h = omega (arith, e, count-le N p)
 
 pub edits-room : (b : List ℕ) (l : Layout) (out : List ℕ) → Laid b l → longest ≤ length out → 23 * l .darts ≤ length out

@@ -10,7 +10,7 @@ use lib.Dec.{eqb}
 use lib.ListN.{length, getD, take, drop, replicate, length-replicate, replicate-append-replicate}
 use lib.Seq.{getD-take, getD-drop, take-at}
 use Rattle.base.specs.Test.{_and_}
-use Rattle.base.specs.Below.{count}
+use Rattle.base.specs.Below.{countBelow}
 use Rattle.base.specs.Digits.{numberAt}
 use Rattle.base.specs.Lists.{joined}
 use Rattle.base.proofs.BelowLaws.{count-step}
@@ -153,10 +153,10 @@ module _ (b : List ℕ) (l : Layout) (laid : Laid b l) (n N : ℕ) (asked : Aske
 
 -- ---- the slots of a state
 
-pub tally-hit : (p : ℕ → Bool) (x found : ℕ) → p x ≡ true → found ≡ count x p → found + 1 ≡ count (x + 1) p
+pub tally-hit : (p : ℕ → Bool) (x found : ℕ) → p x ≡ true → found ≡ countBelow x p → found + 1 ≡ countBelow (x + 1) p
 tally-hit p x found h e = rw (count-step x p, h, ← e) refl
 
-pub tally-miss : (p : ℕ → Bool) (x found : ℕ) → p x ≡ false → found ≡ count x p → found ≡ count (x + 1) p
+pub tally-miss : (p : ℕ → Bool) (x found : ℕ) → p x ≡ false → found ≡ countBelow x p → found ≡ countBelow (x + 1) p
 tally-miss p x found h e = rw (count-step x p, h, ← e) (omega arith)
 
 -- ---- empty words

@@ -8,7 +8,7 @@ use native.Mathlib.Nat.{mul-le-mul-left}
 use native.Mathlib.Omega.{arith}
 use lib.ListN.{length}
 use borrow.Author.Tests.{leb-true, ne-eqb}
-use Rattle.base.specs.Below.{count}
+use Rattle.base.specs.Below.{countBelow}
 use Rattle.base.proofs.TestLaws.{and-left, and-right}
 use Rattle.base.proofs.BelowLaws.{count-le}
 use Rattle.model.specs.Answer.{number}
@@ -65,26 +65,26 @@ done-short d o e f h x y z =
     )
 
 module _ (n N : ℕ) (t store b : List ℕ) (d : ℕ) where
-  granted-short : editFault n N t store b d ≡ none → length (dartLine d (Edited (orbitSize (view N t) (schemeOf b) (orbitOf n N t store b d))
-      (addedDarts (view N t) (schemeOf b) (orbitOf n N t store b d)) (deletedDarts (view N t) (schemeOf b) (orbitOf n N t store b d)))) ≤ 23
+  granted-short : editFault n N t store b d ≡ none → length (dartLine d (Edited (orbitSize (view N t) (schemeOf b) (orbitOf N t b d))
+      (addedDarts (view N t) (schemeOf b) (orbitOf N t b d)) (deletedDarts (view N t) (schemeOf b) (orbitOf N t b d)))) ≤ 23
   unfolding orbitSize deletedDarts schemeOf
   granted-short q =
       let g = granted n N t store b d q in
       let few : N ≤ 1024 = leb-true _ _ (and-right _ _ (and-left _ _ (g .sizes))) in
-      let O = orbitOf n N t store b d in
-      let orbits : count N O ≤ N = count-le N O in
-      let nodes : count (nodesOf b) (deleted (schemeOf b)) ≤ 16 = omega (arith, count-le (nodesOf b) (deleted (schemeOf b)), nodes-few b (g .form)) in
+      let O = orbitOf N t b d in
+      let orbits : countBelow N O ≤ N = count-le N O in
+      let nodes : countBelow (nodesOf b) (deleted (schemeOf b)) ≤ 16 = omega (arith, count-le (nodesOf b) (deleted (schemeOf b)), nodes-few b (g .form)) in
       let room : addedDarts (view N t) (schemeOf b) O ≤ 1024 = omega (arith, g .room, count-le N (unused (view N t))) in
-      let gone : count N O * count (nodesOf b) (deleted (schemeOf b)) ≤ 16384 =
-      omega (arith, mul-le-mul-left (count N O) nodes) in
+      let gone : countBelow N O * countBelow (nodesOf b) (deleted (schemeOf b)) ≤ 16384 =
+      omega (arith, mul-le-mul-left (countBelow N O) nodes) in
       done-short d _ _ _ (omega (arith, g .slot)) (omega arith) room gone
 
   pub line-short : d < 100000 → length (dartLine d (editAnswer n N t store b d)) ≤ 23
   unfolding editAnswer
   line-short h = go (editFault n N t store b d) refl
     where
-      go : (o : Option Answer) → editFault n N t store b d ≡ o → length (dartLine d (Option·getD (editFault n N t store b d) (Edited (orbitSize (view N t) (schemeOf b) (orbitOf n N t store b d))
-          (addedDarts (view N t) (schemeOf b) (orbitOf n N t store b d)) (deletedDarts (view N t) (schemeOf b) (orbitOf n N t store b d))))) ≤ 23
+      go : (o : Option Answer) → editFault n N t store b d ≡ o → length (dartLine d (Option·getD (editFault n N t store b d) (Edited (orbitSize (view N t) (schemeOf b) (orbitOf N t b d))
+          (addedDarts (view N t) (schemeOf b) (orbitOf N t b d)) (deletedDarts (view N t) (schemeOf b) (orbitOf N t b d))))) ≤ 23
       go none q = rw q (granted-short q)
       go (some a) q = rw q (refused-short d a h (refuses-edit n N t store b d a q))
 

@@ -54,8 +54,8 @@ pub fn shown(a: Answer) -> Values
             added: added,
             deleted: deleted,
         },
-        Answer::Written(length) => Values {
-            orbit: length,
+        Answer::Written(size) => Values {
+            orbit: size,
             added: 0,
             deleted: 0,
         },

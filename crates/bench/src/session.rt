@@ -11,7 +11,7 @@ ghost use mathlib.Core.Path.{_≡_};
 ghost use Prim.Native.Nat.{_+_, _*_, _≤_};
 ghost use lib.Dec.{eqb};
 ghost use lib.ListN.{length, replicate};
-ghost use Rattle.base.specs.Below.{count};
+ghost use Rattle.base.specs.Below.{countBelow};
 ghost use Rattle.model.specs.Map.{view};
 ghost use Rattle.model.specs.Calls.{editAnswer, editTable, editStore};
 ghost use Rattle.model.specs.Bench.{schemeBytes, mapAnswer, mapSlots, tableAfter};
@@ -94,7 +94,7 @@ fn edits(
 // How many slots have the state s.
 fn tally(slots: usize, table: &[u32], s: u32) -> u32
     requires { ⌜ Sized slots (now table) ⌝ }
-    ensures { λ r. ⌜ r ≡ count slots (λ x. eqb (view slots (now (table .entry)) .state x) s) ⌝ }
+    ensures { λ r. ⌜ r ≡ countBelow slots (λ x. eqb (view slots (now (table .entry)) .state x) s) ⌝ }
 {
     let mut found = 0;
     let mut x = 0;

@@ -16,10 +16,10 @@ use Rattle.base.proofs.FirstLaws.{first-at, when-at, least-at}
 use Rattle.model.specs.Scheme.{Side, left, right, farEnd, targets, arcs, arcPart}
 use Rattle.model.specs.Conditions.{Arc, absent, explicit, implicit, arcOf, arcAt, reads}
 use Rattle.model.specs.Codes.{arcCode}
-use Rattle.model.specs.Formed.{Formed}
+use Rattle.model.specs.Shaped.{Shaped}
 use Rattle.model.specs.declared.Scheme.{Scheme}
 use Rattle.model.proofs.AcceptedLaws.{small}
-use Rattle.conditions.specs.Arcs.{entry, partOf, Joins, Coded}
+use Rattle.conditions.specs.Arcs.{entry, partOf, Joining, Coded}
 use Rattle.conditions.specs.Tree.{Ends, ByArc, Aimed}
 
 -- a side's arcs, as a scheme holds them
@@ -54,12 +54,12 @@ by-arc part c s i t e =
     go true q u v = inl (eqb-true _ _ q, u)
     go false q u v = inr (u, eqb-true _ _ v)
 
-module _ (S : Scheme) (f : Formed S) (side : Side) where
+module _ (S : Scheme) (f : Shaped S) (side : Side) where
   places-few : S .places ≤ 4
   places-few = let a = f .placesFew in let b = small S f in omega arith
 
   -- the arcs of a side are in order
-  pub joins : Joins (arcsOf S side) (arcs S side)
+  pub joins : Joining (arcsOf S side) (arcs S side)
   joins = record {
     few = f .sides side .few;
     dims = λ a h. let b = small S f in let d = f .sides side .dims a h in subst (λ (part : ℕ → ℕ → ℕ). part a 0 ≤ 3) (part-is S side) (omega arith);
@@ -102,5 +102,5 @@ module _ (S : Scheme) (f : Formed S) (side : Side) where
       go none e none g = omega arith
 
 -- the targets of a scheme are the codes of its nodes
-pub coded : (S : Scheme) (f : Formed S) (side : Side) → Coded S side (targets S side)
+pub coded : (S : Scheme) (f : Shaped S) (side : Side) → Coded S side (targets S side)
 coded S f side = record { at = λ s i h k. let few = f .nodesFew in f .sides side .coded s i (omega arith) k }

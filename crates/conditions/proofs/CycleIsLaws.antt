@@ -11,12 +11,12 @@ use lib.ListN.{getD}
 use lib.Dec.{eqb, ltb, leb}
 use borrow.Author.Tests.{lt-ltb, le-ltb, ne-eqb}
 use Rattle.base.specs.Test.{_and_, _or_, _⇒_}
-use Rattle.base.specs.First.{first, when, _orElse_}
+use Rattle.base.specs.First.{first, someIf, _orElse_}
 use Rattle.base.proofs.TestLaws.{and-true, or-false, eqb-same}
 use Rattle.base.proofs.FirstLaws.{or-else-last, first-same}
 use Rattle.model.specs.Scheme.{Side, left, right, kind, orbitDim}
-use Rattle.model.specs.Conditions.{Arc, absent, explicit, implicit, arcAt, sameArc, atEnd, atPlaces, fourArcs, oneArc, noArc, onCycle, cycleOk, cycleFault}
-use Rattle.model.specs.Formed.{Formed}
+use Rattle.model.specs.Conditions.{Arc, absent, explicit, implicit, arcAt, sameArc, atEnd, atPlaces, fourArcs, oneArc, bothImplicit, onCycle, cycleOk, cycleFault}
+use Rattle.model.specs.Shaped.{Shaped}
 use Rattle.model.specs.declared.Scheme.{Scheme}
 use Rattle.model.specs.declared.Answer.{Answer}
 use Rattle.model.specs.declared.Answer.the-variants.{BadCycle}
@@ -53,22 +53,22 @@ module _ (S : Scheme) (side : Side) (s i j : ℕ) where
   on-node : (t : ℕ) → arcAt S side s i ≡ explicit t
       → onCycle S side s i j ≡ (atEnd (arcAt S side t j) (λ u. atEnd (arcAt S side u i) (λ v. atEnd (arcAt S side v j) (eqb s)))
       or atPlaces (arcAt S side s j) (arcAt S side t j) eqb)
-  unfolding onCycle fourArcs oneArc noArc
+  unfolding onCycle fourArcs oneArc bothImplicit
   on-node t e = rw e (or-false _ ∙ ap (λ (b : Bool). (atEnd (arcAt S side t j) (λ u. atEnd (arcAt S side u i) (λ v. atEnd (arcAt S side v j) (eqb s)))
       or atPlaces (arcAt S side s j) (arcAt S side t j) eqb) or b) (at-end-never (arcAt S side s j)) ∙ or-false _)
 
   on-place : (p : ℕ) → arcAt S side s i ≡ implicit p
       → onCycle S side s i j ≡ (atEnd (arcAt S side s j) (λ t. atPlaces (implicit p) (arcAt S side t i) eqb) or atPlaces (implicit p) (arcAt S side s j) Apart)
-  unfolding onCycle fourArcs oneArc noArc _or_
+  unfolding onCycle fourArcs oneArc bothImplicit _or_
   on-place p e = rw e
 
   on-none : arcAt S side s i ≡ absent → onCycle S side s i j ≡ false
-  unfolding onCycle fourArcs oneArc noArc _or_
+  unfolding onCycle fourArcs oneArc bothImplicit _or_
   on-none e = rw e (rw (at-end-never (arcAt S side s j)))
 
 -- ---- what the codes say
 
-module _ (S : Scheme) (f : Formed S) (side : Side) (codes : List ℕ) (cd : Coded S side codes) where
+module _ (S : Scheme) (f : Shaped S) (side : Side) (codes : List ℕ) (cd : Coded S side codes) where
   node-code : (s i t : ℕ) → s < S .nodes → i < 4 → arcAt S side s i ≡ explicit t → (entry codes s i ≡ t) × (t < S .nodes)
   node-code s i t h l e = (cd .at s i h l ∙ ap arcCode e, subst (Small (S .nodes)) e (small-arc S f side s i))
 
@@ -192,7 +192,7 @@ same-code n (implicit o) absent h a b = ne-eqb (16 + o) 255 (λ q. absurd (omega
 same-code n (implicit o) (explicit t) h a b = ne-eqb (16 + o) t (λ q. absurd (omega arith))
 same-code n (implicit o) (implicit p) h a b = eqb-same (16 + o) (16 + p) o p (λ q. omega arith) (λ q. omega arith)
 
-module _ (S : Scheme) (f : Formed S) (lefts rights : List ℕ) (cl : Coded S left lefts) (cr : Coded S right rights) where
+module _ (S : Scheme) (f : Shaped S) (lefts rights : List ℕ) (cl : Coded S left lefts) (cr : Coded S right rights) where
   same-is : (s i : ℕ) → s < S .nodes → i < 4 → eqb (entry lefts s i) (entry rights s i) ≡ sameArc (arcAt S left s i) (arcAt S right s i)
   same-is s i h l =
       ap₂ eqb (cl .at s i h l) (cr .at s i h l)
@@ -217,18 +217,18 @@ module _ (S : Scheme) (f : Formed S) (lefts rights : List ℕ) (cl : Coded S lef
 
 module _ (g : ℕ → ℕ → Bool) (w : ℕ → ℕ → Answer) where
   abbrev InTurn : ℕ → Option Answer
-  InTurn n = first (suc n) (λ i. first (suc n) (λ j. when (leb (i + 2) j and g i j) (w i j)))
+  InTurn n = first (suc n) (λ i. first (suc n) (λ j. someIf (leb (i + 2) j and g i j) (w i j)))
 
   abbrev Stored : ℕ → Option Answer
-  Stored k = when (g (getD pairs (2 * k) 0) (getD pairs (2 * k + 1) 0)) (w (getD pairs (2 * k) 0) (getD pairs (2 * k + 1) 0))
+  Stored k = someIf (g (getD pairs (2 * k) 0) (getD pairs (2 * k + 1) 0)) (w (getD pairs (2 * k) 0) (getD pairs (2 * k + 1) 0))
 
   one-pair : InTurn 2 ≡ first 1 Stored
-  unfolding first _orElse_ when _and_
-  one-pair = or-else-last (when (g 0 2) (w 0 2) orElse none) ∙ or-else-last (when (g 0 2) (w 0 2))
+  unfolding first _orElse_ someIf _and_
+  one-pair = or-else-last (someIf (g 0 2) (w 0 2) orElse none) ∙ or-else-last (someIf (g 0 2) (w 0 2))
 
   three-pairs : InTurn 3 ≡ first 3 Stored
-  unfolding first _orElse_ when _and_
-  three-pairs = or-else-last _ ∙ or-else-last ((when (g 0 2) (w 0 2) orElse when (g 0 3) (w 0 3)) orElse when (g 1 3) (w 1 3))
+  unfolding first _orElse_ someIf _and_
+  three-pairs = or-else-last _ ∙ or-else-last ((someIf (g 0 2) (w 0 2) orElse someIf (g 0 3) (w 0 3)) orElse someIf (g 1 3) (w 1 3))
 
   pub pairs-are : (n : ℕ) → (n ≡ 2) ⊎ (n ≡ 3) → InTurn n ≡ first (pairCount n) Stored
   pairs-are n (inl e) = rw e one-pair
@@ -241,10 +241,10 @@ few-pairs n = go (eqb n 2)
     go true = omega arith
     go false = omega arith
 
-module _ (S : Scheme) (f : Formed S) (lefts rights : List ℕ) (cl : Coded S left lefts) (cr : Coded S right rights) where
+module _ (S : Scheme) (f : Shaped S) (lefts rights : List ℕ) (cl : Coded S left lefts) (cr : Coded S right rights) where
   -- the first offence at a node, and the first of all
   node-fault : (s : ℕ) → s < S .nodes
-      → first (suc (S .n)) (λ i. first (suc (S .n)) (λ j. when (leb (i + 2) j and not (cycleOk S s i j)) (BadCycle s i j)))
+      → first (suc (S .n)) (λ i. first (suc (S .n)) (λ j. someIf (leb (i + 2) j and not (cycleOk S s i j)) (BadCycle s i j)))
       ≡ atNode (S .orbit) (S .kinds) lefts rights (S .n) s
   unfolding atNode atPair
   node-fault s h =
@@ -252,7 +252,7 @@ module _ (S : Scheme) (f : Formed S) (lefts rights : List ℕ) (cl : Coded S lef
       ∙ first-same (pairCount (S .n)) _ _ (λ k l.
       let few = few-pairs (S .n) in
       let small = pair-small k (omega arith) in
-      ap (λ (b : Bool). when (not b) (BadCycle s (getD pairs (2 * k) 0) (getD pairs (2 * k + 1) 0)))
+      ap (λ (b : Bool). someIf (not b) (BadCycle s (getD pairs (2 * k) 0) (getD pairs (2 * k + 1) 0)))
       (sym (pair-by S f lefts rights cl cr s (getD pairs (2 * k) 0) (getD pairs (2 * k + 1) 0) h (small .0) (small .1))))
 
   pub cycle-is : cycleFault S ≡ first (S .nodes) (atNode (S .orbit) (S .kinds) lefts rights (S .n))

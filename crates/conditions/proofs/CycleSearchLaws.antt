@@ -7,7 +7,7 @@ use mathlib.Core.Option.{none, some}
 use mathlib.Core.List.{List}
 use native.Mathlib.Omega.{arith}
 use lib.ListN.{getD}
-use Rattle.base.specs.First.{first, when}
+use Rattle.base.specs.First.{first, someIf}
 use Rattle.base.proofs.FirstLaws.{first-hit}
 use Rattle.model.specs.declared.Answer.{Answer}
 use Rattle.model.specs.declared.Answer.the-variants.{Done, BadCycle}
@@ -23,11 +23,11 @@ pair-small (suc (suc (suc k))) h = absurd (omega arith)
 module _ (orbit kinds lefts rights : List ℕ) (s : ℕ) where
   module _ (k : ℕ) (b : Bool) (e : b ≡ pairBy (getD kinds s 0) orbit lefts rights s (getD pairs (2 * k) 0) (getD pairs (2 * k + 1) 0)) where
     pub pair-fine : not b ≡ false → atPair orbit kinds lefts rights s k ≡ none
-    unfolding atPair when
+    unfolding atPair someIf
     pair-fine f = rw (← e, f)
 
     pub pair-bad : not b ≡ true → atPair orbit kinds lefts rights s k ≡ some (BadCycle s (getD pairs (2 * k) 0) (getD pairs (2 * k + 1) 0))
-    unfolding atPair when
+    unfolding atPair someIf
     pair-bad f = rw (← e, f)
 
   module _ (n p k : ℕ) (q : p ≡ pairCount n) (e : first k (atPair orbit kinds lefts rights s) ≡ none) where

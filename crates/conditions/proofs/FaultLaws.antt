@@ -8,16 +8,16 @@ use mathlib.Core.List.{List}
 use native.Mathlib.Omega.{arith}
 use lib.ListN.{length}
 use Rattle.base.specs.Test.{_and_}
-use Rattle.base.specs.First.{first, least, when, _orElse_}
+use Rattle.base.specs.First.{first, least, someIf, _orElse_}
 use Rattle.model.specs.Scheme.{left, right}
 use Rattle.model.specs.Conditions.{hookFault, noted, schemeFault}
-use Rattle.model.specs.Formed.{Formed}
+use Rattle.model.specs.Shaped.{Shaped}
 use Rattle.model.specs.declared.Scheme.{Scheme}
 use Rattle.model.specs.declared.Answer.{Answer}
 use Rattle.model.specs.declared.Answer.the-variants.{Done, BadHook, BadIncidence}
 use Rattle.model.proofs.AcceptedLaws as AcceptedLaws
 use Rattle.model.specs.Codes.{twiceOf}
-use Rattle.conditions.specs.Arcs.{Joins, Coded}
+use Rattle.conditions.specs.Arcs.{Joining, Coded}
 use Rattle.conditions.specs.Tree.{Aimed, Lefts, Spanning, TreeOf}
 use Rattle.conditions.specs.Hook.{hookedBy, leftOut, foundOf, hookBy}
 use Rattle.conditions.specs.Incidence.{offends, arcsAnswer}
@@ -33,13 +33,13 @@ use Rattle.conditions.proofs.IncidenceLaws.{incidence-is}
 use Rattle.conditions.proofs.CycleIsLaws.{coding, cycle-is}
 
 -- what the tree of a scheme's left arcs is built from
-pub tree-asks : (S : Scheme) (f : Formed S) (n c : ℕ) → n ≡ S .nodes → c ≡ S .lcount
-    → (n ≤ 16) × (Joins (S .larcs) c × (Aimed (S .ltargets) (S .larcs) c × Lefts n (S .kinds) (S .larcs) c))
+pub tree-asks : (S : Scheme) (f : Shaped S) (n c : ℕ) → n ≡ S .nodes → c ≡ S .lcount
+    → (n ≤ 16) × (Joining (S .larcs) c × (Aimed (S .ltargets) (S .larcs) c × Lefts n (S .kinds) (S .larcs) c))
 tree-asks S f n c en ec = rw (ec, en) (f .nodesFew, (joins S f left, (aimed S f left, lefts S f)))
 
 -- ---- the first fault of a scheme, from its tree and tables
 
-module _ (S : Scheme) (f : Formed S) (lefts rights : List ℕ) (cl : Coded S left lefts) (cr : Coded S right rights) where
+module _ (S : Scheme) (f : Shaped S) (lefts rights : List ℕ) (cl : Coded S left lefts) (cr : Coded S right rights) where
   pub fault-asks : ((2 ≤ S .n) × (S .n ≤ 3) × (S .places ≤ 4) × (S .nodes ≤ 16)) × (Coding (S .nodes) lefts × Coding (S .nodes) rights)
   fault-asks =
       let d = AcceptedLaws.small S f in
@@ -49,10 +49,10 @@ module _ (S : Scheme) (f : Formed S) (lefts rights : List ℕ) (cl : Coded S lef
 
   module _ (long : length (S .lwords) ≡ 64) (t : Tree) (g : TreeOf S t) (ltwice rtwice : List Bool) (tl : ltwice ≡ twiceOf S left) (tr : rtwice ≡ twiceOf S right) where
     hook-found : foundOf (hookFault S) ≡ hookBy (S .places) (S .orbit) (S .kinds) (S .lwords) (foundOf (least (S .nodes) (leftOut (S .kinds) (t .reached))))
-    unfolding hookFault hookBy when _orElse_
+    unfolding hookFault hookBy someIf _orElse_
     hook-found = rw (hook-is S f long, unreached-is S f t g) (go (hookedBy (S .places) (S .orbit) (S .kinds) (S .lwords)) (least (S .nodes) (leftOut (S .kinds) (t .reached))))
       where
-        go : (h : Bool) (o : Option ℕ) → foundOf (when (not h) 0 orElse o) ≡ cond h (foundOf o) (Node 0)
+        go : (h : Bool) (o : Option ℕ) → foundOf (someIf (not h) 0 orElse o) ≡ cond h (foundOf o) (Node 0)
         go true o = refl
         go false o = refl
 
@@ -101,28 +101,28 @@ module _ (n nodes : ℕ) (orbit kinds lefts rights : List ℕ) (ltwice rtwice : 
 module _ {n places nodes : ℕ} {orbit kinds lwords ltargets rtargets : List ℕ} {lcount : ℕ} {larcs : List ℕ} {ltwice rtwice : List Bool}
     (J : Judging n places nodes orbit kinds lwords ltargets rtargets lcount larcs ltwice rtwice) where
   left-coded : Coded (J .scheme) left ltargets
-  left-coded = rw (J .ltargetsIs) (coded (J .scheme) (J .formed) left)
+  left-coded = rw (J .ltargetsIs) (coded (J .scheme) (J .shaped) left)
 
   right-coded : Coded (J .scheme) right rtargets
-  right-coded = rw (J .rtargetsIs) (coded (J .scheme) (J .formed) right)
+  right-coded = rw (J .rtargetsIs) (coded (J .scheme) (J .shaped) right)
 
-  pub judge-tree : (c l : ℕ) → c ≡ nodes → l ≡ lcount → (c ≤ 16) × (Joins larcs l × (Aimed ltargets larcs l × Lefts c kinds larcs l))
-  judge-tree c l ec el = rw (J .kindsIs, J .ltargetsIs, J .larcsIs) (tree-asks (J .scheme) (J .formed) c l (ec ∙ J .nodesIs) (el ∙ J .lcountIs))
+  pub judge-tree : (c l : ℕ) → c ≡ nodes → l ≡ lcount → (c ≤ 16) × (Joining larcs l × (Aimed ltargets larcs l × Lefts c kinds larcs l))
+  judge-tree c l ec el = rw (J .kindsIs, J .ltargetsIs, J .larcsIs) (tree-asks (J .scheme) (J .shaped) c l (ec ∙ J .nodesIs) (el ∙ J .lcountIs))
 
   module _ (p c : ℕ) (ep : p ≡ places) (ec : c ≡ nodes) where
     pub judge-asks : ((2 ≤ n) × (n ≤ 3) × (p ≤ 4) × (c ≤ 16)) × (Coding c ltargets × Coding c rtargets)
-    judge-asks = rw (ep, ec, J .nIs, J .placesIs, J .nodesIs) (fault-asks (J .scheme) (J .formed) ltargets rtargets left-coded right-coded)
+    judge-asks = rw (ep, ec, J .nIs, J .placesIs, J .nodesIs) (fault-asks (J .scheme) (J .shaped) ltargets rtargets left-coded right-coded)
 
     -- the tree and the answer that come of it
     pub judge-is : (l : ℕ) → l ≡ lcount → (t : Tree) → Spanning larcs l t → (out : Found) → out ≡ foundOf (least c (leftOut kinds (t .reached)))
         → (r : Answer) → r ≡ faultBy n p c orbit kinds lwords out ltargets rtargets ltwice rtwice → VerdictOf (J .scheme) (record { answer = r; tree = t })
     judge-is l el t g out eo r e =
         let span : Spanning (J .scheme .larcs) (J .scheme .lcount) t = rw (J .larcsIs, el, J .lcountIs) at g in
-        let tree = tree-of (J .scheme) (J .formed) t span in
+        let tree = tree-of (J .scheme) (J .shaped) t span in
         let long = rw (J .lwordsIs) at (J .longWords) in
         let left = rw (ec, J .nodesIs, J .kindsIs) at eo in
         let by = rw (ep, ec, J .nIs, J .placesIs, J .nodesIs, J .orbitIs, J .kindsIs, J .lwordsIs) at e in
         record {
-          answer = fault-is (J .scheme) (J .formed) ltargets rtargets left-coded right-coded long t tree ltwice rtwice (J .ltwiceIs) (J .rtwiceIs) out left r by;
+          answer = fault-is (J .scheme) (J .shaped) ltargets rtargets left-coded right-coded long t tree ltwice rtwice (J .ltwiceIs) (J .rtwiceIs) out left r by;
           tree = tree;
         }

@@ -11,7 +11,7 @@ use lib.ListN.{length, getD}
 use lib.Dec.{eqb}
 use borrow.Author.Tests.{eqb-true, eqb-false, eq-eqb, ne-eqb}
 use Rattle.base.specs.Test.{_and_, _or_}
-use Rattle.base.specs.Below.{all}
+use Rattle.base.specs.Below.{allBelow}
 use Rattle.base.specs.First.{least, there}
 use Rattle.base.proofs.BelowLaws.{all-not, all-same}
 use Rattle.base.proofs.FirstLaws.{least-hit, least-same, least-none}
@@ -19,7 +19,7 @@ use Rattle.base.proofs.ListLaws.{getD-inside}
 use Rattle.base.proofs.TestLaws.{or-left, or-right, true-or-false}
 use Rattle.model.specs.Scheme.{left, onSide, kind, orbitDim, has, added}
 use Rattle.model.specs.Conditions.{pathTo, hookRight}
-use Rattle.model.specs.Formed.{Formed}
+use Rattle.model.specs.Shaped.{Shaped}
 use Rattle.model.specs.declared.Scheme.{Scheme}
 use Rattle.model.proofs.AcceptedLaws as AcceptedLaws
 use Rattle.conditions.specs.Tree.{Lefts, TreeOf}
@@ -41,11 +41,11 @@ module _ (places : ℕ) (orbit kinds words : List ℕ) where
     unfolding hookedBy _and_
     hook-other p h d = rw (ne-eqb _ _ ne, all-not places Read p h (ne-eqb _ _ d))
 
-    pub hook-whole : (p : ℕ) → p ≤ places → places ≤ p → all p Read ≡ true → true ≡ hookedBy places orbit kinds words
+    pub hook-whole : (p : ℕ) → p ≤ places → places ≤ p → allBelow p Read ≡ true → true ≡ hookedBy places orbit kinds words
     unfolding hookedBy _and_
     hook-whole p l h e =
         let same : p ≡ places = omega arith in
-        let f : all places Read ≡ true = rw same at e in
+        let f : allBelow places Read ≡ true = rw same at e in
         rw (ne-eqb _ _ ne, f)
 
 -- ---- the search
@@ -109,7 +109,7 @@ left-is k l h = go (eqb k 3) refl
         (λ a. or-right (eqb k 1) (let x = eqb-false k 3 e in let y = eqb-false k 1 a in eq-eqb k 2 (omega arith)))
         (true-or-false (eqb k 1))
 
-module _ (S : Scheme) (f : Formed S) where
+module _ (S : Scheme) (f : Shaped S) where
   side-left : (s : ℕ) → s < S .nodes → has S left s ≡ not (eqb (kind S s) 3)
   side-left s h = let k = f .kinds s h in left-is (kind S s) (k .0) (k .1)
 

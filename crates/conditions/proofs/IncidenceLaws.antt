@@ -10,7 +10,7 @@ use lib.ListN.{getD}
 use lib.Dec.{eqb, leb}
 use borrow.Author.Tests.{ne-eqb, leb-true, leb-false, lt-leb, not-true}
 use Rattle.base.specs.Test.{_and_, _or_, _⇒_}
-use Rattle.base.specs.Below.{all, any, count}
+use Rattle.base.specs.Below.{allBelow, anyBelow, countBelow}
 use Rattle.base.specs.First.{least}
 use Rattle.base.proofs.TestLaws.{and-no-left, true-or-false}
 use Rattle.base.proofs.BelowLaws.{all-not, all-step, all-same, any-at, any-of, count-zero, one-to-three}
@@ -19,7 +19,7 @@ use Rattle.base.proofs.ListLaws.{getD-list}
 use Rattle.model.specs.Scheme.{Side, left, right, kind, word, arcs, arcPart}
 use Rattle.model.specs.Conditions.{Arc, absent, explicit, implicit, touches, reads, arcAt, arcsOfDim, incidenceOk, incidenceFault}
 use Rattle.model.specs.Codes.{arcCode, twiceAt, twiceOf}
-use Rattle.model.specs.Formed.{Formed}
+use Rattle.model.specs.Shaped.{Shaped}
 use Rattle.model.specs.declared.Scheme.{Scheme}
 use Rattle.model.proofs.AcceptedLaws as AcceptedLaws
 use Rattle.model.proofs.ArcLaws.{absent-of, absent-from}
@@ -56,9 +56,9 @@ module _ (n kind : ℕ) (lefts rights : List ℕ) (s : ℕ) where
   incident-not i h b e f = sym (all-not (suc n) AtDim i (omega arith) (sym e ∙ not-true b f))
 
   -- the dimensions below 3 are all that there are, or dimension 3 is left
-  module _ (i : ℕ) (h : i ≤ 3) (l : 3 ≤ i) (e : all i AtDim ≡ true) where
-    first-three : all 3 AtDim ≡ true
-    first-three = let same : i ≡ 3 = omega arith in ap (λ (k : ℕ). all k AtDim) (sym same) ∙ e
+  module _ (i : ℕ) (h : i ≤ 3) (l : 3 ≤ i) (e : allBelow i AtDim ≡ true) where
+    first-three : allBelow 3 AtDim ≡ true
+    first-three = let same : i ≡ 3 = omega arith in ap (λ (k : ℕ). allBelow k AtDim) (sym same) ∙ e
 
     pub incident-three : 2 ≤ n → n < 3 → true ≡ incidentBy n kind lefts rights s
     unfolding incidentBy
@@ -66,7 +66,7 @@ module _ (n kind : ℕ) (lefts rights : List ℕ) (s : ℕ) where
 
     pub incident-four : n ≤ 3 → 3 ≤ n → (b : Bool) → b ≡ AtDim 3 → b ≡ incidentBy n kind lefts rights s
     unfolding incidentBy _and_
-    incident-four a b r q = let three : n ≡ 3 = omega arith in let last : all 4 AtDim ≡ AtDim 3 = all-step 3 AtDim ∙ rw first-three refl in rw three (q ∙ sym last)
+    incident-four a b r q = let three : n ≡ 3 = omega arith in let last : allBelow 4 AtDim ≡ AtDim 3 = all-step 3 AtDim ∙ rw first-three refl in rw three (q ∙ sym last)
 
 -- ---- a node
 
@@ -111,16 +111,16 @@ same-test kind a b l r k1 k3 ha hb (inr (p, q)) (inr (u, v)) =
     let other : b ≡ 1 = omega arith in
     rw (one, other, ne-eqb l 255 q, ne-eqb r 255 v) (by-kind kind true true k1 k3)
 
-module _ (S : Scheme) (f : Formed S) where
+module _ (S : Scheme) (f : Shaped S) where
   -- a node has no arc of a dimension beyond n
   beyond : (side : Side) (s i : ℕ) → s < S .nodes → S .n < i → i < 4 → arcsOfDim S side s i ≡ 0
   unfolding arcsOfDim
   beyond side s i h l b = let none = zero-arcs in let empty = zero-words in omega arith
     where
-      zero-arcs : count (arcs S side) (touches S side s i) ≡ 0
+      zero-arcs : countBelow (arcs S side) (touches S side s i) ≡ 0
       zero-arcs = count-zero (arcs S side) _ (λ a k. let d = f .sides side .dims a k in and-no-left _ (ne-eqb (arcPart S side a 0) i (λ e. absurd (omega arith))))
 
-      zero-words : count (S .places) (reads S side s i) ≡ 0
+      zero-words : countBelow (S .places) (reads S side s i) ≡ 0
       zero-words = count-zero (S .places) _ (λ p k. ⊎-elim
           (λ e. ne-eqb (word S side s p) i (λ q. absurd (omega arith)))
           (λ e. ne-eqb (word S side s p) i (λ q. absurd (omega arith)))

@@ -7,7 +7,7 @@ use mathlib.Core.Option.{Option, none, some}
 use native.Mathlib.Omega.{arith}
 use Rattle.base.proofs.FirstLaws.{some-not-none, or-else-cases, first-at, when-at, least-at}
 use Rattle.model.specs.Conditions.{hookFault, incidenceFault, cycleFault, noted, schemeFault}
-use Rattle.model.specs.Formed.{Formed}
+use Rattle.model.specs.Shaped.{Shaped}
 use Rattle.model.specs.declared.Scheme.{Scheme}
 use Rattle.model.specs.declared.Answer.{Answer}
 use Rattle.model.specs.declared.Answer.the-variants.{BadHook, BadIncidence, BadCycle}
@@ -23,7 +23,7 @@ noted-at : (g : ℕ → Answer) (o : Option ℕ) (a : Answer) → noted g o ≡ 
 noted-at g none a e = absurd (some-not-none e refl)
 noted-at g (some x) a e = (x, refl, (cc))
 
-module _ (S : Scheme) (f : Formed S) where
+module _ (S : Scheme) (f : Shaped S) where
   hook-small : (x : ℕ) → hookFault S ≡ some x → x < 16
   unfolding hookFault
   hook-small x e = ⊎-elim

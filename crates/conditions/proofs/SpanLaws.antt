@@ -11,13 +11,13 @@ use lib.ListN.{getD}
 use lib.Dec.{eqb}
 use borrow.Author.Tests.{eqb-true, eq-eqb}
 use Rattle.base.specs.Test.{_and_, _or_}
-use Rattle.base.specs.First.{when, there}
+use Rattle.base.specs.First.{someIf, there}
 use Rattle.base.proofs.TestLaws.{and-left, and-right, and-of, or-cases, or-left, or-right, same-test}
 use Rattle.base.proofs.FirstLaws.{first-at, first-of, when-at, there-at}
 use Rattle.model.specs.Reach.{Leads, here, step}
 use Rattle.model.specs.Scheme.{left, arcs, arcPart, has}
 use Rattle.model.specs.Conditions.{leftArc, pathTo}
-use Rattle.model.specs.Formed.{Formed}
+use Rattle.model.specs.Shaped.{Shaped}
 use Rattle.model.specs.declared.Scheme.{Scheme}
 use Rattle.model.proofs.ReachLaws.{path-start, path-leads, path-found, path-none}
 use Rattle.conditions.specs.Tree.{Ends, Spanning, TreeOf}
@@ -25,11 +25,11 @@ use Rattle.conditions.specs.declared.tree.Tree.{Tree}
 use Rattle.conditions.proofs.TreeLaws.{few}
 use Rattle.base.proofs.BelowLaws.{le-or-lt}
 
-module _ (S : Scheme) (f : Formed S) where
+module _ (S : Scheme) (f : Shaped S) where
   -- an arc between two nodes is a step of a path
   arc-step : (a x y : ℕ) → a < arcs S left → Ends (arcPart S left) a x y → (i : ℕ) × (leftArc S x y ≡ some i)
-  unfolding leftArc when
-  arc-step a x y h e = first-of (arcs S left) _ a (arcPart S left a 0) h (ap (λ (b : Bool). when b (arcPart S left a 0)) (test e))
+  unfolding leftArc someIf
+  arc-step a x y h e = first-of (arcs S left) _ a (arcPart S left a 0) h (ap (λ (b : Bool). someIf b (arcPart S left a 0)) (test e))
     where
       test : Ends (arcPart S left) a x y → (eqb (arcPart S left a 1) x and eqb (arcPart S left a 2) y or eqb (arcPart S left a 1) y and eqb (arcPart S left a 2) x) ≡ true
       test (inl (p, q)) = or-left _ (and-of (eq-eqb _ _ p) (eq-eqb _ _ q))

@@ -10,7 +10,7 @@ use lib.ListN.{length, getD, set, replicate, length-set, List·getD-eq-default}
 use lib.Seq.{getD-set-same, getD-set-other}
 use lib.Dec.{eqb, leb}
 use borrow.Author.Tests.{eqb-true, eqb-false, leb-true, leb-false}
-use Rattle.base.specs.Below.{count}
+use Rattle.base.specs.Below.{countBelow}
 use Rattle.base.specs.First.{least}
 use Rattle.base.proofs.TestLaws.{true-or-false}
 use Rattle.base.proofs.BelowLaws.{below-step, count-more, count-le, count-some}
@@ -35,7 +35,7 @@ mark-was l y z e = ⊎-elim
 
 module _ (J : ℕ → ℕ → ℕ → Type 0) (node parent dim : List ℕ) (reached : List Bool) (size : ℕ) (s : TreeBy J node parent dim reached size) where
   module _ (y : ℕ) (hy : y < 16) (ry : getD reached y false ≡ false) where
-    more : count 16 (λ z. getD reached z false) < count 16 (λ z. getD (set reached y true) z false)
+    more : countBelow 16 (λ z. getD reached z false) < countBelow 16 (λ z. getD (set reached y true) z false)
     more =
         let long : y < length reached = omega (arith, s .longReached) in
         count-more 16 _ _ y hy ry (getD-set-same reached y true false long) (λ z h e. mark-keeps reached y z long e)

@@ -8,7 +8,7 @@ use mathlib.Core.List.{List, [], _∷_}
 use lib.ListN.{getD}
 use lib.Dec.{eqb, ltb, leb}
 use Rattle.base.specs.Test.{_and_, _or_}
-use Rattle.base.specs.First.{first, when}
+use Rattle.base.specs.First.{first, someIf}
 use Rattle.model.specs.declared.Answer.{Answer}
 use Rattle.model.specs.declared.Answer.the-variants.{Done, BadCycle}
 use Rattle.conditions.specs.Arcs.{entry}
@@ -58,7 +58,7 @@ pairCount n = cond (eqb n 2) 1 3
 module _ (orbit kinds lefts rights : List ℕ) where
   -- the offence of node s at pair k
   unfoldable pub atPair : ℕ → ℕ → Option Answer
-  atPair s k = when (not (pairBy (getD kinds s 0) orbit lefts rights s (getD pairs (2 * k) 0) (getD pairs (2 * k + 1) 0)))
+  atPair s k = someIf (not (pairBy (getD kinds s 0) orbit lefts rights s (getD pairs (2 * k) 0) (getD pairs (2 * k + 1) 0)))
       (BadCycle s (getD pairs (2 * k) 0) (getD pairs (2 * k + 1) 0))
 
   unfoldable pub atNode : ℕ → ℕ → Option Answer

@@ -7,13 +7,13 @@ use mathlib.Core.List.{List}
 use lib.ListN.{getD}
 use lib.Dec.{eqb}
 use Rattle.base.specs.Test.{_and_}
-use Rattle.base.specs.Below.{all}
+use Rattle.base.specs.Below.{allBelow}
 use Rattle.conditions.specs.declared.hook.Found.{Found}
 use Rattle.conditions.specs.declared.hook.Found.the-variants.{Node, Nothing}
 
 -- node 0 is not added, and its word is the orbit type
 unfoldable pub hookedBy : ℕ → List ℕ → List ℕ → List ℕ → Bool
-hookedBy places orbit kinds words = not (eqb (getD kinds 0 0) 3) and all places (λ p. eqb (getD words p 0) (getD orbit p 0))
+hookedBy places orbit kinds words = not (eqb (getD kinds 0 0) 3) and allBelow places (λ p. eqb (getD words p 0) (getD orbit p 0))
 
 -- s is not added, and not reached
 unfoldable pub leftOut : List ℕ → List Bool → ℕ → Bool

@@ -7,7 +7,7 @@ use mathlib.Core.List.{List}
 use lib.ListN.{getD}
 use lib.Dec.{eqb}
 use Rattle.base.specs.Test.{_or_}
-use Rattle.base.specs.Below.{all}
+use Rattle.base.specs.Below.{allBelow}
 use Rattle.base.specs.First.{least, first, _orElse_}
 use Rattle.model.specs.Conditions.{noted}
 use Rattle.model.specs.declared.Answer.{Answer}
@@ -21,7 +21,7 @@ paired kind l r = cond (eqb kind 1) (not (eqb l 255)) (cond (eqb kind 3) (not (e
 
 -- node s, of a kind, has the arcs of each dimension that it may have
 unfoldable pub incidentBy : ℕ → ℕ → List ℕ → List ℕ → ℕ → Bool
-incidentBy n kind lefts rights s = all (suc n) (λ i. paired kind (entry lefts s i) (entry rights s i))
+incidentBy n kind lefts rights s = allBelow (suc n) (λ i. paired kind (entry lefts s i) (entry rights s i))
 
 -- s has two arcs of a dimension on a side, or has not the arcs that it may have
 unfoldable pub offends : ℕ → List ℕ → List ℕ → List ℕ → List Bool → List Bool → ℕ → Bool

@@ -6,7 +6,7 @@ use mathlib.Core.Logic.{_⊎_}
 use mathlib.Core.Bool.{Bool, true, false}
 use mathlib.Core.List.{List}
 use lib.ListN.{length, getD}
-use Rattle.base.specs.Below.{count}
+use Rattle.base.specs.Below.{countBelow}
 use Rattle.base.specs.First.{there}
 use Rattle.model.specs.Scheme.{left, arcs, arcPart}
 use Rattle.model.specs.Conditions.{pathTo}
@@ -45,7 +45,7 @@ pub record TreeBy (J : ℕ → ℕ → ℕ → Type 0) (node parent dim : List �
   pub longDim : length dim ≡ 16
   pub longReached : length reached ≡ 16
   pub some : 1 ≤ size
-  pub total : size ≤ count 16 (λ s. getD reached s false)
+  pub total : size ≤ countBelow 16 (λ s. getD reached s false)
   pub root : getD node 0 0 ≡ 0
   pub branch : (k : ℕ) → 1 ≤ k → k < size → Branch J node parent dim k
   pub marked : (k : ℕ) → k < size → getD reached (getD node k 0) false ≡ true

@@ -7,7 +7,7 @@ use mathlib.Core.Option.{Option·getD}
 use mathlib.Core.List.{List}
 use lib.ListN.{length}
 use Rattle.model.specs.Scheme.{left, right}
-use Rattle.model.specs.Formed.{Formed}
+use Rattle.model.specs.Shaped.{Shaped}
 use Rattle.model.specs.Conditions.{schemeFault}
 use Rattle.model.specs.Codes.{twiceOf}
 use Rattle.model.specs.declared.Scheme.{Scheme}
@@ -33,7 +33,7 @@ faultBy n places nodes orbit kinds words out lefts rights leftTwice rightTwice =
 -- the numbers and lists are parts of a scheme in the form, and its nodes with two arcs of a dimension
 pub record Judging (n places nodes : ℕ) (orbit kinds lwords ltargets rtargets : List ℕ) (lcount : ℕ) (larcs : List ℕ) (ltwice rtwice : List Bool) : Type 0 where
   pub scheme : Scheme
-  pub formed : Formed scheme
+  pub shaped : Shaped scheme
   pub nIs : n ≡ scheme .n
   pub placesIs : places ≡ scheme .places
   pub nodesIs : nodes ≡ scheme .nodes

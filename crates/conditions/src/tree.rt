@@ -8,7 +8,7 @@ ghost use Prim.Native.Nat.{_+_, _<_, _≤_};
 ghost use mathlib.Core.Bool.{true, false};
 ghost use lib.ListN.{set};
 ghost use Rattle.base.specs.First.{least};
-ghost use Rattle.conditions.specs.Arcs.{Joins};
+ghost use Rattle.conditions.specs.Arcs.{Joining};
 ghost use Rattle.conditions.specs.Tree.{ByTarget, TreeBy, Reaching, Aimed, Lefts, Spans, Joined, Grown, Closed, Spanning};
 ghost use Rattle.conditions.specs.Hook.{leftOut, foundOf};
 
@@ -56,7 +56,7 @@ fn join<'a>(
     reached: &'a mut [bool; 16],
     size: usize,
 ) -> usize
-    requires { ⌜ Joins (now arcs) count ⌝ }
+    requires { ⌜ Joining (now arcs) count ⌝ }
     requires { ⌜ a < count ⌝ }
     requires { ⌜ Spans (now arcs) count (now node) (now parent) (now dim) (now reached) size ⌝ }
     ensures { λ r. ⌜ Joined (now (arcs .entry)) count a (now (node .exit)) (now (parent .exit)) (now (dim .exit)) (now (reached .entry)) (now (reached .exit)) size r ⌝ }
@@ -88,7 +88,7 @@ fn grow<'a>(
     reached: &'a mut [bool; 16],
     size: usize,
 ) -> usize
-    requires { ⌜ Joins (now arcs) count ⌝ }
+    requires { ⌜ Joining (now arcs) count ⌝ }
     requires { ⌜ Spans (now arcs) count (now node) (now parent) (now dim) (now reached) size ⌝ }
     ensures { λ r. ⌜ Grown (now (arcs .entry)) count count (now (node .exit)) (now (parent .exit)) (now (dim .exit)) (now (reached .exit)) size r ⌝ }
 {
@@ -181,7 +181,7 @@ fn pass<'a>(
     reached: &'a mut [bool; 16],
     size: usize,
 ) -> usize
-    requires { ⌜ Joins (now arcs) count ⌝ }
+    requires { ⌜ Joining (now arcs) count ⌝ }
     requires { ⌜ Spans (now arcs) count (now node) (now parent) (now dim) (now reached) size ⌝ }
     ensures { λ r. ⌜ Closed (now (arcs .entry)) count (now (node .exit)) (now (parent .exit)) (now (dim .exit)) (now (reached .exit)) r ⌝ }
 {
@@ -211,7 +211,7 @@ pub fn reach_of<'a>(
     arcs: &'a [u8; 192],
 ) -> Reach
     requires { ⌜ nodes ≤ 16 ⌝ }
-    requires { ⌜ Joins (now arcs) count ⌝ }
+    requires { ⌜ Joining (now arcs) count ⌝ }
     requires { ⌜ Aimed (now targets) (now arcs) count ⌝ }
     requires { ⌜ Lefts nodes (now kinds) (now arcs) count ⌝ }
     ensures { λ r. ⌜ Spanning (now (arcs .entry)) count (r .tree) ⌝ }

@@ -9,14 +9,14 @@ use native.Mathlib.Omega.{arith}
 use lib.ListN.{length}
 use lib.Dec.{ltb}
 use borrow.Author.Tests.{lt-ltb, le-ltb}
-use Rattle.base.specs.Below.{count}
+use Rattle.base.specs.Below.{countBelow}
 use Rattle.base.proofs.BelowLaws.{count-le}
-use Rattle.base.specs.First.{when, _orElse_, there, nth}
-use Rattle.model.specs.Map.{view, words, unused}
+use Rattle.base.specs.First.{someIf, _orElse_, there, nthLowest}
+use Rattle.model.specs.Map.{view, tableOf, unused}
 use Rattle.model.specs.Scheme.{left, right, orbitDim, added}
 use Rattle.model.specs.Match.{image, matches, Assignment}
 use Rattle.model.specs.Edit.{orbitSize, addedDarts, deletedDarts, edited}
-use Rattle.model.specs.Calls.{roomFault}
+use Rattle.model.specs.Calls.{fitFault}
 use Rattle.model.specs.declared.Scheme.{Scheme}
 use Rattle.model.specs.declared.Answer.the-variants.{Edited, NoMatch, NoRoom}
 use Rattle.model.proofs.AcceptedLaws.{small}
@@ -38,7 +38,7 @@ use Rattle.edit.proofs.WalkLaws.{walked-kept}
 
 module _ (slots : ℕ) (t : List ℕ) (S : Scheme) (d : ℕ) (A : At slots t S d) where
   pub places-few : S .places ≤ 4
-  places-few = omega (arith, A .accepted .formed .placesFew, small S (A .accepted .formed))
+  places-few = omega (arith, A .accepted .shaped .placesFew, small S (A .accepted .shaped))
 
   -- a match is an assignment
   pub assignment : matches (view slots t) S (orbitFor (view slots t) S d) ≡ true
@@ -50,7 +50,7 @@ module _ (slots : ℕ) (t : List ℕ) (S : Scheme) (d : ℕ) (A : At slots t S d
 module _ (slots : ℕ) (t : List ℕ) (S : Scheme) (d : ℕ) where
   pub no-match : {store store′ cols : List ℕ} {size : ℕ} {answer : Bool} → C.Matched S d slots t store store′ cols size answer → answer ≡ false
       → Applied slots t S d NoMatch t
-  unfolding roomFault when _orElse_ there
+  unfolding fitFault someIf _orElse_ there
   no-match m e =
       let q : matches (view slots t) S (orbitFor (view slots t) S d) ≡ false = sym (m .is) ∙ e in
       record { answer = rw q refl; table = rw q refl }
@@ -58,14 +58,14 @@ module _ (slots : ℕ) (t : List ℕ) (S : Scheme) (d : ℕ) where
 -- ---- from one phase to the next
 
 -- the walk can begin
-pub walk-ready : (slots : ℕ) (t : List ℕ) (S : Scheme) (d : ℕ) → At slots t S d → W.Ready slots t (S .orbit) (S .places)
+pub walk-ready : (slots : ℕ) (t : List ℕ) (S : Scheme) (d : ℕ) → At slots t S d → W.BeforeWalking slots t (S .orbit) (S .places)
 walk-ready slots t S d A = record {
   sized = A .sized;
   n = S .n;
-  small = small S (A .accepted .formed);
-  formed = A .well;
+  small = small S (A .accepted .shaped);
+  well = A .well;
   few = places-few slots t S d A;
-  dim = A .accepted .formed .orbitDims;
+  dim = A .accepted .shaped .orbitDims;
 }
 
 -- the orbit stands in the store
@@ -87,19 +87,19 @@ module _ {slots : ℕ} {t store : List ℕ} {S : Scheme} {size d : ℕ} (w : Wal
       dart = d;
       accepted = w .at .accepted;
       sized = w .at .sized;
-      formed = w .at .well;
+      well = w .at .well;
       below = w .at .slot;
       alive = w .at .alive;
       walked = w .walked;
       taken = w .taken;
       rooted = rooted S (w .at .accepted) p P;
     };
-    coded = coded S (w .at .accepted .formed) left;
+    coded = coded S (w .at .accepted .shaped) left;
     colsLong = wide;
   }
 
   abbrev pub settle-ready : (store′ cols′ : List ℕ) (answer : Bool) → C.Matched S d slots t store store′ cols′ size answer → answer ≡ true
-      → (c : ℕ) → c ≡ S .nodes → (room : ℕ) → room ≡ count slots (unused (view slots t))
+      → (c : ℕ) → c ≡ S .nodes → (room : ℕ) → room ≡ countBelow slots (unused (view slots t))
       → Settling slots t store′ c (S .kinds) (S .rtargets) size room d cols′
   settle-ready store′ cols′ answer m e c n room free = record {
     scheme = S;
@@ -113,7 +113,7 @@ module _ {slots : ℕ} {t store : List ℕ} {S : Scheme} {size d : ℕ} (w : Wal
     };
     nodes = n;
     kinded = refl;
-    coded = coded S (w .at .accepted .formed) right;
+    coded = coded S (w .at .accepted .shaped) right;
     free = free;
   }
 
@@ -125,12 +125,12 @@ module _ {slots : ℕ} {t store : List ℕ} {c : ℕ} {kinds codes : List ℕ} {
   orbitOf = orbitFor (view slots t) (E .scheme) d
 
   nodes-few : c ≤ 16
-  nodes-few = omega (arith, E .nodes, E .fitting .at .accepted .formed .nodesFew)
+  nodes-few = omega (arith, E .nodes, E .fitting .at .accepted .shaped .nodesFew)
 
   -- the nodes of a kind are those of the scheme, and their darts are few
   module _ {k : ℕ} {node : List ℕ} {many : ℕ} (n : Listed c kinds k node many) where
-    kind-count : many ≡ count (E .scheme .nodes) (isKind (E .scheme .kinds) k)
-    kind-count = n .total ∙ ap₂ (λ (z : ℕ) (l : List ℕ). count z (isKind l k)) (E .nodes) (E .kinded)
+    kind-count : many ≡ countBelow (E .scheme .nodes) (isKind (E .scheme .kinds) k)
+    kind-count = n .total ∙ ap₂ (λ (z : ℕ) (l : List ℕ). countBelow z (isKind l k)) (E .nodes) (E .kinded)
 
     pub pairs-few : (size ≤ 1024) × (size * many ≤ 16384)
     pairs-few =
@@ -146,29 +146,29 @@ module _ {slots : ℕ} {t store : List ℕ} {c : ℕ} {kinds codes : List ℕ} {
     added-is = ap₂ _*_ (sym (E .fitting .walked .counted)) (kind-count new)
 
     pub no-room : room < size * many → Applied slots t (E .scheme) d NoRoom t
-    unfolding roomFault when _orElse_ there
+    unfolding fitFault someIf _orElse_ there
     no-room h =
-        let short : ltb (count slots (unused (view slots t))) (addedDarts (view slots t) (E .scheme) orbitOf) ≡ true =
+        let short : ltb (countBelow slots (unused (view slots t))) (addedDarts (view slots t) (E .scheme) orbitOf) ≡ true =
         ap₂ ltb (sym (E .free)) (sym added-is) ∙ lt-ltb room (size * many) h in
         record { answer = rw (E .fitting .match, short) refl; table = rw (E .fitting .match, short) refl }
 
     -- and there is room for their darts
     module _ (h : size * many ≤ room) where
-      pub roomy : addedDarts (view slots t) (E .scheme) orbitOf ≤ count slots (unused (view slots t))
-      roomy = subst (λ (k : ℕ). k ≤ count slots (unused (view slots t))) added-is (subst (λ (k : ℕ). size * many ≤ k) (E .free) h)
+      pub roomy : addedDarts (view slots t) (E .scheme) orbitOf ≤ countBelow slots (unused (view slots t))
+      roomy = subst (λ (k : ℕ). k ≤ countBelow slots (unused (view slots t))) added-is (subst (λ (k : ℕ). size * many ≤ k) (E .free) h)
 
       pub listed : G.Listed (E .scheme) node many
       listed = record {
         every = kind-count new;
-        node = λ a l. sym (ap₂ (λ (z : ℕ) (q : List ℕ). nth z (isKind q 3) a) (E .nodes) (E .kinded)) ∙ new .each a l;
+        node = λ a l. sym (ap₂ (λ (z : ℕ) (q : List ℕ). nthLowest z (isKind q 3) a) (E .nodes) (E .kinded)) ∙ new .each a l;
       }
 
       -- the darts of the added pairs can be given
-      abbrev pub give-ready : G.Ready slots t store size node many cols
+      abbrev pub give-ready : G.BeforeGiving slots t store size node many cols
       give-ready = record {
         scheme = E .scheme;
         dart = d;
-        formed = E .fitting .at .accepted .formed;
+        shaped = E .fitting .at .accepted .shaped;
         sized = E .fitting .at .sized;
         long = E .fitting .long;
         well = E .fitting .at .well;
@@ -183,7 +183,7 @@ module _ {slots : ℕ} {t store : List ℕ} {c : ℕ} {kinds codes : List ℕ} {
 
       -- and with them the links can be rewritten
       abbrev pub link-ready : (t′ store′ cols′ : List ℕ) → G.Granted (view slots t) (E .scheme) orbitOf t store t′ store′ cols′ size
-          → L.Ready slots t′ store′ size kinds codes c cols′
+          → L.BeforeRewriting slots t′ store′ size kinds codes c cols′
       link-ready t′ store′ cols′ g = record {
         scheme = E .scheme;
         dart = d;
@@ -201,14 +201,14 @@ module _ {slots : ℕ} {t store : List ℕ} {c : ℕ} {kinds codes : List ℕ} {
         coded = E .coded;
       }
 
-      pub done : {other : List ℕ} {gone : ℕ} → Listed c kinds 1 other gone → (t′ : List ℕ) → t′ ≡ words (edited (view slots t) (E .scheme) orbitOf)
+      pub done : {other : List ℕ} {gone : ℕ} → Listed c kinds 1 other gone → (t′ : List ℕ) → t′ ≡ tableOf (edited (view slots t) (E .scheme) orbitOf)
           → Applied slots t (E .scheme) d (Edited size (size * many) (size * gone)) t′
-      unfolding roomFault when _orElse_ there addedDarts deletedDarts orbitSize rewritten
+      unfolding fitFault someIf _orElse_ there addedDarts deletedDarts orbitSize rewritten
       done old t′ q =
           let f = E .fitting in
           let s = f .walked .counted in
           let n = kind-count new in
           let g = kind-count old in
-          let wide : ltb (count slots (unused (view slots t))) (count slots orbitOf * count (E .scheme .nodes) (added (E .scheme))) ≡ false =
+          let wide : ltb (countBelow slots (unused (view slots t))) (countBelow slots orbitOf * countBelow (E .scheme .nodes) (added (E .scheme))) ≡ false =
           ap₂ ltb (sym (E .free)) (ap₂ _*_ s (sym n)) ∙ le-ltb room (size * many) h in
           record { answer = rw (f .match, wide, s, ← n, ← g) refl; table = rw (f .match, wide) q }

@@ -14,14 +14,14 @@ use lib.Pow.{pow-pos}
 use lib.Seq.{getD-set-same, getD-set-other}
 use borrow.Author.Tests.{ltb-true, lt-ltb, leb-true, le-leb}
 use Rattle.base.specs.Test.{_and_, bit}
-use Rattle.base.specs.Below.{count}
+use Rattle.base.specs.Below.{countBelow}
 use Rattle.base.specs.Binary.{binary}
 use Rattle.base.proofs.TestLaws.{and-left, and-right, and-of, impossible, same-test}
 use Rattle.base.proofs.BelowLaws.{count-step, count-gap}
 use Rattle.base.proofs.BinaryLaws.{binary-same, binary-below, binary-more, binary-none, binary-zero, binary-lowest, shifted}
 use Rattle.model.specs.declared.Scheme.{Scheme}
 use Rattle.edit.specs.Store.{mark, place}
-use Rattle.edit.specs.Grant.{Grant, Granting, Turn, early, Placed, Blank, Digits, Block}
+use Rattle.edit.specs.Grant.{Grant, Granting, Turn, early, Placed, NoDigits, Digits, Block}
 use Rattle.edit.proofs.StoreLaws.{among-at, among-of}
 
 -- ---- a digit for each of the first places
@@ -34,10 +34,10 @@ early-of : (N : ℕ) (s : List ℕ) (r x : ℕ) → x < N → 1 ≤ mark s x →
 unfolding early
 early-of N s r x h l m = and-of (lt-ltb x N h) (among-of s r x l m)
 
-pub blank : Blank (replicate 16 0)
+pub blank : NoDigits (replicate 16 0)
 blank = record { long = length-replicate {A = ℕ} 16 0; zeros = λ w h. getD-replicate 16 w 0 0 h }
 
-pub digits-none : (N : ℕ) (s bits : List ℕ) → Blank bits → Digits (early N s 0) bits
+pub digits-none : (N : ℕ) (s bits : List ℕ) → NoDigits bits → Digits (early N s 0) bits
 digits-none N s bits z = record {
   long = z .long;
   at = λ w h. z .zeros w h ∙ sym (binary-zero 64 _ (λ k l. impossible _ (λ e. let m = early-at N s 0 (64 * w + k) e in omega arith)));
@@ -125,7 +125,7 @@ pub record Passed (N : ℕ) (S : Scheme) (O : ℕ → Bool) (t₀ s₀ : List �
   pub passed : ℕ
   pub few : passed ≤ 64
   pub digits : rest ≡ binary 64 (λ k. leb passed k and O (64 * w + k))
-  pub granting : Granting N S O t₀ s₀ size (count (64 * w + passed) O * many) from t s
+  pub granting : Granting N S O t₀ s₀ size (countBelow (64 * w + passed) O * many) from t s
 
 pub passed-none : {N : ℕ} {t s : List ℕ} {size many w number free : ℕ} (B : Block N t s size many w number free)
     → Passed N (B .scheme) (B .orbit) (B .table) (B .store) size many w number free t s
@@ -135,19 +135,19 @@ passed-none {N} {t} {s} {size} {many} {w} {number} {free} B =
       passed = 0;
       few = omega arith;
       digits = B .digits ∙ binary-same 64 _ _ (λ k l. same-test _ _ (λ e. and-of (le-leb 0 k (omega arith)) e) (λ e. and-right _ _ e));
-      granting = subst (λ (x : ℕ). Granting N (B .scheme) (B .orbit) (B .table) (B .store) size (count x (B .orbit) * many) free t s) z (B .granting);
+      granting = subst (λ (x : ℕ). Granting N (B .scheme) (B .orbit) (B .table) (B .store) size (countBelow x (B .orbit) * many) free t s) z (B .granting);
     }
 
 module _ {N : ℕ} {S : Scheme} {O : ℕ → Bool} {t₀ s₀ : List ℕ} {size many w rest from : ℕ} {t s : List ℕ} (G : Grant N S O t₀ s₀ size many)
     (p : Passed N S O t₀ s₀ size many w rest from t s) where
   same-count : (j : ℕ) → p .passed ≤ j → ((k : ℕ) → p .passed ≤ k → k < j → O (64 * w + k) ≡ false)
-      → Granting N S O t₀ s₀ size (count (64 * w + j) O * many) from t s
+      → Granting N S O t₀ s₀ size (countBelow (64 * w + j) O * many) from t s
   same-count j h f =
-      let c : count (64 * w + j) O ≡ count (64 * w + p .passed) O = count-gap O (64 * w + p .passed) (64 * w + j) (omega arith)
+      let c : countBelow (64 * w + j) O ≡ countBelow (64 * w + p .passed) O = count-gap O (64 * w + p .passed) (64 * w + j) (omega arith)
       (λ z l g. let k : 64 * w + (z - 64 * w) ≡ z = omega arith in ap O (sym k) ∙ f (z - 64 * w) (omega arith) (omega arith)) in
       rw c (p .granting)
 
-  pub passed-all : rest ≡ 0 → Granting N S O t₀ s₀ size (count (64 * w + 64) O * many) from t s
+  pub passed-all : rest ≡ 0 → Granting N S O t₀ s₀ size (countBelow (64 * w + 64) O * many) from t s
   passed-all e = same-count 64 (p .few)
       (λ k l h. impossible _ (λ q. true≢false (sym (and-of (le-leb (p .passed) k l) q) ∙ binary-none 64 _ (sym (p .digits) ∙ e) k h)))
 
@@ -189,7 +189,7 @@ module _ {N : ℕ} {S : Scheme} {O : ℕ → Bool} {t₀ s₀ : List ℕ} {size 
     pub dart-fits : 64 * w + j < N
     dart-fits = G .slot (64 * w + j) in-orbit
 
-    next : Granting N S O t₀ s₀ size (count (64 * w + j) O * many) from t s
+    next : Granting N S O t₀ s₀ size (countBelow (64 * w + j) O * many) from t s
     next = same-count j late skipped
 
     same-mark : mark s (64 * w + j) ≡ mark s₀ (64 * w + j)
@@ -216,13 +216,13 @@ module _ {N : ℕ} {S : Scheme} {O : ℕ → Bool} {t₀ s₀ : List ℕ} {size 
     -- after the pairs of the lowest dart that is left
     pub passed-more : (k rest′ from′ : ℕ) (t′ s′ : List ℕ) → k ≡ getD s (64 * w + j) 0 → rest′ ≡ rest - (1 * 2 ^ j) % 2 ^ 64
         → ((T : Turn N t s size many (64 * w + j) (k - 1) from)
-        → Granting N (T .scheme) (T .orbit) (T .table) (T .store) size (count (64 * w + j) (T .orbit) * many + many) from′ t′ s′)
+        → Granting N (T .scheme) (T .orbit) (T .table) (T .store) size (countBelow (64 * w + j) (T .orbit) * many + many) from′ t′ s′)
         → Passed N S O t₀ s₀ size many w rest′ from′ t′ s′
     unfolding turn-of
     passed-more k rest′ from′ t′ s′ q e f =
-        let c : count (64 * w + j + 1) O ≡ count (64 * w + j) O + 1 = count-step (64 * w + j) O ∙ ap (λ (b : Bool). count (64 * w + j) O + bit b) in-orbit in
+        let c : countBelow (64 * w + j + 1) O ≡ countBelow (64 * w + j) O + 1 = count-step (64 * w + j) O ∙ ap (λ (b : Bool). countBelow (64 * w + j) O + bit b) in-orbit in
         let a : 64 * w + (j + 1) ≡ 64 * w + j + 1 = omega arith in
-        let d : (count (64 * w + j) O + 1) * many ≡ count (64 * w + j) O * many + many = omega arith in
+        let d : (countBelow (64 * w + j) O + 1) * many ≡ countBelow (64 * w + j) O * many + many = omega arith in
         record {
           passed = j + 1;
           few = omega (arith, in-word);

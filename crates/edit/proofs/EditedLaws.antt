@@ -13,7 +13,7 @@ use lib.Dec.{leb}
 use borrow.Author.Tests.{eqb-true, eq-eqb, lt-ltb, ltb-true, le-leb, leb-true, leb-false}
 use Rattle.base.proofs.TestLaws.{and-left, and-right, and-of, true-or-false}
 use Rattle.base.proofs.FirstLaws.{some-not-none}
-use Rattle.model.specs.Map.{Map, view, tableSize, words}
+use Rattle.model.specs.Map.{Map, view, tableSize, tableOf}
 use Rattle.model.specs.Scheme.{left, right, orbitDim, has, deleted, added}
 use Rattle.model.specs.Conditions.{Arc, absent, explicit, implicit, arcAt}
 use Rattle.model.specs.Edit.{Pair, dartOf, pairOf, edited}
@@ -28,11 +28,11 @@ use Rattle.table.specs.Words.{wordAt}
 use Rattle.table.proofs.WordLaws.{word-state, word-link, word-tag}
 use Rattle.edit.specs.Store.{mark, place, next, among}
 use Rattle.model.specs.Codes.{arcCode}
-use Rattle.edit.specs.Links.{orbitFor, relinked, cleared, Turns, Legible, Columns, Codes, Ready, editedBy}
+use Rattle.edit.specs.Links.{orbitFor, relinked, cleared, Turnable, Legible, Columns, Codes, BeforeRewriting, editedBy}
 use Rattle.edit.proofs.WriteLaws.{pairDart, Different, relinked-long, relinked-leaves, relinked-node, relinked-position, relinked-none, cleared-long, cleared-leaves, cleared-sets}
 
 module _ {slots : ℕ} {table store : List ℕ} {size : ℕ} {kinds codes : List ℕ} {c : ℕ} {cols : List ℕ}
-    (R : Ready slots table store size kinds codes c cols) where
+    (R : BeforeRewriting slots table store size kinds codes c cols) where
   abbrev S : Scheme
   S = R .scheme
 
@@ -59,7 +59,7 @@ module _ {slots : ℕ} {table store : List ℕ} {size : ℕ} {kinds codes : List
   slot = orbit-slot m (S .places) (orbitDim S) (R .dart)
 
   sides : (v : ℕ) → v < S .nodes → (has S left v ≡ true) ⊎ (added S v ≡ true)
-  sides = left-or-added S (R .accepted .formed)
+  sides = left-or-added S (R .accepted .shaped)
 
   node : {v : ℕ} → v < c → v < S .nodes
   node {v} h = subst (λ (n : ℕ). v < n) (R .nodes) h
@@ -109,7 +109,7 @@ module _ {slots : ℕ} {table store : List ℕ} {size : ℕ} {kinds codes : List
 
   pub columns : Columns slots store size c cols
   columns = record {
-    few = let few = R .accepted .formed .nodesFew in let same = R .nodes in omega arith;
+    few = let few = R .accepted .shaped .nodesFew in let same = R .nodes in omega arith;
     at = λ v h. record {
       inside = let i = R .darts .inside v (node h) .1 in let long = R .stored in omega arith;
       slot = λ r b. different .slot v r h b;
@@ -120,7 +120,7 @@ module _ {slots : ℕ} {table store : List ℕ} {size : ℕ} {kinds codes : List
   legible v i h absent e = record { node = λ l. absurd (omega arith); position = λ l k. absurd (omega arith) }
   legible v i h (explicit t) e =
       let b = explicit-end S right (R .accepted .sides right) v i t e .0 in
-      let few = R .accepted .formed .nodesFew in
+      let few = R .accepted .shaped .nodesFew in
       let long = R .stored in
       record { node = λ l. let w = R .darts .inside t b .1 in omega arith; position = λ l k. absurd (omega arith) }
   legible v i h (implicit p) e =
@@ -128,17 +128,17 @@ module _ {slots : ℕ} {table store : List ℕ} {size : ℕ} {kinds codes : List
       let same : p ≡ 16 + p - 16 = omega arith in
       record {
         node = λ l. absurd (omega arith);
-        position = λ l k. subst (Turns slots store size) same record {
+        position = λ l k. subst (Turnable slots store size) same record {
           long = R .stored;
           fits = R .walked .fits;
-          position = let few = R .accepted .formed .placesFew in let n3 = small S (R .accepted .formed) in omega arith;
+          position = let few = R .accepted .shaped .placesFew in let n3 = small S (R .accepted .shaped) in omega arith;
           place = λ r w. R .walked .links r p w b .0;
         };
       }
 
   code-is : (v i : ℕ) → v < S .nodes → i < 4 → getD codes (4 * v + i) 0 ≡ arcCode (arcAt S right v i)
   code-is v i h l =
-      let few = R .accepted .formed .nodesFew in
+      let few = R .accepted .shaped .nodesFew in
       R .coded .at v i h l
 
   pub coding : Codes slots store size codes c cols
@@ -245,7 +245,7 @@ module _ {slots : ℕ} {table store : List ℕ} {size : ℕ} {kinds codes : List
           (sides v hv)
         where
           third-is : (i : ℕ) → i < 4 → S .n < i → i ≡ 3
-          third-is i l g = ⊎-elim (λ e. omega arith) (λ e. omega arith) (R .accepted .formed .dimension)
+          third-is i l g = ⊎-elim (λ e. omega arith) (λ e. omega arith) (R .accepted .shaped .dimension)
 
       link-linked : (i : ℕ) → i < 4 → (a : Arc) → arcAt S right v i ≡ a → wordAt linked (dart v r) (1 + i) ≡ new .link i (D (P r) v)
       link-linked i l absent a =
@@ -253,13 +253,13 @@ module _ {slots : ℕ} {table store : List ℕ} {size : ℕ} {kinds codes : List
           ∙ ap (λ (x : ℕ). wordAt table x (1 + i)) (dart-is v r hv hr) ∙ link-absent i l a
       link-linked i l (explicit t) a =
           let b = explicit-end S right (R .accepted .sides right) v i t a .0 in
-          let few = R .accepted .formed .nodesFew in
+          let few = R .accepted .shaped .nodesFew in
           relinked-node slots store size cols codes c different v i r (counted hv) l hr t (code-is v i hv l ∙ ap arcCode a) table (R .sized .long) (omega arith)
           ∙ dart-is t r b hr ∙ sym (E.link-explicit m S O slot sides (R .match) (R .room) (P r) v (place-in r hr) hv k i t a)
       link-linked i l (implicit p) a =
           let b = implicit-from S right v i p a .0 in
-          let few = R .accepted .formed .placesFew in
-          let n3 = small S (R .accepted .formed) in
+          let few = R .accepted .shaped .placesFew in
+          let n3 = small S (R .accepted .shaped) in
           let same : 16 + p - 16 ≡ p = omega arith in
           let w = R .walked .links r p hr b in
           relinked-position slots store size cols codes c different v i r (counted hv) l hr (16 + p) (code-is v i hv l ∙ ap arcCode a) table (R .sized .long) (omega arith) (omega arith)
@@ -311,7 +311,7 @@ module _ {slots : ℕ} {table store : List ℕ} {size : ℕ} {kinds codes : List
       (gone v r hv hr k 5 (omega arith) ∙ sym (E.tag-deleted m S O slot sides (R .match) (R .room) (P r) v (place-in r hr) hv k))
   tag-is x (rightPair v r hv hr k e) = subst (λ (y : ℕ). wordAt after y 5 ≡ new .tag y) e (tag-stays v r hv hr k)
 
-  edited-words : after ≡ words new
+  edited-words : after ≡ tableOf new
   unfolding edited
   edited-words = words-are new after after-long
       (λ x h. sym (word-state slots after x) ∙ state-is x (role x))
@@ -319,5 +319,5 @@ module _ {slots : ℕ} {table store : List ℕ} {size : ℕ} {kinds codes : List
       (λ x h. sym (word-tag slots after x) ∙ tag-is x (role x))
 
   pub rewritten : (t t′ : List ℕ) → t ≡ relinked slots store size cols codes (4 * c) table → t′ ≡ cleared store size cols kinds c t
-      → t′ ≡ words (editedBy R)
+      → t′ ≡ tableOf (editedBy R)
   rewritten t t′ e f = f ∙ ap (cleared store size cols kinds c) e ∙ edited-words

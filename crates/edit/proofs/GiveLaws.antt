@@ -7,7 +7,7 @@ use mathlib.Core.Bool.{Bool, true, false, true≢false}
 use mathlib.Core.List.{List}
 use native.Mathlib.Omega.{arith}
 use lib.ListN.{getD}
-use Rattle.base.specs.Below.{count}
+use Rattle.base.specs.Below.{countBelow}
 use Rattle.base.proofs.TestLaws.{or-left, or-right, true-or-false, impossible}
 use Rattle.base.proofs.BelowLaws.{count-le, count-injective, count-gap}
 use Rattle.base.proofs.BinaryLaws.{binary-same}
@@ -22,7 +22,7 @@ use Rattle.model.proofs.OrbitLaws.{orbit-slot, orbit-reached, reached-dart}
 use Rattle.model.proofs.RankLaws.{rank-low, dart-left}
 use Rattle.edit.specs.Store.{mark, place, next, dartAt, among, Kept}
 use Rattle.edit.specs.Phases.{Darts, Given}
-use Rattle.edit.specs.Grant.{column, Apart, Columned, Grant, Due, Granting, early, Placed, Digits, Block, Ready, Granted}
+use Rattle.edit.specs.Grant.{columnStart, Apart, ColumnsBegin, Grant, Due, Granting, early, Placed, Digits, Block, BeforeGiving, Granted}
 use Rattle.edit.proofs.StoreLaws.{among-at, among-of, among-same}
 use Rattle.edit.proofs.GrantLaws.{granting-none, cells, column-within}
 use Rattle.edit.proofs.BlockLaws.{early-orbit}
@@ -30,20 +30,20 @@ use Rattle.edit.proofs.BlockLaws.{early-orbit}
 -- ---- the words of digits one after the other
 
 module _ {N : ℕ} {S : Scheme} {O : ℕ → Bool} {t₀ s₀ : List ℕ} {size many : ℕ} (G : Grant N S O t₀ s₀ size many) where
-  pub granting-start : Granting N S O t₀ s₀ size (count 0 O * many) 0 t₀ s₀
-  unfolding count
+  pub granting-start : Granting N S O t₀ s₀ size (countBelow 0 O * many) 0 t₀ s₀
+  unfolding countBelow
   granting-start = let z : 0 * many ≡ 0 = omega arith in rw z (granting-none G)
 
   -- where no node is added, there is nothing to give
-  pub granting-idle : many ≡ 0 → Granting N S O t₀ s₀ size (count N O * many) 0 t₀ s₀
-  granting-idle e = let z : count N O * many ≡ 0 = rw e (omega arith) in rw z (granting-none G)
+  pub granting-idle : many ≡ 0 → Granting N S O t₀ s₀ size (countBelow N O * many) 0 t₀ s₀
+  granting-idle e = let z : countBelow N O * many ≡ 0 = rw e (omega arith) in rw z (granting-none G)
 
   -- a digit for each orbit dart
   orbit-digits : {bits : List ℕ} → Digits (early N s₀ size) bits → Digits O bits
   orbit-digits d = record { long = d .long; at = λ w h. d .at w h ∙ binary-same 64 _ _ (λ k l. early-orbit G (64 * w + k)) }
 
   module _ {bits : List ℕ} (d : Digits (early N s₀ size) bits) {w free : ℕ} {t s : List ℕ}
-      (g : Granting N S O t₀ s₀ size (count (64 * w) O * many) free t s) (h : w < 16) where
+      (g : Granting N S O t₀ s₀ size (countBelow (64 * w) O * many) free t s) (h : w < 16) where
     pub block-of : (number : ℕ) → number ≡ getD bits w 0 → Block N t s size many w number free
     block-of number e = record {
       scheme = S;
@@ -58,17 +58,17 @@ module _ {N : ℕ} {S : Scheme} {O : ℕ → Bool} {t₀ s₀ : List ℕ} {size 
     -- after the pairs of one word of digits, those of the next
     pub next-block : (number free′ : ℕ) (t′ s′ : List ℕ) → number ≡ getD bits w 0
         → ((B : Block N t s size many w number free)
-        → Granting N (B .scheme) (B .orbit) (B .table) (B .store) size (count (64 * w + 64) (B .orbit) * many) free′ t′ s′)
-        → Granting N S O t₀ s₀ size (count (64 * (w + 1)) O * many) free′ t′ s′
+        → Granting N (B .scheme) (B .orbit) (B .table) (B .store) size (countBelow (64 * w + 64) (B .orbit) * many) free′ t′ s′)
+        → Granting N S O t₀ s₀ size (countBelow (64 * (w + 1)) O * many) free′ t′ s′
     unfolding block-of
     next-block number free′ t′ s′ e f = let a : 64 * (w + 1) ≡ 64 * w + 64 = omega arith in rw a (f (block-of number e))
 
 -- ---- from the phases before
 
-abbrev pub orbitOf : {N : ℕ} {t s : List ℕ} {size : ℕ} {nodes : List ℕ} {many : ℕ} {cols : List ℕ} → Ready N t s size nodes many cols → ℕ → Bool
+abbrev pub orbitOf : {N : ℕ} {t s : List ℕ} {size : ℕ} {nodes : List ℕ} {many : ℕ} {cols : List ℕ} → BeforeGiving N t s size nodes many cols → ℕ → Bool
 orbitOf {N} {t} R = orbit (view N t) (R .scheme .places) (orbitDim (R .scheme)) (R .dart)
 
-module _ {N : ℕ} {t s : List ℕ} {size : ℕ} {nodes : List ℕ} {many : ℕ} {cols : List ℕ} (R : Ready N t s size nodes many cols) where
+module _ {N : ℕ} {t s : List ℕ} {size : ℕ} {nodes : List ℕ} {many : ℕ} {cols : List ℕ} (R : BeforeGiving N t s size nodes many cols) where
   in-table : (u : ℕ) → orbitOf R u ≡ true → u < N
   in-table u e = orbit-slot (view N t) (R .scheme .places) (orbitDim (R .scheme)) (R .dart) u e
 
@@ -83,7 +83,7 @@ module _ {N : ℕ} {t s : List ℕ} {size : ℕ} {nodes : List ℕ} {many : ℕ}
     room = R .room;
     counted = R .walked .counted;
     slot = in-table;
-    alive = λ u e. reached-dart (view N t) (R .scheme .places) (orbitDim (R .scheme)) (R .dart) (R .scheme .n) (R .well) (R .formed .orbitDims) (R .slot) (R .alive)
+    alive = λ u e. reached-dart (view N t) (R .scheme .places) (orbitDim (R .scheme)) (R .dart) (R .scheme .n) (R .well) (R .shaped .orbitDims) (R .slot) (R .alive)
         (orbit-reached (view N t) (R .scheme .places) (orbitDim (R .scheme)) (R .dart) u e) .1;
     is = R .walked .is;
     placed = λ u e. among-at s size u (in-store u e);
@@ -101,25 +101,25 @@ module _ {N : ℕ} {t s : List ℕ} {size : ℕ} {nodes : List ℕ} {many : ℕ}
   }
 
   -- the a-th listed node is the a-th added one
-  listed-at : (a : ℕ) → a < many → (getD nodes a 0 < R .scheme .nodes) × (added (R .scheme) (getD nodes a 0) ≡ true) × (count (getD nodes a 0) (added (R .scheme)) ≡ a)
+  listed-at : (a : ℕ) → a < many → (getD nodes a 0 < R .scheme .nodes) × (added (R .scheme) (getD nodes a 0) ≡ true) × (countBelow (getD nodes a 0) (added (R .scheme)) ≡ a)
   listed-at a h = nth-at (R .scheme .nodes) (added (R .scheme)) a (getD nodes a 0) (R .listed .node a h)
 
   pub apart-of : Apart N size nodes many
   apart-of = record {
-    few = omega (arith, R .listed .every, count-le (R .scheme .nodes) (added (R .scheme)), R .formed .nodesFew);
+    few = omega (arith, R .listed .every, count-le (R .scheme .nodes) (added (R .scheme)), R .shaped .nodesFew);
     slots = R .sized .few;
     room = cells grant-of;
-    below = λ a h. omega (arith, listed-at a h .0, R .formed .nodesFew);
-    once = λ a b l h e. omega (arith, ap (λ (k : ℕ). count k (added (R .scheme))) e, listed-at a (omega arith) .2, listed-at b h .2);
+    below = λ a h. omega (arith, listed-at a h .0, R .shaped .nodesFew);
+    once = λ a b l h e. omega (arith, ap (λ (k : ℕ). countBelow k (added (R .scheme))) e, listed-at a (omega arith) .2, listed-at b h .2);
   }
 
   -- ---- to the phases after
 
-  module _ {free : ℕ} {t′ s′ cols′ : List ℕ} (C : Columned N size nodes many cols cols′)
-      (g : Granting N (R .scheme) (orbitOf R) t s size (count N (orbitOf R) * many) free t′ s′) where
+  module _ {free : ℕ} {t′ s′ cols′ : List ℕ} (C : ColumnsBegin N size nodes many cols cols′)
+      (g : Granting N (R .scheme) (orbitOf R) t s size (countBelow N (orbitOf R) * many) free t′ s′) where
     -- every added pair has its slot
     all-due : (u v : ℕ) → orbitOf R u ≡ true → v < R .scheme .nodes → added (R .scheme) v ≡ true
-        → Due (view N t) (R .scheme) (orbitOf R) (count N (orbitOf R) * many) u v
+        → Due (view N t) (R .scheme) (orbitOf R) (countBelow N (orbitOf R) * many) u v
     unfolding addedDarts orbitSize
     all-due u v e h a = record {
       inOrbit = e;
@@ -150,12 +150,12 @@ module _ {N : ℕ} {t s : List ℕ} {size : ℕ} {nodes : List ℕ} {many : ℕ}
     }
 
     -- the column of an added node, and that of a left one
-    column-added : (v : ℕ) → v < R .scheme .nodes → added (R .scheme) v ≡ true → getD cols′ v 0 ≡ column N size (count v (added (R .scheme)))
+    column-added : (v : ℕ) → v < R .scheme .nodes → added (R .scheme) v ≡ true → getD cols′ v 0 ≡ columnStart N size (countBelow v (added (R .scheme)))
     column-added v h a =
         let l = column-within grant-of v h a .0 in
-        let n = listed-at (count v (added (R .scheme))) l in
-        let e : getD nodes (count v (added (R .scheme))) 0 ≡ v = count-injective (added (R .scheme)) _ v (n .1) a (n .2) in
-        subst (λ (k : ℕ). getD cols′ k 0 ≡ column N size (count v (added (R .scheme)))) e (C .at _ l)
+        let n = listed-at (countBelow v (added (R .scheme))) l in
+        let e : getD nodes (countBelow v (added (R .scheme))) 0 ≡ v = count-injective (added (R .scheme)) _ v (n .1) a (n .2) in
+        subst (λ (k : ℕ). getD cols′ k 0 ≡ columnStart N size (countBelow v (added (R .scheme)))) e (C .at _ l)
 
     column-left : (v : ℕ) → added (R .scheme) v ≡ false → getD cols′ v 0 ≡ getD cols v 0
     column-left v n = C .other v (λ a l e. true≢false (sym (listed-at a l .1) ∙ ap (added (R .scheme)) e ∙ n))
@@ -164,7 +164,7 @@ module _ {N : ℕ} {t s : List ℕ} {size : ℕ} {nodes : List ℕ} {many : ℕ}
     is-left v h n = ⊎-elim
         (λ d. or-left _ d)
         (λ w. ⊎-elim (λ p. or-right _ p) (λ a. absurd (true≢false (sym a ∙ n))) w)
-        (kind-cases (R .scheme) (R .formed) v h)
+        (kind-cases (R .scheme) (R .shaped) v h)
 
     -- the orbit dart at place r
     placed-at : (r : ℕ) → r < size → (orbitOf R (place N s r) ≡ true) × (mark s (place N s r) - 1 ≡ r)
@@ -196,8 +196,8 @@ module _ {N : ℕ} {t s : List ℕ} {size : ℕ} {nodes : List ℕ} {many : ℕ}
     granted-all = record { given = given-of; darts = darts-of; kept = kept-of; wide = C .long ∙ R .wide }
 
   -- once x is past the last slot
-  pub granted : {x free : ℕ} {t′ s′ cols′ : List ℕ} → Columned N size nodes many cols cols′ → N ≤ x
-      → Granting N (R .scheme) (orbitOf R) t s size (count x (orbitOf R) * many) free t′ s′ → Granted (view N t) (R .scheme) (orbitOf R) t s t′ s′ cols′ size
+  pub granted : {x free : ℕ} {t′ s′ cols′ : List ℕ} → ColumnsBegin N size nodes many cols cols′ → N ≤ x
+      → Granting N (R .scheme) (orbitOf R) t s size (countBelow x (orbitOf R) * many) free t′ s′ → Granted (view N t) (R .scheme) (orbitOf R) t s t′ s′ cols′ size
   granted {x} {free} {t′} {s′} {cols′} C h g =
-      let e : count x (orbitOf R) ≡ count N (orbitOf R) = count-gap (orbitOf R) N x h (λ z l k. impossible _ (λ q. let b = in-table z q in omega arith)) in
+      let e : countBelow x (orbitOf R) ≡ countBelow N (orbitOf R) = count-gap (orbitOf R) N x h (λ z l k. impossible _ (λ q. let b = in-table z q in omega arith)) in
       granted-all C (rw e at g)

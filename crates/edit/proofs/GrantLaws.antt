@@ -13,7 +13,7 @@ use lib.ListN.{length, getD, set, length-set}
 use lib.Seq.{getD-set-same, getD-set-other}
 use borrow.Author.Tests.{eqb-true, eq-eqb, ne-eqb}
 use Rattle.base.specs.Test.{bit}
-use Rattle.base.specs.Below.{count}
+use Rattle.base.specs.Below.{countBelow}
 use Rattle.base.proofs.BelowLaws.{count-le, count-lt, count-injective, count-reaches, count-step, count-gap}
 use Rattle.base.proofs.FirstLaws.{nth-is}
 use Rattle.base.proofs.RowLaws.{digits}
@@ -25,7 +25,7 @@ use Rattle.model.proofs.RankLaws.{rank-low, rank-once, dart-added}
 use Rattle.table.specs.Words.{Sized, wordAt, put}
 use Rattle.table.proofs.WordLaws.{length-put, put-same, put-other}
 use Rattle.edit.specs.Store.{mark, dartAt}
-use Rattle.edit.specs.Grant.{Room, Lowest, revived, column, Grant, Due, Granting, Turn}
+use Rattle.edit.specs.Grant.{Room, Lowest, revived, columnStart, Grant, Due, Granting, Turn}
 
 -- ---- the scan for an unused slot
 
@@ -97,7 +97,7 @@ module _ (t : List ℕ) (y v : ℕ) where
 
 module _ {N : ℕ} {S : Scheme} {O : ℕ → Bool} {t₀ s₀ : List ℕ} {size many : ℕ} (G : Grant N S O t₀ s₀ size many) where
   pub granting-none : Granting N S O t₀ s₀ size 0 0 t₀ s₀
-  unfolding count
+  unfolding countBelow
   granting-none = record {
     tableLong = refl;
     storeLong = refl;
@@ -118,17 +118,17 @@ module _ {N : ℕ} {S : Scheme} {O : ℕ → Bool} {t₀ s₀ : List ℕ} {size 
   unfolding addedDarts orbitSize
   cells =
       let r = G .room in
-      let e : count N O * count (S .nodes) (added S) ≡ size * many = ap₂ _*_ (G .counted) (sym (G .every)) in
+      let e : countBelow N O * countBelow (S .nodes) (added S) ≡ size * many = ap₂ _*_ (G .counted) (sym (G .every)) in
       omega (arith, count-le N (unused (view N t₀)))
 
   -- the word of the store that holds the dart of (u, v)
   abbrev cell : ℕ → ℕ → ℕ
-  cell u v = column N size (count v (added S)) + (mark s₀ u - 1)
+  cell u v = columnStart N size (countBelow v (added S)) + (mark s₀ u - 1)
 
   -- the column of an added node ends within N words
-  pub column-within : (v : ℕ) → v < S .nodes → added S v ≡ true → (count v (added S) < many) × (count v (added S) * size + size ≤ N)
+  pub column-within : (v : ℕ) → v < S .nodes → added S v ≡ true → (countBelow v (added S) < many) × (countBelow v (added S) * size + size ≤ N)
   column-within v h a =
-      let l : count v (added S) < many = rw (G .every) (count-lt (added S) v (S .nodes) h a) in
+      let l : countBelow v (added S) < many = rw (G .every) (count-lt (added S) v (S .nodes) h a) in
       let c = mul-le-mul-right size l in
       (l, omega (arith, cells))
 
@@ -139,7 +139,7 @@ module _ {N : ℕ} {S : Scheme} {O : ℕ → Bool} {t₀ s₀ : List ℕ} {size 
   cell-once u v x w e f a b q =
       let p = G .placed u e in
       let r = G .placed x f in
-      let d = digits size (count v (added S)) (mark s₀ u - 1) (count w (added S)) (mark s₀ x - 1) (omega arith) (omega arith) (omega arith) in
+      let d = digits size (countBelow v (added S)) (mark s₀ u - 1) (countBelow w (added S)) (mark s₀ x - 1) (omega arith) (omega arith) (omega arith) in
       (G .once u x e f (omega (arith, d .1)), count-injective (added S) v w a b (d .0))
 
   module _ {done free : ℕ} {t s : List ℕ} (g : Granting N S O t₀ s₀ size done free t s) where
@@ -151,7 +151,7 @@ module _ {N : ℕ} {S : Scheme} {O : ℕ → Bool} {t₀ s₀ : List ℕ} {size 
     granting-sized = record { few = G .sized .few; long = g .tableLong ∙ G .sized .long }
 
     -- while there is room, a slot from `free` on is unused
-    pub room-ahead : done < count N (unused (view N t₀)) → Room N t free
+    pub room-ahead : done < countBelow N (unused (view N t₀)) → Room N t free
     room-ahead h =
         let r = count-reaches (unused (view N t₀)) N done h in
         let late : free ≤ r .0 = by-cases (decLt (r .0) free)
@@ -169,19 +169,19 @@ module _ {N : ℕ} {S : Scheme} {O : ℕ → Bool} {t₀ s₀ : List ℕ} {size 
       was-unused = sym (ahead y (L .late)) ∙ L .is
 
       -- as many were unused below y as pairs have their slot
-      count-below : count y (unused (view N t₀)) ≡ done
+      count-below : countBelow y (unused (view N t₀)) ≡ done
       count-below = count-gap (unused (view N t₀)) free y (L .late)
           (λ z l h. ne-eqb _ _ (λ e. L .first z l h (ahead z l ∙ e))) ∙ g .taken
 
-      slot-next : freeSlot (view N t₀) S O done ≡ y
+      slot-next : freeSlot (view N t₀) done ≡ y
       unfolding freeSlot
       slot-next = ap (λ (o : Option ℕ). Option·getD o 0) (nth-is N (unused (view N t₀)) done y (L .fits) (eq-eqb _ _ was-unused) count-below)
 
   -- the next pair takes the lowest slot that is left
   module _ {done free : ℕ} {t s : List ℕ} (g : Granting N S O t₀ s₀ size done free t s) {y : ℕ} (L : Lowest N t free y)
-      (u v : ℕ) (e : O u ≡ true) (h : v < S .nodes) (a : added S v ≡ true) (next : rank (view N t₀) S O u v ≡ done) where
+      (u v : ℕ) (e : O u ≡ true) (h : v < S .nodes) (a : added S v ≡ true) (next : rank S O u v ≡ done) where
     here : dartOf (view N t₀) S O u v ≡ y
-    here = dart-added (view N t₀) S O u v a ∙ ap (freeSlot (view N t₀) S O) next ∙ slot-next g L
+    here = dart-added (view N t₀) S O u v a ∙ ap (freeSlot (view N t₀)) next ∙ slot-next g L
 
     due : Due (view N t₀) S O (done + 1) u v
     due = record { inOrbit = e; below = h; isAdded = a; early = omega arith }
@@ -191,7 +191,7 @@ module _ {N : ℕ} {S : Scheme} {O : ℕ → Bool} {t₀ s₀ : List ℕ} {size 
 
     -- a pair that has its slot now had it before, or is this one
     old-or-new : (x w : ℕ) → Due (view N t₀) S O (done + 1) x w → Due (view N t₀) S O done x w ⊎ ((x ≡ u) × (w ≡ v))
-    old-or-new x w d = by-cases (decLt (rank (view N t₀) S O x w) done)
+    old-or-new x w d = by-cases (decLt (rank S O x w) done)
         (λ l. inl (record { inOrbit = d .inOrbit; below = d .below; isAdded = d .isAdded; early = l }))
         (λ l. inr (rank-once (view N t₀) S O x w u v (d .inOrbit) e (d .below) h (d .isAdded) a (omega (arith, d .early))))
 
@@ -204,7 +204,7 @@ module _ {N : ℕ} {S : Scheme} {O : ℕ → Bool} {t₀ s₀ : List ℕ} {size 
     other-cell : (x w : ℕ) → Due (view N t₀) S O done x w → cell x w ≡ cell u v → ⊥
     other-cell x w d q =
         let c = cell-once x w u v (d .inOrbit) e (d .isAdded) a q in
-        let r : rank (view N t₀) S O x w ≡ done = ap₂ (rank (view N t₀) S O) (c .0) (c .1) ∙ next in
+        let r : rank S O x w ≡ done = ap₂ (rank S O) (c .0) (c .1) ∙ next in
         omega (arith, d .early)
 
     fits : 6 * y + 6 ≤ length t
@@ -261,20 +261,20 @@ module _ {N : ℕ} {t s : List ℕ} {size many u r free : ℕ} (T : Turn N t s s
 
   -- after the last of its pairs
   pub turn-done : {a from : ℕ} {t′ s′ : List ℕ} → a ≤ many → many ≤ a
-      → Granting N (T .scheme) (T .orbit) (T .table) (T .store) size (count u (T .orbit) * many + a) from t′ s′
-      → Granting N (T .scheme) (T .orbit) (T .table) (T .store) size (count u (T .orbit) * many + many) from t′ s′
+      → Granting N (T .scheme) (T .orbit) (T .table) (T .store) size (countBelow u (T .orbit) * many + a) from t′ s′
+      → Granting N (T .scheme) (T .orbit) (T .table) (T .store) size (countBelow u (T .orbit) * many + many) from t′ s′
   turn-done {a} {from} {t′} {s′} h l g =
       let e : a ≡ many = omega arith in
-      subst (λ (k : ℕ). Granting N (T .scheme) (T .orbit) (T .table) (T .store) size (count u (T .orbit) * many + k) from t′ s′) e g
+      subst (λ (k : ℕ). Granting N (T .scheme) (T .orbit) (T .table) (T .store) size (countBelow u (T .orbit) * many + k) from t′ s′) e g
 
   module _ (a : ℕ) (l : a < many) where
     -- the a-th added node
-    node : (v : ℕ) × (v < T .scheme .nodes) × (added (T .scheme) v ≡ true) × (count v (added (T .scheme)) ≡ a)
+    node : (v : ℕ) × (v < T .scheme .nodes) × (added (T .scheme) v ≡ true) × (countBelow v (added (T .scheme)) ≡ a)
     node = count-reaches (added (T .scheme)) (T .scheme .nodes) a (rw (← T .grant .every) l)
 
-    node-rank : rank (view N (T .table)) (T .scheme) (T .orbit) u (node .0) ≡ count u (T .orbit) * many + a
+    node-rank : rank (T .scheme) (T .orbit) u (node .0) ≡ countBelow u (T .orbit) * many + a
     unfolding rank
-    node-rank = ap₂ (λ (k c : ℕ). count u (T .orbit) * k + c) (sym (T .grant .every)) (node .3)
+    node-rank = ap₂ (λ (k c : ℕ). countBelow u (T .orbit) * k + c) (sym (T .grant .every)) (node .3)
 
     pub turn-cell : a * size + r < N
     turn-cell =
@@ -283,18 +283,18 @@ module _ {N : ℕ} {t s : List ℕ} {size many u r free : ℕ} (T : Turn N t s s
         omega (arith, cells (T .grant), T .place)
 
     module _ {from : ℕ} {t′ s′ : List ℕ}
-        (g : Granting N (T .scheme) (T .orbit) (T .table) (T .store) size (count u (T .orbit) * many + a) from t′ s′) where
+        (g : Granting N (T .scheme) (T .orbit) (T .table) (T .store) size (countBelow u (T .orbit) * many + a) from t′ s′) where
       pub turn-room : Room N t′ from
       turn-room =
           let n = node in
           let b = rank-low (view N (T .table)) (T .scheme) (T .orbit) (T .grant .slot) u (n .0) (T .inOrbit) (n .1) (n .2) in
-          room-ahead (T .grant) g (subst (λ (k : ℕ). k < count N (unused (view N (T .table)))) node-rank (lt-of-lt-of-le b (T .grant .room)))
+          room-ahead (T .grant) g (subst (λ (k : ℕ). k < countBelow N (unused (view N (T .table)))) node-rank (lt-of-lt-of-le b (T .grant .room)))
 
       pub turn-more : (y w : ℕ) (t″ s″ : List ℕ) → Lowest N t′ from y → w ≡ view N t .tag u → t″ ≡ revived t′ y w → s″ ≡ set s′ (2 * N + a * size + r) y
-          → Granting N (T .scheme) (T .orbit) (T .table) (T .store) size (count u (T .orbit) * many + (a + 1)) (y + 1) t″ s″
+          → Granting N (T .scheme) (T .orbit) (T .table) (T .store) size (countBelow u (T .orbit) * many + (a + 1)) (y + 1) t″ s″
       turn-more y w t″ s″ L e p q =
           let n = node in
-          let i : 2 * N + a * size + r ≡ column N size (count (n .0) (added (T .scheme))) + (mark (T .store) u - 1) =
+          let i : 2 * N + a * size + r ≡ columnStart N size (countBelow (n .0) (added (T .scheme))) + (mark (T .store) u - 1) =
           ap₂ (λ (k c : ℕ). 2 * N + k * size + c) (sym (n .3)) (omega (arith, T .place)) in
-          let j : count u (T .orbit) * many + a + 1 ≡ count u (T .orbit) * many + (a + 1) = omega arith in
+          let j : countBelow u (T .orbit) * many + a + 1 ≡ countBelow u (T .orbit) * many + (a + 1) = omega arith in
           rw (p, q, ← j) (granting-more (T .grant) g L u (n .0) (T .inOrbit) (n .1) (n .2) node-rank w (2 * N + a * size + r) (e ∙ turn-tag) i)

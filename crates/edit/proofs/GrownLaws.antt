@@ -24,12 +24,12 @@ use Rattle.model.proofs.MatchLaws.{GoodOrbit, match-assigns, arc-of}
 use Rattle.model.proofs.MatchIff.{good-orbit}
 use Rattle.table.specs.Words.{Sized}
 use Rattle.edit.specs.Store.{mark, place, dartAt, Taken}
-use Rattle.edit.specs.Columns.{Ready, matchesAt, Linked, Column, Columned, Grown, ColumnedAll}
+use Rattle.edit.specs.Columns.{BeforeMatching, matchesAt, Linked, Column, Columned, Grown, ColumnedAll}
 use Rattle.edit.proofs.StoreLaws.{among-at, among-of}
 use Rattle.edit.proofs.PlacedLaws.{dart-place, longer-dart, longer-less, longer-trans}
 
 module _ (N : ℕ) (t s : List ℕ) (size : ℕ) (nodes parents dims : List ℕ) (count : ℕ)
-    (R : Ready N t s size nodes parents dims count) where
+    (R : BeforeMatching N t s size nodes parents dims count) where
   abbrev S : Scheme
   S = R .scheme
 
@@ -51,7 +51,7 @@ module _ (N : ℕ) (t s : List ℕ) (size : ℕ) (nodes parents dims : List ℕ)
   -- ---- the orbit by its places
 
   pub good : GoodOrbit m S O
-  good = good-orbit m S (R .dart) (R .accepted) (R .formed) (R .below) (R .alive)
+  good = good-orbit m S (R .dart) (R .accepted) (R .well) (R .below) (R .alive)
 
   pub orbit-at : (r : ℕ) → r < size → O (place N s r) ≡ true
   orbit-at r h =
@@ -66,10 +66,10 @@ module _ (N : ℕ) (t s : List ℕ) (size : ℕ) (nodes parents dims : List ℕ)
       (mark s u - 1, omega (arith, b .0, b .1), R .walked .found u h a, omega (arith, b .0))
 
   pub node-below : (k : ℕ) → k < count → node k < 16
-  node-below k h = omega (arith, R .rooted .onLeft k h .0, R .accepted .formed .nodesFew)
+  node-below k h = omega (arith, R .rooted .onLeft k h .0, R .accepted .shaped .nodesFew)
 
   pub dim-below : (k : ℕ) → 1 ≤ k → k < count → dim k ≤ 3
-  dim-below k l h = omega (arith, R .rooted .arc k l h .0, small S (R .accepted .formed))
+  dim-below k l h = omega (arith, R .rooted .arc k l h .0, small S (R .accepted .shaped))
 
   -- ---- one entry more
 
@@ -118,7 +118,7 @@ module _ (N : ℕ) (t s : List ℕ) (size : ℕ) (nodes parents dims : List ℕ)
           subst (λ (v : ℕ). (dartAt s′ (getD cols v 0) r < N) × (m .state (dartAt s′ (getD cols v 0) r) ≡ 1)) (p .2) (dart-slot (p .0) r (p .1) b)
 
       pub linked : Linked m (dim k) s′ (getD cols (parent k) 0) size
-      linked = record { slot = λ r b. let e = source-slot r b in R .formed .below _ (e .0) (e .1) (dim k) (R .rooted .arc k l h .0) }
+      linked = record { slot = λ r b. let e = source-slot r b in R .well .below _ (e .0) (e .1) (dim k) (R .rooted .arc k l h .0) }
 
       module _ (s″ : List ℕ) (C : Column m (dim k) (getD cols (parent k) 0) s′ s″ (k * size) size) where
         abbrev cols′ : List ℕ
@@ -155,7 +155,7 @@ module _ (N : ℕ) (t s : List ℕ) (size : ℕ) (nodes parents dims : List ℕ)
                   let at : e ≡ k * size + (e - k * size) = omega arith in
                   let p = source-slot (e - k * size) q in
                   ap (λ (z : ℕ). m .state (place N s″ z)) at ∙ ap (m .state) (C .darts (e - k * size) q)
-                  ∙ R .formed .alive _ (p .0) (p .1) (dim k) (R .rooted .arc k l h .0));
+                  ∙ R .well .alive _ (p .0) (p .1) (dim k) (R .rooted .arc k l h .0));
               begins = λ j b. by-cases (ℕ-discrete j k)
                   (λ e. rw e col-new)
                   (λ ne. let c : j < k = omega arith in col-old j c ∙ G .begins j c);
@@ -170,7 +170,7 @@ module _ (N : ℕ) (t s : List ℕ) (size : ℕ) (nodes parents dims : List ℕ)
 
   module _ (q : matches m S O ≡ true) where
     pub assignment : Assignment m S O (image m S)
-    assignment = match-assigns m S (R .accepted) O good (R .formed) q
+    assignment = match-assigns m S (R .accepted) O good (R .well) q
 
     pub arc-image : (u v i w : ℕ) → O u ≡ true → v < S .nodes → has S left v ≡ true → i ≤ S .n → arcAt S left v i ≡ explicit w
         → m .link i (image m S u v) ≡ image m S u w
@@ -265,7 +265,7 @@ columns-done N t nodes parents dims s s′ cols size count k h l G = record {
 }
 
 -- the nodes of an entry are within the arrays
-module _ (N : ℕ) (t s : List ℕ) (size : ℕ) (nodes parents dims : List ℕ) (count : ℕ) (R : Ready N t s size nodes parents dims count) (k x : ℕ) (h : k < count) where
+module _ (N : ℕ) (t s : List ℕ) (size : ℕ) (nodes parents dims : List ℕ) (count : ℕ) (R : BeforeMatching N t s size nodes parents dims count) (k x : ℕ) (h : k < count) where
   pub node-fits : x ≡ getD nodes k 0 → x < 16
   node-fits a = rw a (node-below N t s size nodes parents dims count R k h)
 
@@ -278,7 +278,7 @@ module _ (N : ℕ) (t s : List ℕ) (size : ℕ) (nodes parents dims : List ℕ)
 module _ (N : ℕ) (t s : List ℕ) (size : ℕ) (nodes parents dims : List ℕ) (count : ℕ) (s′ cols : List ℕ) (k : ℕ)
     (G : Grown (view N t) nodes parents dims s s′ cols size k) (l : 1 ≤ k) (h : k < count) (x i end : ℕ)
     (a : x ≡ getD parents k 0) (b : i ≡ getD dims k 0) (e : end ≡ k * size) where
-  module _ (R : Ready N t s size nodes parents dims count) where
+  module _ (R : BeforeMatching N t s size nodes parents dims count) where
     pub column-asks : Sized N t × (Taken N s′ end × (((i ≤ 3) × (size ≤ N) × (N ≤ getD cols x 0) × (getD cols x 0 + size ≤ N + end))
         × Linked (view N t) i s′ (getD cols x 0) size))
     column-asks =

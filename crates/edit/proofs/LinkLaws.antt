@@ -10,7 +10,7 @@ use Rattle.base.specs.Steps.{steps}
 use Rattle.base.proofs.StepLaws.{steps-step}
 use Rattle.table.specs.Words.{Sized, put}
 use Rattle.edit.specs.Store.{next, dartAt}
-use Rattle.edit.specs.Links.{column, zeroed, erased, followed, clearedBy, Slots, Turns}
+use Rattle.edit.specs.Links.{overwritten, zeroed, erased, followed, clearedBy, HoldsSlots, Turnable}
 
 -- the table t after i of `end` steps from t₀
 pub record Stage (N : ℕ) (t₀ : List ℕ) (f : ℕ → List ℕ → List ℕ) (end i : ℕ) (t : List ℕ) : Type 0 where
@@ -52,12 +52,12 @@ followed-at N store size cols c base x y t t′ e p = e ∙ ap (λ (z : ℕ). fo
 
 -- ---- what is read from the store
 
-pub slot-at : {N base size : ℕ} {store : List ℕ} (s : Slots N store base size) (r x : ℕ) → r < size → x ≡ getD store (base + r) 0 → x < N
+pub slot-at : {N base size : ℕ} {store : List ℕ} (s : HoldsSlots N store base size) (r x : ℕ) → r < size → x ≡ getD store (base + r) 0 → x < N
 unfolding dartAt
 slot-at s r x h e = rw e (s .slot r h)
 
 module _ (N : ℕ) (store : List ℕ) (r p q : ℕ) (e : q ≡ getD store (4 * N + 4 * r + p) 0) where
-  pub place-at : (size : ℕ) → Turns N store size p → r < size → q < size
+  pub place-at : (size : ℕ) → Turnable N store size p → r < size → q < size
   unfolding next
   place-at size t h = rw e (t .place r h)
 
@@ -68,12 +68,12 @@ module _ (N : ℕ) (store : List ℕ) (r p q : ℕ) (e : q ≡ getD store (4 * N
 -- ---- an arc by its code
 
 module _ (N : ℕ) (store : List ℕ) (size : ℕ) (cols : List ℕ) (c base code : ℕ) (t t′ : List ℕ) where
-  pub by-node : code < 16 → t′ ≡ column c (dartAt store base) (dartAt store (getD cols code 0)) size t
+  pub by-node : code < 16 → t′ ≡ overwritten c (dartAt store base) (dartAt store (getD cols code 0)) size t
       → t′ ≡ followed N store size cols c base code t
   unfolding followed
   by-node h e = rw (lt-ltb code 16 h) e
 
-  pub by-position : 16 ≤ code → code < 255 → t′ ≡ column c (dartAt store base) (λ r. dartAt store base (next N store r (code - 16))) size t
+  pub by-position : 16 ≤ code → code < 255 → t′ ≡ overwritten c (dartAt store base) (λ r. dartAt store base (next N store r (code - 16))) size t
       → t′ ≡ followed N store size cols c base code t
   unfolding followed
   by-position h l e = rw (le-ltb code 16 h, lt-ltb code 255 l) e

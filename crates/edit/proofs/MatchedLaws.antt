@@ -29,7 +29,7 @@ use Rattle.edit.specs.Store.{mark, place, next, dartAt}
 use Rattle.model.specs.Codes.{arcCode}
 use Rattle.conditions.specs.Arcs.{Coded}
 use Rattle.edit.specs.Phases.{Assigned}
-use Rattle.edit.specs.Columns.{Ready, matchesAt, Turns, Grown, follows, explicitTest, implicitTest, codeTest, arcTest, arcsTest, Firm, Matched}
+use Rattle.edit.specs.Columns.{BeforeMatching, matchesAt, Turns, Grown, follows, explicitTest, implicitTest, codeTest, arcTest, arcsTest, Firm, Matched}
 use Rattle.edit.proofs.PlacedLaws.{longer-mark, longer-kept}
 use Rattle.edit.proofs.GrownLaws.{good, orbit-at, orbit-rank, node-below, dart-at, dart-slot, column-inside, images, arc-image, turn-image}
 
@@ -83,7 +83,7 @@ module _ (m : Map) (s : List ℕ) (size : ℕ) (dims cols : List ℕ) (j i from 
       rw (ne-eqb (16 + p) 255 (λ q. absurd (omega arith)), le-ltb (16 + p) 16 (omega arith), same) (or-right _ f)
 
 module _ (N : ℕ) (t s : List ℕ) (size : ℕ) (nodes parents dims : List ℕ) (count : ℕ)
-    (R : Ready N t s size nodes parents dims count) (s′ cols : List ℕ) (G : Grown (view N t) nodes parents dims s s′ cols size count)
+    (R : BeforeMatching N t s size nodes parents dims count) (s′ cols : List ℕ) (G : Grown (view N t) nodes parents dims s s′ cols size count)
     (codes : List ℕ) (C : Coded (R .scheme) left codes) where
   abbrev S : Scheme
   S = R .scheme
@@ -111,9 +111,9 @@ module _ (N : ℕ) (t s : List ℕ) (size : ℕ) (nodes parents dims : List ℕ)
   implicit-in : (v i p : ℕ) → v < S .nodes → i < 4 → arcAt S left v i ≡ implicit p → (p < S .places) × (p < 4) × (i ≤ S .n) × (word S left v p ≡ i)
   implicit-in v i p h k e =
       let f = implicit-from S left v i p e in
-      let few = R .accepted .formed .placesFew in
-      let n = small S (R .accepted .formed) in
-      let dim : i ≤ S .n = ⊎-elim (λ w. absurd (omega (arith, f .1))) (λ w. omega (arith, f .1)) (single .formed .words v p h (f .0)) in
+      let few = R .accepted .shaped .placesFew in
+      let n = small S (R .accepted .shaped) in
+      let dim : i ≤ S .n = ⊎-elim (λ w. absurd (omega (arith, f .1))) (λ w. omega (arith, f .1)) (single .shaped .words v p h (f .0)) in
       (f .0, omega (arith, f .0), dim, f .1)
 
   -- the place to which a link of the orbit type leads
@@ -157,7 +157,7 @@ module _ (N : ℕ) (t s : List ℕ) (size : ℕ) (nodes parents dims : List ℕ)
       turns j i h k (explicit w) e c ne =
           let q : getD codes (4 * node j + i) 0 ≡ w = code-at j i h k ∙ ap arcCode e in
           let end = explicit-end S left single (node j) i w e in
-          absurd (omega (arith, end .0, R .accepted .formed .nodesFew))
+          absurd (omega (arith, end .0, R .accepted .shaped .nodesFew))
       turns j i h k (implicit p) e c ne =
           let q : getD codes (4 * node j + i) 0 ≡ 16 + p = code-at j i h k ∙ ap arcCode e in
           let f = implicit-in (node j) i p (R .rooted .onLeft j h .0) k e in
@@ -177,7 +177,7 @@ module _ (N : ℕ) (t s : List ℕ) (size : ℕ) (nodes parents dims : List ℕ)
     arc-holds j i h k (explicit w) e =
         let end = explicit-end S left single (node j) i w e in
         let on = R .rooted .onLeft j h in
-        explicit-holds m s′ size dims cols j i (getD cols (node j) 0) w (omega (arith, end .0, R .accepted .formed .nodesFew))
+        explicit-holds m s′ size dims cols j i (getD cols (node j) 0) w (omega (arith, end .0, R .accepted .shaped .nodesFew))
         (follows-of m s′ size i (getD cols (node j) 0) (getD cols w 0) (λ r. r) (λ r b.
         ap (m .link i) (image-at (node j) r (on .0) (on .1) b)
         ∙ arc-image N t s size nodes parents dims count R q (place N s r) (node j) i w (orbit-at N t s size nodes parents dims count R r b) (on .0) (on .1) (end .2) e
@@ -268,7 +268,7 @@ module _ (N : ℕ) (t s : List ℕ) (size : ℕ) (nodes parents dims : List ℕ)
         let step : at (node j) r ≡ m .link i (at (node k) r) = G .steps j r some h c ∙ ap₂ (λ (x v : ℕ). m .link x (at v r)) (tree .1) same in
         let low : i ≤ S .n = subst (λ (x : ℕ). x ≤ S .n) (tree .1) (arc .0) in
         let on = dart-slot N t s size nodes parents dims count R s′ cols count G k r l c in
-        ap (m .link i) step ∙ R .formed .back (at (node k) r) (on .0) (on .1) i low)
+        ap (m .link i) step ∙ R .well .back (at (node k) r) (on .0) (on .1) i low)
         (λ f. follows-at m s′ size i (getD cols (node j) 0) (getD cols (node k) 0) (λ q. q) f r c)
         w)
         (explicit-cases m s′ size dims cols j i (getD cols (node j) 0) (node k) below (test-at j i h b (explicit (node k)) e))
@@ -279,7 +279,7 @@ module _ (N : ℕ) (t s : List ℕ) (size : ℕ) (nodes parents dims : List ℕ)
         let end = explicit-end S left single v i w e in
         let y = R .rooted .every v h l in
         let z = R .rooted .every w (end .0) (end .1) in
-        let low : i < 4 = omega (arith, end .2, small S (R .accepted .formed)) in
+        let low : i < 4 = omega (arith, end .2, small S (R .accepted .shaped)) in
         let to : arcAt S left (node (y .0)) i ≡ explicit (node (z .0)) = ap (λ (x : ℕ). arcAt S left x i) (y .2) ∙ e ∙ ap explicit (sym (z .2)) in
         let fro : arcAt S left (node (z .0)) i ≡ explicit (node (y .0)) = ap (λ (x : ℕ). arcAt S left x i) (z .2) ∙ end .3 ∙ ap explicit (sym (y .2)) in
         let on = slot-at w r (end .0) (end .1) c in
@@ -287,7 +287,7 @@ module _ (N : ℕ) (t s : List ℕ) (size : ℕ) (nodes parents dims : List ℕ)
         (λ o.
         let k = arc-back (z .0) (y .0) i r (z .1) (y .1) (omega arith) low c fro in
         let d = dart-slot N t s size nodes parents dims count R s′ cols count G (z .0) r (z .1) c in
-        ap (m .link i) (sym k) ∙ R .formed .back (at (node (z .0)) r) (d .0) (d .1) i (end .2))
+        ap (m .link i) (sym k) ∙ R .well .back (at (node (z .0)) r) (d .0) (d .1) i (end .2))
         (λ o. arc-back (y .0) (z .0) i r (y .1) (z .1) (omega arith) low c to) in
         ap (λ (x : ℕ). m .link i (at x r)) (sym (y .2)) ∙ way ∙ ap (λ (x : ℕ). at x r) (z .2)
 
@@ -320,12 +320,12 @@ module _ (N : ℕ) (t s : List ℕ) (size : ℕ) (nodes parents dims : List ℕ)
       darts = λ u b e v h l. let f = found-is u v e in let a = slot-at v (rank u e) h l (rank-below u e) in (rw f (a .0), ap (m .state) f ∙ a .1);
       hook = λ u b e. found-is u 0 e ∙ hook-at (rank u e) (rank-below u e) ∙ rank-place u e;
       explicitArc = λ u b e a k.
-          let f = single .formed .from a k in
-          let o = single .formed .to a k in
+          let f = single .shaped .from a k in
+          let o = single .shaped .to a k in
           let i = arcPart S left a 0 in
           let v = arcPart S left a 1 in
           let w = arcPart S left a 2 in
-          let low = single .formed .dims a k in
+          let low = single .shaped .dims a k in
           let out : arcAt S left v i ≡ explicit w = explicit-at S left single v i a (f .0) k low (touches-from S left a) ∙ ap explicit (far-from S left a) in
           let back : arcAt S left w i ≡ explicit v = explicit-at S left single w i a (o .0) k low (touches-to S left a) ∙ ap explicit (far-to S left a) in (
             ap (m .link i) (found-is u v e) ∙ arc-at v w i (rank u e) (f .0) (f .1) (rank-below u e) out ∙ sym (found-is u w e),
@@ -333,8 +333,8 @@ module _ (N : ℕ) (t s : List ℕ) (size : ℕ) (nodes parents dims : List ℕ)
           );
       implicitArc = λ u b e v h l p k some.
           let i = word S left v p in
-          let low : i ≤ S .n = ⊎-elim (λ z. absurd (some z)) (λ z. z) (single .formed .words v p h k) in
-          let few : i < 4 = omega (arith, low, small S (R .accepted .formed)) in
+          let low : i ≤ S .n = ⊎-elim (λ z. absurd (some z)) (λ z. z) (single .shaped .words v p h k) in
+          let few : i < 4 = omega (arith, low, small S (R .accepted .shaped)) in
           let r = rank u e in
           let g = turn r p (rank-below u e) k in
           let to : place N s (next N s′ r p) ≡ m .link (orbitDim S p) u = g .1 ∙ ap (m .link (orbitDim S p)) (rank-place u e) in

@@ -20,17 +20,17 @@ use Rattle.edit.specs.Phases.{Rooted}
 module _ (S : Scheme) (A : Accepted S) where
   -- the far end of a left arc is a left node, and the arc is found from the near end
   end-left : (a x y : ℕ) → a < arcs S left → Ends (arcPart S left) a x y → has S left y ≡ true
-  end-left a x y h (inl e) = ap (has S left) (sym (e .1)) ∙ A .formed .sides left .to a h .1
-  end-left a x y h (inr e) = ap (has S left) (sym (e .0)) ∙ A .formed .sides left .from a h .1
+  end-left a x y h (inl e) = ap (has S left) (sym (e .1)) ∙ A .shaped .sides left .to a h .1
+  end-left a x y h (inr e) = ap (has S left) (sym (e .0)) ∙ A .shaped .sides left .from a h .1
 
   end-arc : (a x y i : ℕ) → a < arcs S left → arcPart S left a 0 ≡ i → Ends (arcPart S left) a x y → arcAt S left x i ≡ explicit y
   end-arc a x y i h d (inl e) =
       ap₂ (arcAt S left) (sym (e .0)) (sym d)
-      ∙ explicit-at S left (A .sides left) _ _ a (A .formed .sides left .from a h .0) h (A .formed .sides left .dims a h) (touches-from S left a)
+      ∙ explicit-at S left (A .sides left) _ _ a (A .shaped .sides left .from a h .0) h (A .shaped .sides left .dims a h) (touches-from S left a)
       ∙ ap explicit (far-from S left a ∙ e .1)
   end-arc a x y i h d (inr e) =
       ap₂ (arcAt S left) (sym (e .1)) (sym d)
-      ∙ explicit-at S left (A .sides left) _ _ a (A .formed .sides left .to a h .0) h (A .formed .sides left .dims a h) (touches-to S left a)
+      ∙ explicit-at S left (A .sides left) _ _ a (A .shaped .sides left .to a h .0) h (A .shaped .sides left .dims a h) (touches-to S left a)
       ∙ ap explicit (far-to S left a ∙ e .0)
 
   module _ (t : Tree) (T : TreeOf S t) where
@@ -47,8 +47,8 @@ module _ (S : Scheme) (A : Accepted S) where
       onLeft = λ k h. (T .below k h, entry-left k h);
       arc = λ k l h.
           let b = T .branch k l h in
-          (subst (λ (i : ℕ). i ≤ S .n) (b .joined .dimIs) (A .formed .sides left .dims (b .joined .arc) (b .joined .below)), end-arc (b .joined .arc) _ _ _ (b .joined .below) (b .joined .dimIs) (b .joined .ends));
+          (subst (λ (i : ℕ). i ≤ S .n) (b .joined .dimIs) (A .shaped .sides left .dims (b .joined .arc) (b .joined .below)), end-arc (b .joined .arc) _ _ _ (b .joined .below) (b .joined .dimIs) (b .joined .ends));
       earlier = λ k l h. let b = T .branch k l h in (b .earlier, b .before, b .parentIs);
       once = T .once;
-      every = λ s h l. T .entry s (reached-found S (A .formed) (A .reach s h l));
+      every = λ s h l. T .entry s (reached-found S (A .shaped) (A .reach s h l));
     }

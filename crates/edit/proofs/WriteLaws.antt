@@ -14,7 +14,7 @@ use Rattle.model.specs.Map.{tableSize}
 use Rattle.table.specs.Words.{wordAt, put}
 use Rattle.table.proofs.WordLaws.{length-put, put-same, put-other}
 use Rattle.edit.specs.Store.{next, dartAt}
-use Rattle.edit.specs.Links.{column, zeroed, erased, followed, relinked, clearedBy, cleared}
+use Rattle.edit.specs.Links.{overwritten, zeroed, erased, followed, relinked, clearedBy, cleared}
 use Rattle.edit.proofs.LinkLaws.{by-node, by-position, by-none, by-deleted, by-other}
 
 not-both : {x y d c : ℕ} → (x ≡ y → d ≡ c → ⊥) → (y ≡ x → ⊥) ⊎ (d ≡ c → ⊥)
@@ -30,19 +30,19 @@ module _ (N : ℕ) where
     put-long : (r : ℕ) (t : List ℕ) → Long t → Long (put t (at r) c (v r))
     put-long r t e = length-put t (at r) c (v r) ∙ e
 
-    pub column-long : (t : List ℕ) → Long t → Long (column c at v n t)
-    unfolding column
+    pub column-long : (t : List ℕ) → Long t → Long (overwritten c at v n t)
+    unfolding overwritten
     column-long t e = steps-keep _ Long put-long n t e
 
     pub column-leaves : (y d : ℕ) → d < 6 → ((r : ℕ) → r < n → at r ≡ y → d ≡ c → ⊥) → (t : List ℕ) → Long t
-        → wordAt (column c at v n t) y d ≡ wordAt t y d
-    unfolding column
+        → wordAt (overwritten c at v n t) y d ≡ wordAt t y d
+    unfolding overwritten
     column-leaves y d h off t e = steps-leave _ Long put-long (λ s. wordAt s y d) n
         (λ r s l o. put-other s (at r) c (v r) y d low h (not-both (off r l))) t e
 
     pub column-sets : (r : ℕ) → r < n → at r < N → ((q : ℕ) → q < n → at q ≡ at r → q ≡ r) → (t : List ℕ) → Long t
-        → wordAt (column c at v n t) (at r) c ≡ v r
-    unfolding column
+        → wordAt (overwritten c at v n t) (at r) c ≡ v r
+    unfolding overwritten
     column-sets r l h once t e = steps-one _ Long put-long (λ s. wordAt s (at r) c) n r l
         (λ q s b ne o. put-other s (at q) c (v q) (at r) c low low (inl (λ w. ne (once q b (sym w)))))
         (λ w. v r) (λ s o. put-same s (at r) c (v r) (omega arith)) t e
@@ -102,8 +102,8 @@ module _ (N : ℕ) where
 
     -- what an arc's code can mean
     followed-cases : (P : List ℕ → Type 0) (c base code : ℕ) (t : List ℕ)
-        → (code < 16 → P (column c (dartAt store base) (dartAt store (getD cols code 0)) size t))
-        → (16 ≤ code → code < 255 → P (column c (dartAt store base) (λ r. dartAt store base (next N store r (code - 16))) size t))
+        → (code < 16 → P (overwritten c (dartAt store base) (dartAt store (getD cols code 0)) size t))
+        → (16 ≤ code → code < 255 → P (overwritten c (dartAt store base) (λ r. dartAt store base (next N store r (code - 16))) size t))
         → (255 ≤ code → P t) → P (followed N store size cols c base code t)
     followed-cases P c base code t f g h = ⊎-elim
         (λ a. subst P (by-node N store size cols c base code t _ (ltb-true code 16 a) refl) (f (ltb-true code 16 a)))
@@ -161,7 +161,7 @@ module _ (N : ℕ) where
             → wordAt (relinked N store size cols codes (4 * c) t) (pairDart v r) (1 + i) ≡ g (wordAt t (pairDart v r) (1 + i))
         by-code g one = relinked-one g (λ s o. rw is (one s o)) t e
 
-        sets : (value : ℕ → ℕ) (s : List ℕ) → Long s → wordAt (column (1 + i) (pairDart v) value size s) (pairDart v r) (1 + i) ≡ value r
+        sets : (value : ℕ → ℕ) (s : List ℕ) → Long s → wordAt (overwritten (1 + i) (pairDart v) value size s) (pairDart v r) (1 + i) ≡ value r
         sets value s o = column-sets (1 + i) (pairDart v) value size (omega arith) r hr (D .slot v r hv hr)
             (λ q b w. D .once v q v r hv b hv hr w .1) s o
 

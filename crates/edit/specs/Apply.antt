@@ -6,15 +6,15 @@ use mathlib.Core.Bool.{true, cond}
 use mathlib.Core.Option.{Option·getD}
 use mathlib.Core.List.{List}
 use lib.ListN.{length}
-use Rattle.base.specs.Below.{count}
+use Rattle.base.specs.Below.{countBelow}
 use Rattle.base.specs.First.{there}
-use Rattle.model.specs.Map.{view, words, unused}
+use Rattle.model.specs.Map.{view, tableOf, unused}
 use Rattle.model.specs.WellFormed.{WellFormed}
 use Rattle.model.specs.Scheme.{right, orbitDim}
 use Rattle.model.specs.Accepted.{Accepted}
 use Rattle.model.specs.Match.{matches}
 use Rattle.model.specs.Edit.{orbitSize, addedDarts, deletedDarts, edited}
-use Rattle.model.specs.Calls.{roomFault}
+use Rattle.model.specs.Calls.{fitFault}
 use Rattle.model.specs.declared.Scheme.{Scheme}
 use Rattle.model.specs.declared.Answer.{Answer}
 use Rattle.model.specs.declared.Answer.the-variants.{Edited}
@@ -54,15 +54,15 @@ pub record Settling (slots : ℕ) (t store : List ℕ) (c : ℕ) (kinds codes : 
   pub nodes : c ≡ scheme .nodes
   pub kinded : kinds ≡ scheme .kinds
   pub coded : Coded scheme right codes
-  pub free : room ≡ count slots (unused (view slots t))
+  pub free : room ≡ countBelow slots (unused (view slots t))
 
 -- the table after the edit
 unfoldable pub rewritten : ℕ → List ℕ → Scheme → ℕ → List ℕ
-rewritten slots t S d = words (edited (view slots t) S (orbitFor (view slots t) S d))
+rewritten slots t S d = tableOf (edited (view slots t) S (orbitFor (view slots t) S d))
 
 -- the answer, and the table afterwards
 pub record Applied (slots : ℕ) (t : List ℕ) (S : Scheme) (d : ℕ) (r : Answer) (t′ : List ℕ) : Type 0 where
-  pub answer : r ≡ Option·getD (roomFault (view slots t) S (orbitFor (view slots t) S d))
+  pub answer : r ≡ Option·getD (fitFault (view slots t) S (orbitFor (view slots t) S d))
       (Edited (orbitSize (view slots t) S (orbitFor (view slots t) S d)) (addedDarts (view slots t) S (orbitFor (view slots t) S d))
       (deletedDarts (view slots t) S (orbitFor (view slots t) S d)))
-  pub table : t′ ≡ cond (there (roomFault (view slots t) S (orbitFor (view slots t) S d))) t (rewritten slots t S d)
+  pub table : t′ ≡ cond (there (fitFault (view slots t) S (orbitFor (view slots t) S d))) t (rewritten slots t S d)

@@ -7,7 +7,7 @@ use mathlib.Core.List.{List}
 use lib.ListN.{length, getD}
 use lib.Dec.{eqb, ltb}
 use Rattle.base.specs.Test.{_and_, _or_}
-use Rattle.base.specs.Below.{all}
+use Rattle.base.specs.Below.{allBelow}
 use Rattle.model.specs.Map.{Map, view}
 use Rattle.model.specs.WellFormed.{WellFormed}
 use Rattle.model.specs.Scheme.{left, orbitDim}
@@ -21,12 +21,12 @@ use Rattle.conditions.specs.Arcs.{Coded}
 use Rattle.edit.specs.Phases.{Rooted, Assigned}
 
 -- an accepted scheme with its tree, a table that is well-formed for it, and in the store the orbit of a live dart
-pub record Ready (N : ℕ) (t s : List ℕ) (size : ℕ) (nodes parents dims : List ℕ) (count : ℕ) : Type 0 where
+pub record BeforeMatching (N : ℕ) (t s : List ℕ) (size : ℕ) (nodes parents dims : List ℕ) (count : ℕ) : Type 0 where
   pub scheme : Scheme
   pub dart : ℕ
   pub accepted : Accepted scheme
   pub sized : Sized N t
-  pub formed : WellFormed (scheme .n) (view N t)
+  pub well : WellFormed (scheme .n) (view N t)
   pub below : dart < N
   pub alive : view N t .state dart ≡ 1
   pub walked : Walked (view N t) (scheme .places) (orbitDim scheme) dart s size
@@ -35,7 +35,7 @@ pub record Ready (N : ℕ) (t s : List ℕ) (size : ℕ) (nodes parents dims : L
 
 -- the same with the codes of the scheme's left arcs, and room for the columns of all nodes
 pub record Posed (N : ℕ) (t s : List ℕ) (size : ℕ) (nodes parents dims : List ℕ) (count : ℕ) (codes cols : List ℕ) : Type 0 where
-  pub ready : Ready N t s size nodes parents dims count
+  pub ready : BeforeMatching N t s size nodes parents dims count
   pub coded : Coded (ready .scheme) left codes
   pub colsLong : length cols ≡ 16
 
@@ -94,11 +94,11 @@ pub record Grown (m : Map) (nodes parents dims : List ℕ) (s s′ cols : List �
 -- all entries have their columns, or else there is no match
 pub record ColumnedAll (N : ℕ) (t : List ℕ) (nodes parents dims : List ℕ) (s s′ cols : List ℕ) (size count : ℕ) (whole : Bool) : Type 0 where
   pub done : whole ≡ true → Grown (view N t) nodes parents dims s s′ cols size count
-  pub none : whole ≡ false → (R : Ready N t s size nodes parents dims count) → matchesAt (view N t) (R .scheme) (R .dart) ≡ false
+  pub none : whole ≡ false → (R : BeforeMatching N t s size nodes parents dims count) → matchesAt (view N t) (R .scheme) (R .dart) ≡ false
 
 -- for each place r of the orbit, the i-link leads from the dart in the column at `from` to the one at place `to r` of the column at `base`
 unfoldable pub follows : Map → List ℕ → ℕ → ℕ → ℕ → ℕ → (ℕ → ℕ) → Bool
-follows m s size i from base to = all size (λ r. eqb (m .link i (dartAt s from r)) (dartAt s base (to r)))
+follows m s size i from base to = allBelow size (λ r. eqb (m .link i (dartAt s from r)) (dartAt s base (to r)))
 
 module _ (m : Map) (s : List ℕ) (size : ℕ) (dims cols : List ℕ) (j i from : ℕ) where
   -- the explicit arc of entry j at dimension i, to a node: it is tested from the later of its two columns, and an arc of the tree not at all
@@ -120,7 +120,7 @@ module _ (m : Map) (s : List ℕ) (size : ℕ) (nodes dims codes cols : List ℕ
 
   -- every arc below a bound, where k stands for entry k / 4 at dimension k % 4
   unfoldable pub arcsTest : ℕ → Bool
-  arcsTest bound = all bound (λ k. arcTest (k / 4) (k % 4))
+  arcsTest bound = allBelow bound (λ k. arcTest (k / 4) (k % 4))
 
 -- the columns and codes are such that an arc can be tested
 pub record Firm (N : ℕ) (t s : List ℕ) (size : ℕ) (nodes codes cols : List ℕ) (count : ℕ) : Type 0 where

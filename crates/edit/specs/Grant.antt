@@ -9,13 +9,13 @@ use mathlib.Core.List.{List}
 use lib.ListN.{length, getD}
 use lib.Dec.{ltb}
 use Rattle.base.specs.Test.{_and_}
-use Rattle.base.specs.Below.{count}
-use Rattle.base.specs.First.{nth}
+use Rattle.base.specs.Below.{countBelow}
+use Rattle.base.specs.First.{nthLowest}
 use Rattle.base.specs.Binary.{binary}
 use Rattle.model.specs.Map.{Map, view, unused}
 use Rattle.model.specs.WellFormed.{WellFormed}
 use Rattle.model.specs.Scheme.{orbitDim, added}
-use Rattle.model.specs.Formed.{Formed}
+use Rattle.model.specs.Shaped.{Shaped}
 use Rattle.model.specs.Orbit.{orbit}
 use Rattle.model.specs.Edit.{addedDarts, rank, dartOf}
 use Rattle.model.specs.declared.Scheme.{Scheme}
@@ -47,12 +47,12 @@ revived t y v = put (put (put t y 0 1) y 4 y) y 5 v
 
 -- `nodes` lists the added nodes of S, ascending
 pub record Listed (S : Scheme) (nodes : List ℕ) (many : ℕ) : Type 0 where
-  pub every : many ≡ count (S .nodes) (added S)
-  pub node : (a : ℕ) → a < many → nth (S .nodes) (added S) a ≡ some (getD nodes a 0)
+  pub every : many ≡ countBelow (S .nodes) (added S)
+  pub node : (a : ℕ) → a < many → nthLowest (S .nodes) (added S) a ≡ some (getD nodes a 0)
 
 -- where the column of the a-th added node begins
-abbrev pub column : ℕ → ℕ → ℕ → ℕ
-column N size a = 2 * N + a * size
+abbrev pub columnStart : ℕ → ℕ → ℕ → ℕ
+columnStart N size a = 2 * N + a * size
 
 -- different nodes, with room for their columns
 pub record Apart (N size : ℕ) (nodes : List ℕ) (many : ℕ) : Type 0 where
@@ -63,9 +63,9 @@ pub record Apart (N size : ℕ) (nodes : List ℕ) (many : ℕ) : Type 0 where
   pub once : (a b : ℕ) → a < b → b < many → getD nodes a 0 ≡ getD nodes b 0 → ⊥
 
 -- cols′ is cols with the columns of the first `many` of `nodes`
-pub record Columned (N size : ℕ) (nodes : List ℕ) (many : ℕ) (cols cols′ : List ℕ) : Type 0 where
+pub record ColumnsBegin (N size : ℕ) (nodes : List ℕ) (many : ℕ) (cols cols′ : List ℕ) : Type 0 where
   pub long : length cols′ ≡ length cols
-  pub at : (a : ℕ) → a < many → getD cols′ (getD nodes a 0) 0 ≡ column N size a
+  pub at : (a : ℕ) → a < many → getD cols′ (getD nodes a 0) 0 ≡ columnStart N size a
   pub other : (v : ℕ) → ((a : ℕ) → a < many → getD nodes a 0 ≡ v → ⊥) → getD cols′ v 0 ≡ getD cols v 0
 
 -- ---- the pairs one after the other, in the order of their ranks
@@ -74,9 +74,9 @@ pub record Columned (N size : ℕ) (nodes : List ℕ) (many : ℕ) (cols cols′
 pub record Grant (N : ℕ) (S : Scheme) (O : ℕ → Bool) (t s : List ℕ) (size many : ℕ) : Type 0 where
   pub sized : Sized N t
   pub long : length s ≡ 16 * N
-  pub every : many ≡ count (S .nodes) (added S)
-  pub room : addedDarts (view N t) S O ≤ count N (unused (view N t))
-  pub counted : count N O ≡ size
+  pub every : many ≡ countBelow (S .nodes) (added S)
+  pub room : addedDarts (view N t) S O ≤ countBelow N (unused (view N t))
+  pub counted : countBelow N O ≡ size
   pub slot : (u : ℕ) → O u ≡ true → u < N
   pub alive : (u : ℕ) → O u ≡ true → view N t .state u ≡ 1
   pub is : (x : ℕ) → x < N → among s size x ≡ O x
@@ -88,13 +88,13 @@ pub record Due (m : Map) (S : Scheme) (O : ℕ → Bool) (done u v : ℕ) : Type
   pub inOrbit : O u ≡ true
   pub below : v < S .nodes
   pub isAdded : added S v ≡ true
-  pub early : rank m S O u v < done
+  pub early : rank S O u v < done
 
 -- the first `done` added pairs have their slots, all below `free`: the table is t and the store s, which were t₀ and s₀
 pub record Granting (N : ℕ) (S : Scheme) (O : ℕ → Bool) (t₀ s₀ : List ℕ) (size done free : ℕ) (t s : List ℕ) : Type 0 where
   pub tableLong : length t ≡ length t₀
   pub storeLong : length s ≡ length s₀
-  pub taken : count free (unused (view N t₀)) ≡ done
+  pub taken : countBelow free (unused (view N t₀)) ≡ done
   pub low : (u v : ℕ) → Due (view N t₀) S O done u v → dartOf (view N t₀) S O u v < free
   pub was : (u v : ℕ) → Due (view N t₀) S O done u v → view N t₀ .state (dartOf (view N t₀) S O u v) ≡ 0
   pub state : (u v : ℕ) → Due (view N t₀) S O done u v → wordAt t (dartOf (view N t₀) S O u v) 0 ≡ 1
@@ -102,7 +102,7 @@ pub record Granting (N : ℕ) (S : Scheme) (O : ℕ → Bool) (t₀ s₀ : List 
   pub tag : (u v : ℕ) → Due (view N t₀) S O done u v → wordAt t (dartOf (view N t₀) S O u v) 5 ≡ view N t₀ .tag u
   pub links : (y c : ℕ) → 1 ≤ c → c ≤ 3 → wordAt t y c ≡ wordAt t₀ y c
   pub other : (y c : ℕ) → c < 6 → ((u v : ℕ) → Due (view N t₀) S O done u v → dartOf (view N t₀) S O u v ≡ y → ⊥) → wordAt t y c ≡ wordAt t₀ y c
-  pub dart : (u v : ℕ) → Due (view N t₀) S O done u v → dartAt s (column N size (count v (added S))) (mark s₀ u - 1) ≡ dartOf (view N t₀) S O u v
+  pub dart : (u v : ℕ) → Due (view N t₀) S O done u v → dartAt s (columnStart N size (countBelow v (added S))) (mark s₀ u - 1) ≡ dartOf (view N t₀) S O u v
   pub kept : (i : ℕ) → (i < 2 * N) ⊎ (3 * N ≤ i) → getD s i 0 ≡ getD s₀ i 0
 
 -- the pairs of the orbit dart u, at place r, come next; how it all stood before the first slot was given is in the fields
@@ -114,7 +114,7 @@ pub record Turn (N : ℕ) (t s : List ℕ) (size many u r free : ℕ) : Type 0 w
   pub grant : Grant N scheme orbit table store size many
   pub inOrbit : orbit u ≡ true
   pub place : mark store u ≡ r + 1
-  pub granting : Granting N scheme orbit table store size (count u orbit * many) free t s
+  pub granting : Granting N scheme orbit table store size (countBelow u orbit * many) free t s
 
 -- ---- the orbit ascending
 
@@ -132,7 +132,7 @@ pub record Placed (N : ℕ) (s : List ℕ) (size : ℕ) : Type 0 where
   pub found : (x : ℕ) → x < N → among s size x ≡ true → place N s (mark s x - 1) ≡ x
 
 -- sixteen zeros
-pub record Blank (bits : List ℕ) : Type 0 where
+pub record NoDigits (bits : List ℕ) : Type 0 where
   pub long : length bits ≡ 16
   pub zeros : (w : ℕ) → w < 16 → getD bits w 0 ≡ 0
 
@@ -149,15 +149,15 @@ pub record Block (N : ℕ) (t s : List ℕ) (size many w number free : ℕ) : Ty
   pub store : List ℕ
   pub grant : Grant N scheme orbit table store size many
   pub digits : number ≡ binary 64 (λ k. orbit (64 * w + k))
-  pub granting : Granting N scheme orbit table store size (count (64 * w) orbit * many) free t s
+  pub granting : Granting N scheme orbit table store size (countBelow (64 * w) orbit * many) free t s
 
 -- ---- all pairs
 
 -- what the giving of slots is handed by the phases before it
-pub record Ready (N : ℕ) (t s : List ℕ) (size : ℕ) (nodes : List ℕ) (many : ℕ) (cols : List ℕ) : Type 0 where
+pub record BeforeGiving (N : ℕ) (t s : List ℕ) (size : ℕ) (nodes : List ℕ) (many : ℕ) (cols : List ℕ) : Type 0 where
   pub scheme : Scheme
   pub dart : ℕ
-  pub formed : Formed scheme
+  pub shaped : Shaped scheme
   pub sized : Sized N t
   pub long : length s ≡ 16 * N
   pub well : WellFormed (scheme .n) (view N t)
@@ -167,7 +167,7 @@ pub record Ready (N : ℕ) (t s : List ℕ) (size : ℕ) (nodes : List ℕ) (man
   pub assigned : Assigned (view N t) scheme s cols size
   pub listed : Listed scheme nodes many
   pub wide : length cols ≡ 16
-  pub room : addedDarts (view N t) scheme (orbit (view N t) (scheme .places) (orbitDim scheme) dart) ≤ count N (unused (view N t))
+  pub room : addedDarts (view N t) scheme (orbit (view N t) (scheme .places) (orbitDim scheme) dart) ≤ countBelow N (unused (view N t))
 
 -- what it hands on: t′, s′ and cols′ from t and s
 pub record Granted (m : Map) (S : Scheme) (O : ℕ → Bool) (t s t′ s′ cols′ : List ℕ) (size : ℕ) : Type 0 where

@@ -6,7 +6,7 @@ use mathlib.Core.Bool.{Bool, cond}
 use mathlib.Core.List.{List}
 use lib.ListN.{length, getD}
 use lib.Dec.{eqb, ltb}
-use Rattle.base.specs.Below.{count}
+use Rattle.base.specs.Below.{countBelow}
 use Rattle.base.specs.Steps.{steps}
 use Rattle.model.specs.Map.{Map, view, unused}
 use Rattle.model.specs.Scheme.{right, orbitDim}
@@ -22,9 +22,9 @@ use Rattle.edit.specs.Phases.{Darts, Given}
 
 -- ---- what is written
 
--- column c of the slots `at 0` .. `at (n - 1)` becomes `v 0` .. `v (n - 1)`
-unfoldable pub column : ℕ → (ℕ → ℕ) → (ℕ → ℕ) → ℕ → List ℕ → List ℕ
-column c at v n = steps n (λ r t. put t (at r) c (v r))
+-- word c of the slots `at 0` .. `at (n - 1)` becomes `v 0` .. `v (n - 1)`
+unfoldable pub overwritten : ℕ → (ℕ → ℕ) → (ℕ → ℕ) → ℕ → List ℕ → List ℕ
+overwritten c at v n = steps n (λ r t. put t (at r) c (v r))
 
 -- the record of slot x becomes six zeros
 unfoldable pub zeroed : ℕ → List ℕ → List ℕ
@@ -44,11 +44,11 @@ module _ (store : List ℕ) (size : ℕ) (cols : List ℕ) where
   cleared kinds n = steps n (λ v. clearedBy store size (getD cols v 0) (getD kinds v 0))
 
 module _ (N : ℕ) (store : List ℕ) (size : ℕ) (cols : List ℕ) where
-  -- column c of the darts of the node whose column of the store begins at `base`, by the code of an arc
+  -- word c of the darts of the node whose column of the store begins at `base`, by the code of an arc
   unfoldable pub followed : ℕ → ℕ → ℕ → List ℕ → List ℕ
   followed c base code t =
-      cond (ltb code 16) (column c (dartAt store base) (dartAt store (getD cols code 0)) size t)
-      (cond (ltb code 255) (column c (dartAt store base) (λ r. dartAt store base (next N store r (code - 16))) size t) t)
+      cond (ltb code 16) (overwritten c (dartAt store base) (dartAt store (getD cols code 0)) size t)
+      (cond (ltb code 255) (overwritten c (dartAt store base) (λ r. dartAt store base (next N store r (code - 16))) size t) t)
 
   -- the links of the darts of all nodes, by the first n codes of their arcs
   unfoldable pub relinked : List ℕ → ℕ → List ℕ → List ℕ
@@ -57,12 +57,12 @@ module _ (N : ℕ) (store : List ℕ) (size : ℕ) (cols : List ℕ) where
 -- ---- what makes it safe
 
 -- from `base` on, the store holds `size` slots
-pub record Slots (N : ℕ) (store : List ℕ) (base size : ℕ) : Type 0 where
+pub record HoldsSlots (N : ℕ) (store : List ℕ) (base size : ℕ) : Type 0 where
   pub inside : base + size ≤ length store
   pub slot : (r : ℕ) → r < size → dartAt store base r < N
 
 -- from each place, the link at position p leads to a place
-pub record Turns (N : ℕ) (store : List ℕ) (size p : ℕ) : Type 0 where
+pub record Turnable (N : ℕ) (store : List ℕ) (size p : ℕ) : Type 0 where
   pub long : length store ≡ 16 * N
   pub fits : size ≤ N
   pub position : p < 4
@@ -71,12 +71,12 @@ pub record Turns (N : ℕ) (store : List ℕ) (size p : ℕ) : Type 0 where
 -- the code of an arc names a node that has a column, or a position whose links are known
 pub record Legible (N : ℕ) (store : List ℕ) (size : ℕ) (cols : List ℕ) (code : ℕ) : Type 0 where
   pub node : code < 16 → getD cols code 0 + size ≤ length store
-  pub position : 16 ≤ code → code < 255 → Turns N store size (code - 16)
+  pub position : 16 ≤ code → code < 255 → Turnable N store size (code - 16)
 
 -- each of c nodes has a column
 pub record Columns (N : ℕ) (store : List ℕ) (size c : ℕ) (cols : List ℕ) : Type 0 where
   pub few : c ≤ 16
-  pub at : (v : ℕ) → v < c → Slots N store (getD cols v 0) size
+  pub at : (v : ℕ) → v < c → HoldsSlots N store (getD cols v 0) size
 
 -- each arc of c nodes has a code
 pub record Codes (N : ℕ) (store : List ℕ) (size : ℕ) (codes : List ℕ) (c : ℕ) (cols : List ℕ) : Type 0 where
@@ -89,7 +89,7 @@ abbrev pub orbitFor : Map → Scheme → ℕ → ℕ → Bool
 orbitFor m S d = orbit m (S .places) (orbitDim S) d
 
 -- the scheme, the dart of the edit and the table before it, with what the earlier phases found and left
-pub record Ready (slots : ℕ) (table store : List ℕ) (size : ℕ) (kinds codes : List ℕ) (c : ℕ) (cols : List ℕ) : Type 0 where
+pub record BeforeRewriting (slots : ℕ) (table store : List ℕ) (size : ℕ) (kinds codes : List ℕ) (c : ℕ) (cols : List ℕ) : Type 0 where
   pub scheme : Scheme
   pub dart : ℕ
   pub before : List ℕ
@@ -99,7 +99,7 @@ pub record Ready (slots : ℕ) (table store : List ℕ) (size : ℕ) (kinds code
   pub walked : Walked (view slots before) (scheme .places) (orbitDim scheme) dart store size
   pub darts : Darts (view slots before) scheme (orbitFor (view slots before) scheme dart) store cols size
   pub match : Assignment (view slots before) scheme (orbitFor (view slots before) scheme dart) (image (view slots before) scheme)
-  pub room : addedDarts (view slots before) scheme (orbitFor (view slots before) scheme dart) ≤ count slots (unused (view slots before))
+  pub room : addedDarts (view slots before) scheme (orbitFor (view slots before) scheme dart) ≤ countBelow slots (unused (view slots before))
   pub given : Given (view slots before) scheme (orbitFor (view slots before) scheme dart) before table
   pub nodes : c ≡ scheme .nodes
   pub kinded : kinds ≡ scheme .kinds
@@ -107,5 +107,5 @@ pub record Ready (slots : ℕ) (table store : List ℕ) (size : ℕ) (kinds code
 
 -- the map after the edit
 abbrev pub editedBy : {slots : ℕ} {table store : List ℕ} {size : ℕ} {kinds codes : List ℕ} {c : ℕ} {cols : List ℕ}
-    → Ready slots table store size kinds codes c cols → Map
+    → BeforeRewriting slots table store size kinds codes c cols → Map
 editedBy {slots} R = edited (view slots (R .before)) (R .scheme) (orbitFor (view slots (R .before)) (R .scheme) (R .dart))

@@ -9,7 +9,7 @@ ghost use lib.ListN.{length, getD};
 ghost use Rattle.model.specs.Map.{view};
 ghost use Rattle.table.specs.Words.{Sized};
 ghost use Rattle.edit.specs.Store.{next, Taken};
-ghost use Rattle.edit.specs.Columns.{Ready, Posed, Linked, Testable, Turns, Columned, ColumnedAll, follows, explicitTest, arcTest, arcsTest, Firm, Answered};
+ghost use Rattle.edit.specs.Columns.{BeforeMatching, Posed, Linked, Testable, Turns, Columned, ColumnedAll, follows, explicitTest, arcTest, arcsTest, Firm, Answered};
 
 // A new column from the place `end` on, over the i-links of the column at `from`; false where a dart has a place already.
 fn column(
@@ -52,7 +52,7 @@ fn columns(
     cols: &mut [usize; 16],
 ) -> bool
     requires { ⌜ length (now cols) ≡ 16 ⌝ }
-    requires { ⌜ Ready slots (now table) (now store) size (now nodes) (now parents) (now dims) count ⌝ }
+    requires { ⌜ BeforeMatching slots (now table) (now store) size (now nodes) (now parents) (now dims) count ⌝ }
     ensures { λ r. ⌜ ColumnedAll slots (now (table .entry)) (now (nodes .entry)) (now (parents .entry)) (now (dims .entry)) (now (store .entry)) (now (store .exit)) (now (cols .exit)) size count r ⌝ }
 {
     cols[0] = slots;

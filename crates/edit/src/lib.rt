@@ -12,7 +12,7 @@ use model::Scheme;
 ghost use mathlib.Core.Path.{_≡_};
 ghost use Prim.Native.Nat.{_*_};
 ghost use lib.ListN.{length};
-ghost use Rattle.base.specs.Below.{count};
+ghost use Rattle.base.specs.Below.{countBelow};
 ghost use Rattle.model.specs.Map.{view, unused};
 ghost use Rattle.conditions.specs.Tree.{TreeOf};
 ghost use Rattle.edit.specs.Apply.{At, Settling, Applied};
@@ -67,7 +67,7 @@ pub fn apply(
 ) -> Answer
     requires { ⌜ At slots (now table) s d ⌝ }
     requires { ⌜ TreeOf s t ⌝ }
-    requires { ⌜ room ≡ count slots (unused (view slots (now table))) ⌝ }
+    requires { ⌜ room ≡ countBelow slots (unused (view slots (now table))) ⌝ }
     requires { ⌜ length (now store) ≡ 16 * slots ⌝ }
     ensures { λ r. ⌜ Applied slots (now (table .entry)) s d r (now (table .exit)) ⌝ }
 {

@@ -6,12 +6,12 @@ use table::words::put;
 ghost use mathlib.Core.Path.{_≡_};
 ghost use Prim.Native.Nat.{_+_, _*_, _≤_, _<_};
 ghost use lib.ListN.{length};
-ghost use Rattle.model.specs.Map.{words};
+ghost use Rattle.model.specs.Map.{tableOf};
 ghost use Rattle.table.specs.Words.{Sized};
 ghost use Rattle.edit.specs.Store.{next, dartAt};
-ghost use Rattle.edit.specs.Links.{column, zeroed, erased, followed, relinked, cleared, Slots, Turns, Legible, Columns, Codes, Ready, editedBy};
+ghost use Rattle.edit.specs.Links.{overwritten, zeroed, erased, followed, relinked, cleared, HoldsSlots, Turnable, Legible, Columns, Codes, BeforeRewriting, editedBy};
 
-// Column c of the darts of one node becomes the darts of another node, for the same orbit darts.
+// Word c of the darts of one node becomes the darts of another node, for the same orbit darts.
 fn join(
     slots: usize,
     table: &mut [u32],
@@ -22,9 +22,9 @@ fn join(
     to: usize,
 )
     requires { ⌜ Sized slots (now table) ⌝ }
-    requires { ⌜ Slots slots (now store) from size ⌝ }
+    requires { ⌜ HoldsSlots slots (now store) from size ⌝ }
     requires { ⌜ (to + size ≤ length (now store)) × (c < 6) ⌝ }
-    ensures { λ _. ⌜ now (table .exit) ≡ column c (dartAt (now (store .entry)) from)
+    ensures { λ _. ⌜ now (table .exit) ≡ overwritten c (dartAt (now (store .entry)) from)
         (dartAt (now (store .entry)) to) size (now (table .entry)) ⌝ }
 {
     let mut r = 0;
@@ -35,7 +35,7 @@ fn join(
     }
 }
 
-// Column c of the darts of one node becomes the node's darts for the orbit darts to which the links at position p lead.
+// Word c of the darts of one node becomes the node's darts for the orbit darts to which the links at position p lead.
 fn turn(
     slots: usize,
     table: &mut [u32],
@@ -46,10 +46,10 @@ fn turn(
     p: usize,
 )
     requires { ⌜ Sized slots (now table) ⌝ }
-    requires { ⌜ Slots slots (now store) base size ⌝ }
-    requires { ⌜ Turns slots (now store) size p ⌝ }
+    requires { ⌜ HoldsSlots slots (now store) base size ⌝ }
+    requires { ⌜ Turnable slots (now store) size p ⌝ }
     requires { ⌜ c < 6 ⌝ }
-    ensures { λ _. ⌜ now (table .exit) ≡ column c (dartAt (now (store .entry)) base)
+    ensures { λ _. ⌜ now (table .exit) ≡ overwritten c (dartAt (now (store .entry)) base)
         (λ r. dartAt (now (store .entry)) base (next slots (now (store .entry)) r p)) size (now (table .entry)) ⌝ }
 {
     let mut r = 0;
@@ -77,7 +77,7 @@ fn blank(slots: usize, table: &mut [u32], x: usize)
 // The records of the darts of one node become zeros.
 fn erase(slots: usize, table: &mut [u32], store: &[u32], size: usize, base: usize)
     requires { ⌜ Sized slots (now table) ⌝ }
-    requires { ⌜ Slots slots (now store) base size ⌝ }
+    requires { ⌜ HoldsSlots slots (now store) base size ⌝ }
     ensures { λ _. ⌜ now (table .exit) ≡ erased (dartAt (now (store .entry)) base) size (now (table .entry)) ⌝ }
 {
     let mut r = 0;
@@ -88,7 +88,7 @@ fn erase(slots: usize, table: &mut [u32], store: &[u32], size: usize, base: usiz
     }
 }
 
-// Column c of the darts of the node whose column of the store begins at `base`, by the code of an arc.
+// Word c of the darts of the node whose column of the store begins at `base`, by the code of an arc.
 fn follow(
     slots: usize,
     table: &mut [u32],
@@ -100,7 +100,7 @@ fn follow(
     cols: &[usize; 16],
 )
     requires { ⌜ Sized slots (now table) ⌝ }
-    requires { ⌜ Slots slots (now store) base size ⌝ }
+    requires { ⌜ HoldsSlots slots (now store) base size ⌝ }
     requires { ⌜ Legible slots (now store) size (now cols) code ⌝ }
     requires { ⌜ c < 6 ⌝ }
     ensures { λ _. ⌜ now (table .exit) ≡ followed slots (now (store .entry)) size (now (cols .entry))
@@ -180,9 +180,9 @@ pub(crate) fn rewrite(
     c: usize,
     cols: &[usize; 16],
 )
-    requires { ⌜ Ready slots (now table) (now store) size (now kinds) (now codes) c (now cols) ⌝ }
-    ensures { λ _. ⌜ ((R : Ready slots (now (table .entry)) (now (store .entry)) size (now (kinds .entry)) (now (codes .entry)) c (now (cols .entry)))
-        → now (table .exit) ≡ words (editedBy R)) ⌝ }
+    requires { ⌜ BeforeRewriting slots (now table) (now store) size (now kinds) (now codes) c (now cols) ⌝ }
+    ensures { λ _. ⌜ ((R : BeforeRewriting slots (now (table .entry)) (now (store .entry)) size (now (kinds .entry)) (now (codes .entry)) c (now (cols .entry)))
+        → now (table .exit) ≡ tableOf (editedBy R)) ⌝ }
 {
     relink(slots, table, store, size, codes, c, cols);
     clear(slots, table, store, size, kinds, c, cols);

@@ -10,7 +10,7 @@ ghost use lib.ListN.{getD};
 ghost use Rattle.model.specs.Map.{view};
 ghost use Rattle.edit.specs.Store.{Taken, Walked, place};
 ghost use Rattle.edit.specs.Places.{Blank};
-ghost use Rattle.edit.specs.Walk.{Ready, Followed, Expanded};
+ghost use Rattle.edit.specs.Walk.{BeforeWalking, Followed, Expanded};
 
 // Slot y takes the place `end`, unless it has a place, and the word `at` becomes the place of y. It returns the new end.
 fn follow(slots: usize, store: &mut [u32], end: usize, at: usize, y: usize) -> usize
@@ -39,7 +39,7 @@ fn expand(
     head: usize,
     tail: usize,
 ) -> usize
-    requires { ⌜ Ready slots (now table) (now dims) k ⌝ }
+    requires { ⌜ BeforeWalking slots (now table) (now dims) k ⌝ }
     requires { ⌜ Taken slots (now store) tail ⌝ }
     requires { ⌜ (head < tail) × (view slots (now table) .state (place slots (now store) head) ≡ 1) ⌝ }
     ensures { λ r. ⌜ Expanded (view slots (now (table .entry))) k (λ p. getD (now (dims .entry)) p 0) head (now (store .entry)) tail (now (store .exit)) r ⌝ }
@@ -66,7 +66,7 @@ pub(crate) fn walk(
     store: &mut [u32],
     d: usize,
 ) -> usize
-    requires { ⌜ Ready slots (now table) (now dims) k ⌝ }
+    requires { ⌜ BeforeWalking slots (now table) (now dims) k ⌝ }
     requires { ⌜ (d < slots) × (view slots (now table) .state d ≡ 1) ⌝ }
     requires { ⌜ Blank slots (now store) ⌝ }
     ensures { λ r. ⌜ Walked (view slots (now (table .entry))) k (λ p. getD (now (dims .entry)) p 0) d (now (store .exit)) r ⌝ }

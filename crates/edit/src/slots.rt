@@ -7,12 +7,12 @@ use table::words::tag;
 ghost use mathlib.Core.Path.{_≡_};
 ghost use Prim.Native.Nat.{_+_, _*_, _<_};
 ghost use lib.ListN.{length};
-ghost use Rattle.base.specs.Below.{count};
+ghost use Rattle.base.specs.Below.{countBelow};
 ghost use Rattle.model.specs.Map.{view};
 ghost use Rattle.model.specs.Scheme.{orbitDim};
 ghost use Rattle.model.specs.Orbit.{orbit};
 ghost use Rattle.table.specs.Words.{Sized};
-ghost use Rattle.edit.specs.Grant.{Room, Lowest, revived, Apart, Columned, Turn, Granting, early, Placed, Blank, Digits, Block, Ready, Granted};
+ghost use Rattle.edit.specs.Grant.{Room, Lowest, revived, Apart, ColumnsBegin, Turn, Granting, early, Placed, NoDigits, Digits, Block, BeforeGiving, Granted};
 
 // The lowest unused slot from `from` on. Four slots a turn: in a full table this scan is most of what an added dart costs.
 fn lowest(slots: usize, table: &[u32], from: usize) -> usize
@@ -60,7 +60,7 @@ fn row(
 ) -> usize
     requires { ⌜ Turn slots (now table) (now store) size many u r free ⌝ }
     ensures { λ f. ⌜ ((T : Turn slots (now (table .entry)) (now (store .entry)) size many u r free)
-        → Granting slots (T .scheme) (T .orbit) (T .table) (T .store) size (count u (T .orbit) * many + many) f (now (table .exit)) (now (store .exit))) ⌝ }
+        → Granting slots (T .scheme) (T .orbit) (T .table) (T .store) size (countBelow u (T .orbit) * many + many) f (now (table .exit)) (now (store .exit))) ⌝ }
 {
     let v = tag(slots, table, u);
     let mut from = free;
@@ -79,7 +79,7 @@ fn row(
 fn columns(slots: usize, size: usize, added: &[u8; 16], many: usize, cols: &mut [usize; 16])
     requires { ⌜ Apart slots size (now added) many ⌝ }
     requires { ⌜ length (now cols) ≡ 16 ⌝ }
-    ensures { λ _. ⌜ Columned slots size (now (added .entry)) many (now (cols .entry)) (now (cols .exit)) ⌝ }
+    ensures { λ _. ⌜ ColumnsBegin slots size (now (added .entry)) many (now (cols .entry)) (now (cols .exit)) ⌝ }
 {
     let mut a = 0;
     while a < many {
@@ -92,7 +92,7 @@ fn columns(slots: usize, size: usize, added: &[u8; 16], many: usize, cols: &mut 
 // The darts at the first `size` places as binary digits, 64 slots a word, so that they can be taken ascending.
 fn mark_bits(slots: usize, store: &[u32], size: usize, bits: &mut [u64; 16])
     requires { ⌜ Placed slots (now store) size ⌝ }
-    requires { ⌜ Blank (now bits) ⌝ }
+    requires { ⌜ NoDigits (now bits) ⌝ }
     ensures { λ _. ⌜ Digits (early slots (now (store .entry)) size) (now (bits .exit)) ⌝ }
 {
     let mut r = 0;
@@ -117,7 +117,7 @@ fn block(
 ) -> usize
     requires { ⌜ Block slots (now table) (now store) size many w digits free ⌝ }
     ensures { λ f. ⌜ ((B : Block slots (now (table .entry)) (now (store .entry)) size many w digits free)
-        → Granting slots (B .scheme) (B .orbit) (B .table) (B .store) size (count (64 * w + 64) (B .orbit) * many) f (now (table .exit)) (now (store .exit))) ⌝ }
+        → Granting slots (B .scheme) (B .orbit) (B .table) (B .store) size (countBelow (64 * w + 64) (B .orbit) * many) f (now (table .exit)) (now (store .exit))) ⌝ }
 {
     let mut rest = digits;
     let mut from = free;
@@ -141,8 +141,8 @@ pub(crate) fn give(
     many: usize,
     cols: &mut [usize; 16],
 )
-    requires { ⌜ Ready slots (now table) (now store) size (now added) many (now cols) ⌝ }
-    ensures { λ _. ⌜ ((R : Ready slots (now (table .entry)) (now (store .entry)) size (now (added .entry)) many (now (cols .entry)))
+    requires { ⌜ BeforeGiving slots (now table) (now store) size (now added) many (now cols) ⌝ }
+    ensures { λ _. ⌜ ((R : BeforeGiving slots (now (table .entry)) (now (store .entry)) size (now (added .entry)) many (now (cols .entry)))
         → Granted (view slots (now (table .entry))) (R .scheme) (orbit (view slots (now (table .entry))) (R .scheme .places) (orbitDim (R .scheme)) (R .dart))
         (now (table .entry)) (now (store .entry)) (now (table .exit)) (now (store .exit)) (now (cols .exit)) size) ⌝ }
 {

@@ -10,12 +10,12 @@ use native.Mathlib.Omega.{arith}
 use lib.ListN.{length, getD, replicate, length-replicate, getD-replicate}
 use lib.Dec.{eqb, leb}
 use borrow.Author.Tests.{eqb-true, eqb-false, eq-eqb, ne-eqb}
-use Rattle.base.specs.First.{least, there, first, when, _orElse_}
+use Rattle.base.specs.First.{least, there, first, someIf, _orElse_}
 use Rattle.base.specs.Digits.{numberAt}
 use Rattle.base.proofs.TestLaws.{true-or-false}
 use Rattle.base.proofs.BelowLaws.{below-suc}
 use Rattle.base.proofs.FirstLaws.{first-step, least-at, least-only}
-use Rattle.model.specs.Map.{tableSize, recordOf, words}
+use Rattle.model.specs.Map.{tableSize, recordOf, tableOf}
 use Rattle.model.specs.File.{atPlace, twoAt, tagAt, linkAt, placeOf, fileMap}
 use Rattle.table.specs.Words.{Sized, wordAt}
 use Rattle.table.proofs.WordLaws.{words-by}
@@ -45,7 +45,7 @@ module _ (n : ℕ) (b : List ℕ) (k x c : ℕ) where
   or-none (some a) = refl
 
   word-other : (slotOf b k ≡ x → ⊥) → wordOf n b (k + 1) x c ≡ wordOf n b k x c
-  unfolding wordOf least when
+  unfolding wordOf least someIf
   word-other d =
       let same : least (k + 1) (λ o. eqb (slotOf b o) x) ≡ least k (λ o. eqb (slotOf b o) x) = rw (first-step, ne-eqb (slotOf b k) x d) (or-none _) in
       ap (λ (o : Option ℕ). atPlace o (λ j. rowOf n b j c)) same
@@ -118,6 +118,6 @@ module _ (n N : ℕ) (b : List ℕ) where
       columns (λ j. wordOf n b (numberAt 2 b 3) x j) c h
       ∙ ap (λ (l : List ℕ). getD l c 0) (sym (record-is x _ (sym (place-is x)) (λ k q. eqb-true _ _ (least-at _ _ k q .1))))
 
-  pub filled-all : (k : ℕ) (t : List ℕ) → k ≡ numberAt 2 b 3 → Filled n N b k t → t ≡ words (fileMap n N b)
+  pub filled-all : (k : ℕ) (t : List ℕ) → k ≡ numberAt 2 b 3 → Filled n N b k t → t ≡ tableOf (fileMap n N b)
   unfolding fileMap
   filled-all k t e u = words-by (fileMap n N b) t (u .sized .long) (λ x c l m. u .held x c l m ∙ ap (λ (j : ℕ). wordOf n b j x c) e ∙ word-is x c m)

@@ -11,7 +11,7 @@ use lib.ListN.{length, getD}
 use lib.Dec.{eqb, ltb}
 use borrow.Author.Tests.{eqb-true, eq-eqb, ne-eqb, ltb-true, lt-ltb, le-ltb, not-true, not-false}
 use Rattle.base.specs.Test.{_and_}
-use Rattle.base.specs.Below.{all}
+use Rattle.base.specs.Below.{allBelow}
 use Rattle.base.specs.Digits.{numberAt}
 use Rattle.base.proofs.DigitLaws.{number-join}
 use Rattle.base.proofs.TestLaws.{and-left, and-right, and-of, and-assoc, true-or-false}
@@ -133,7 +133,7 @@ module _ (n N : ℕ) (b : List ℕ) where
   unfolding fileForm frameOk headOk countsOk slotsOk slotOf
   form-is =
       ap₂ (λ (g : ℕ) (f : ℕ → ℕ). eqb g n and eqb (f 1) N and eqb (f (5 + 2 * f 3)) (f 3) and eqb (f (7 + 6 * f 3)) (f 3)
-      and eqb (length b) (9 + f 3 * (6 + 2 * (n + 1))) and all (f 3) (λ k. ltb (f (5 + 2 * k)) N and all k (λ o. ltb (f (5 + 2 * o)) (f (5 + 2 * k)))))
+      and eqb (length b) (9 + f 3 * (6 + 2 * (n + 1))) and allBelow (f 3) (λ k. ltb (f (5 + 2 * k)) N and allBelow k (λ o. ltb (f (5 + 2 * o)) (f (5 + 2 * k)))))
       (sym one-at) (λ i at. sym (two-at at) i)
       ∙ ap (λ (t : Bool). t and eqb (length b) (9 + numberAt 2 b 3 * (6 + 2 * (n + 1))) and slotsOk N b (numberAt 2 b 3)) (and-assoc _ _ _)
 

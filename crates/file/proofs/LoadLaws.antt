@@ -9,7 +9,7 @@ use lib.ListN.{length}
 use borrow.Author.Tests.{not-true, not-false}
 use Rattle.base.specs.Test.{_and_}
 use Rattle.base.specs.Digits.{numberAt}
-use Rattle.model.specs.Map.{words}
+use Rattle.model.specs.Map.{tableOf}
 use Rattle.model.specs.File.{fileForm, fileMap}
 use Rattle.model.specs.Calls.{zeros}
 use Rattle.file.specs.Form.{frameOk, framed, slotsOk}
@@ -60,6 +60,6 @@ module _ (n N : ℕ) (b : List ℕ) where
         pub load-unordered : (t t' : List ℕ) → not r ≡ true → t' ≡ zeros t → (false ≡ fileForm n N b) × (t' ≡ loaded n N t b)
         load-unordered t t' h = refused t t' (tests ∙ not-true r h)
 
-        pub load-done : (t t' : List ℕ) → not r ≡ false → t' ≡ words (fileMap n N b) → (true ≡ fileForm n N b) × (t' ≡ loaded n N t b)
+        pub load-done : (t t' : List ℕ) → not r ≡ false → t' ≡ tableOf (fileMap n N b) → (true ≡ fileForm n N b) × (t' ≡ loaded n N t b)
         unfolding loaded
         load-done t t' h z = let form = tests ∙ not-false r h in (sym form, rw form z)

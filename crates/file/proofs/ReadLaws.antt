@@ -13,7 +13,7 @@ use lib.Seq.{take-add, take-all, drop-drop}
 use lib.Dec.{eqb, ltb}
 use borrow.Author.Tests.{eqb-true, eq-eqb, ltb-true, ltb-false, le-leb}
 use Rattle.base.specs.Test.{_and_, bit}
-use Rattle.base.specs.Below.{count}
+use Rattle.base.specs.Below.{countBelow}
 use Rattle.base.specs.First.{there}
 use Rattle.base.specs.Digits.{bytesOf, numberAt}
 use Rattle.base.proofs.TestLaws.{and-left, and-right, true-or-false}
@@ -78,11 +78,11 @@ module _ (n N : ℕ) (b : List ℕ) (t : fileForm n N b ≡ true) where
   }
 
   -- as many darts are live as the file has
-  live-darts : liveDarts n m ≡ L
+  live-darts : liveDarts m ≡ L
   unfolding liveDarts fileMap
   live-darts =
       let one : ℕ → List ℕ = λ x. 0 ∷ [] in
-      let e : 1 * count N (live m) ≡ 1 * L = sym (length-chosen 1 (live m) one (λ x. refl) N)
+      let e : 1 * countBelow N (live m) ≡ 1 * L = sym (length-chosen 1 (live m) one (λ x. refl) N)
       ∙ ap length (chosen-ascending (live m) (slotOf b) one N L ascends) ∙ length-joined 1 _ (λ i. refl) L in
       omega arith
 

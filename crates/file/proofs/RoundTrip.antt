@@ -12,14 +12,14 @@ use native.Mathlib.Omega.{arith}
 use lib.ListN.{getD, replicate}
 use lib.Dec.{ltb, leb}
 use borrow.Author.Tests.{eqb-true, eq-eqb, ne-eqb, ltb-true, ltb-false, lt-ltb, leb-true, leb-false}
-use Rattle.base.specs.Below.{count}
+use Rattle.base.specs.Below.{countBelow}
 use Rattle.base.specs.Lists.{joined}
 use Rattle.base.specs.Digits.{numberAt}
 use Rattle.base.proofs.TestLaws.{and-of, true-or-false}
 use Rattle.base.proofs.BelowLaws.{all-of, count-lt, count-reaches}
 use Rattle.base.proofs.FirstLaws.{some-not-none, least-only, least-none-of}
 use Rattle.base.proofs.ListLaws.{joined-same}
-use Rattle.model.specs.Map.{Map, live, recordOf, words}
+use Rattle.model.specs.Map.{Map, live, recordOf, tableOf}
 use Rattle.model.specs.WellFormed.{WellFormed}
 use Rattle.model.specs.File.{liveDarts, file, placeOf, fileForm, fileMap}
 use Rattle.table.proofs.SlotLaws.{two-le}
@@ -38,15 +38,15 @@ module _ (n : ℕ) (m : Map) (h : n < 256) (few : m .slots ≤ 1024) where
   abbrev b : List ℕ
   b = file n m
 
-  small : liveDarts n m < 65536
+  small : liveDarts m < 65536
   small = omega (arith, few-live n m _ refl)
 
-  darts-read : numberAt 2 b 3 ≡ liveDarts n m
+  darts-read : numberAt 2 b 3 ≡ liveDarts m
   unfolding start
   darts-read = count-back n m h Slots small
 
   -- the k-th dart of the file is the k-th live one
-  dart-at : (k : ℕ) → k < liveDarts n m → (x : ℕ) × (x < m .slots) × (live m x ≡ true) × (count x (live m) ≡ k) × (slotOf b k ≡ x)
+  dart-at : (k : ℕ) → k < liveDarts m → (x : ℕ) × (x < m .slots) × (live m x ≡ true) × (countBelow x (live m) ≡ k) × (slotOf b k ≡ x)
   unfolding liveDarts
   dart-at k l =
       let r = count-reaches (live m) (m .slots) k l in
@@ -54,19 +54,19 @@ module _ (n : ℕ) (m : Map) (h : n < 256) (few : m .slots ≤ 1024) where
       let g : x < m .slots = r .1 in
       (x, g, r .2, r .3, ap (slotOf b) (sym (r .3)) ∙ slot-back n m h x g (eqb-true _ _ (r .2)) (omega arith))
 
-  ordered : (j k : ℕ) → j < k → k < liveDarts n m → slotOf b j < slotOf b k
+  ordered : (j k : ℕ) → j < k → k < liveDarts m → slotOf b j < slotOf b k
   ordered j k l g =
       let d = dart-at j (omega arith) in
       let e = dart-at k g in
       let x : ℕ = d .0 in
       let y : ℕ = e .0 in
-      let cx : count x (live m) ≡ j = d .3 in
-      let cy : count y (live m) ≡ k = e .3 in
+      let cx : countBelow x (live m) ≡ j = d .3 in
+      let cy : countBelow y (live m) ≡ k = e .3 in
       rw (d .4, e .4) (⊎-elim
       (λ (t : ltb x y ≡ true). ltb-true x y t)
       (λ (t : ltb x y ≡ false). ⊎-elim
-      (λ (q : y ≡ x). let same : count y (live m) ≡ count x (live m) = ap (λ (z : ℕ). count z (live m)) q in absurd (omega arith))
-      (λ (q : y < x). let less : count y (live m) < count x (live m) = count-lt (live m) y x q (e .2) in absurd (omega arith))
+      (λ (q : y ≡ x). let same : countBelow y (live m) ≡ countBelow x (live m) = ap (λ (z : ℕ). countBelow z (live m)) q in absurd (omega arith))
+      (λ (q : y < x). let less : countBelow y (live m) < countBelow x (live m) = count-lt (live m) y x q (e .2) in absurd (omega arith))
       (eq-or-lt-of-le (ltb-false x y t)))
       (true-or-false (ltb x y)))
 
@@ -79,23 +79,23 @@ module _ (n : ℕ) (m : Map) (h : n < 256) (few : m .slots ≤ 1024) where
       let links = count-back n m h Links small in
       form-is n (m .slots) b ∙ rw darts-read (and-of
       (and-of (and-of (and-of (eq-eqb _ _ (e .0)) (eq-eqb _ _ (e .1))) (and-of (eq-eqb _ _ tags) (eq-eqb _ _ links))) (eq-eqb _ _ (length-file n m h)))
-      (all-of (liveDarts n m) _ (λ k l. let d = dart-at k l in and-of
+      (all-of (liveDarts m) _ (λ k l. let d = dart-at k l in and-of
       (lt-ltb (slotOf b k) (m .slots) (rw (d .4) (d .1))) (all-of k _ (λ o g. lt-ltb (slotOf b o) (slotOf b k) (ordered o k g l))))))
 
-  place-live : (x : ℕ) → x < m .slots → m .state x ≡ 1 → placeOf n (m .slots) b x ≡ some (count x (live m))
+  place-live : (x : ℕ) → x < m .slots → m .state x ≡ 1 → placeOf n (m .slots) b x ≡ some (countBelow x (live m))
   unfolding liveDarts
   place-live x g e = sym (place-is n (m .slots) b x) ∙ rw darts-read
-      (least-only (liveDarts n m) _ (count x (live m)) (count-lt (live m) x (m .slots) g (eq-eqb _ _ e)) (eq-eqb _ _ (slot-back n m h x g e (omega arith)))
-      (λ j l t. let d = dart-at j l in sym (d .3) ∙ ap (λ (y : ℕ). count y (live m)) (sym (d .4) ∙ eqb-true _ _ t)))
+      (least-only (liveDarts m) _ (countBelow x (live m)) (count-lt (live m) x (m .slots) g (eq-eqb _ _ e)) (eq-eqb _ _ (slot-back n m h x g e (omega arith)))
+      (λ j l t. let d = dart-at j l in sym (d .3) ∙ ap (λ (y : ℕ). countBelow y (live m)) (sym (d .4) ∙ eqb-true _ _ t)))
 
   place-unused : (x : ℕ) → live m x ≡ false → placeOf n (m .slots) b x ≡ none
-  place-unused x e = sym (place-is n (m .slots) b x) ∙ rw darts-read (least-none-of (liveDarts n m) _ (λ k l.
+  place-unused x e = sym (place-is n (m .slots) b x) ∙ rw darts-read (least-none-of (liveDarts m) _ (λ k l.
       let d = dart-at k l in
       ne-eqb (slotOf b k) x (λ q. true≢false (sym (d .2) ∙ ap (live m) (sym (d .4) ∙ q) ∙ e))))
 
   module _ (d : (n ≡ 2) ⊎ (n ≡ 3)) (w : WellFormed n m) (tags : (x : ℕ) → x < m .slots → m .state x ≡ 1 → m .tag x < 4294967296) where
     link-read : (x : ℕ) → x < m .slots → m .state x ≡ 1 → (i : ℕ) → i ≤ 3
-        → linkWord n b (linkPlace n b (count x (live m))) (slotOf b (count x (live m))) i ≡ m .link i x
+        → linkWord n b (linkPlace n b (countBelow x (live m))) (slotOf b (countBelow x (live m))) i ≡ m .link i x
     unfolding linkWord linkPlace
     link-read x g e i l = rw darts-read (⊎-elim
         (λ (t : leb i n ≡ true). let k = leb-true i n t in
@@ -108,7 +108,7 @@ module _ (n : ℕ) (m : Map) (h : n < 256) (few : m .slots ≤ 1024) where
     live-record : (x : ℕ) → x < m .slots → m .state x ≡ 1 → recordOf (fileMap n (m .slots) b) x ≡ recordOf m x
     unfolding rowOf tagPlace
     live-record x g e =
-        let c : ℕ = count x (live m) in
+        let c : ℕ = countBelow x (live m) in
         let slot : slotOf b c ≡ x = slot-back n m h x g e (omega arith) in
         let tag : numberAt 4 b (tagPlace b c) ≡ m .tag x
         = ap (λ (L : ℕ). numberAt 4 b (7 + 2 * L + 4 * c)) darts-read ∙ tag-back n m h x g e (tags x g e) in
@@ -124,8 +124,8 @@ module _ (n : ℕ) (m : Map) (h : n < 256) (few : m .slots ≤ 1024) where
         (true-or-false (live m x))
 
     -- the table that is read
-    pub read-back-table : words (fileMap n (m .slots) b) ≡ joined (m .slots) (λ x. cond (live m x) (recordOf m x) (replicate 6 0))
-    unfolding words fileMap
+    pub read-back-table : tableOf (fileMap n (m .slots) b) ≡ joined (m .slots) (λ x. cond (live m x) (recordOf m x) (replicate 6 0))
+    unfolding tableOf fileMap
     read-back-table = joined-same (m .slots) _ _ read-back
 
 -- ---- read, then written

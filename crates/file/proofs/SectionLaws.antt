@@ -8,7 +8,7 @@ use native.Mathlib.Omega.{arith}
 use lib.ListN.{length, drop, length-append}
 use lib.Seq.{sets}
 use borrow.Author.Tests.{eq-eqb, ne-eqb}
-use Rattle.base.specs.Below.{count}
+use Rattle.base.specs.Below.{countBelow}
 use Rattle.base.specs.Lists.{joined}
 use Rattle.base.specs.Digits.{bytesOf}
 use Rattle.base.proofs.BelowLaws.{count-le, count-lt}
@@ -80,7 +80,7 @@ module _ (n : ℕ) (part : Part) where
 
 -- ---- a section
 
-pub length-darts : (n : ℕ) (m : Map) (part : Part) (x : ℕ) → length (dartsBytes n m part x) ≡ partSize n part * count x (live m)
+pub length-darts : (n : ℕ) (m : Map) (part : Part) (x : ℕ) → length (dartsBytes n m part x) ≡ partSize n part * countBelow x (live m)
 unfolding dartsBytes
 length-darts n m part x = length-chosen (partSize n part) (live m) (partBytes n m part) (length-part n m part) x
 
@@ -99,24 +99,24 @@ module _ (n : ℕ) (m : Map) (part : Part) (l : List ℕ) (at : ℕ) where
     darts-live a l'' q y = rw (joined-step, ← e, eq-eqb s 1 a) (put-then l at _ l' p _ l'' q u y)
 
     -- there is room for a live dart, where there is room for all
-    pub darts-room : s ≡ 1 → x < m .slots → (k : ℕ) → k ≡ liveDarts n m → at + partSize n part * k ≤ length l → p + partSize n part ≤ length l'
+    pub darts-room : s ≡ 1 → x < m .slots → (k : ℕ) → k ≡ liveDarts m → at + partSize n part * k ≤ length l → p + partSize n part ≤ length l'
     unfolding liveDarts
     darts-room a h k f room =
-        let less : count x (live m) + 1 ≤ k = rw f (omega (arith, count-lt (live m) x (m .slots) h (eq-eqb _ _ (sym e ∙ a)))) in
+        let less : countBelow x (live m) + 1 ≤ k = rw f (omega (arith, count-lt (live m) x (m .slots) h (eq-eqb _ _ (sym e ∙ a)))) in
         rw (put-length l at _ l' p u, u .after, length-darts n m part x) (omega (arith, mul-le-mul-left (partSize n part) less))
 
-  pub darts-all : (k : ℕ) (l' : List ℕ) (p x : ℕ) (l'' : List ℕ) (q : ℕ) → k ≡ liveDarts n m → x ≡ m .slots → Put l at (bytesOf 2 k) l' p
+  pub darts-all : (k : ℕ) (l' : List ℕ) (p x : ℕ) (l'' : List ℕ) (q : ℕ) → k ≡ liveDarts m → x ≡ m .slots → Put l at (bytesOf 2 k) l' p
       → Put l' p (dartsBytes n m part x) l'' q → Put l at (sectionBytes n m part) l'' q
   unfolding sectionBytes section dartsBytes bytesOf
   darts-all k l' p x l'' q f e y z =
       put-then l at _ l' p _ l'' q
       (subst (λ (j : ℕ). Put l at (bytesOf 2 j) l' p) f y) (subst (λ (j : ℕ). Put l' p (dartsBytes n m part j) l'' q) e z)
 
-pub few-live : (n : ℕ) (m : Map) (k : ℕ) → k ≡ liveDarts n m → k ≤ m .slots
+pub few-live : (n : ℕ) (m : Map) (k : ℕ) → k ≡ liveDarts m → k ≤ m .slots
 unfolding liveDarts
 few-live n m k e = rw e (count-le (m .slots) (live m))
 
-pub length-section : (n : ℕ) (m : Map) (part : Part) → length (sectionBytes n m part) ≡ 2 + partSize n part * liveDarts n m
+pub length-section : (n : ℕ) (m : Map) (part : Part) → length (sectionBytes n m part) ≡ 2 + partSize n part * liveDarts m
 unfolding sectionBytes section liveDarts
 length-section n m part = ap (λ (k : ℕ). suc (suc k)) (length-chosen (partSize n part) (live m) (partBytes n m part) (length-part n m part) (m .slots)) ∙ omega arith
 
@@ -150,7 +150,7 @@ module _ (n : ℕ) (m : Map) (h : n < 256) where
       ++ section n m (λ x. joined (suc n) (λ i. twoBytes (m .link i x)))) (sym e) tags
 
   -- the length of a map file
-  pub length-file : length (file n m) ≡ 9 + liveDarts n m * (6 + 2 * (n + 1))
+  pub length-file : length (file n m) ≡ 9 + liveDarts m * (6 + 2 * (n + 1))
   unfolding partSize headBytes bytesOf
   length-file =
       rw (file-parts, length-append, length-append, length-append, length-section, length-section, length-section) (omega arith)
@@ -163,7 +163,7 @@ module _ (n : ℕ) (m : Map) (h : n < 256) where
   file-split Links = file-parts ∙ sym (append-nil _)
 
   -- there is room for a section after what stands before it
-  pub section-room : (part : Part) (k : ℕ) → k ≡ liveDarts n m → (l : List ℕ) → length (file n m) ≤ length l
+  pub section-room : (part : Part) (k : ℕ) → k ≡ liveDarts m → (l : List ℕ) → length (file n m) ≤ length l
       → (l' : List ℕ) (p : ℕ) → Put l 0 (fileBefore n m part) l' p → p + 2 + partSize n part * k ≤ length l'
   section-room part k f l fits l' p x =
       let len : length (file n m) ≡ length (fileBefore n m part) + (2 + partSize n part * k) + length (fileAfter n m part)

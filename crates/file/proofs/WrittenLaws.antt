@@ -8,7 +8,7 @@ use native.Mathlib.Omega.{arith}
 use lib.ListN.{length, getD, length-append, List·getD-append}
 use lib.Seq.{getD-append-add}
 use borrow.Author.Tests.{eq-eqb}
-use Rattle.base.specs.Below.{count}
+use Rattle.base.specs.Below.{countBelow}
 use Rattle.base.specs.Digits.{bytesOf, numberAt}
 use Rattle.base.proofs.BelowLaws.{count-lt}
 use Rattle.base.proofs.DigitLaws.{length-bytes, number-back}
@@ -29,7 +29,7 @@ start L Links = 7 + 6 * L
 
 module _ (n : ℕ) (m : Map) (h : n < 256) where
   abbrev L : ℕ
-  L = liveDarts n m
+  L = liveDarts m
 
   length-before : (part : Part) → length (fileBefore n m part) ≡ start L part
   unfolding fileBefore start headBytes bytesOf partSize
@@ -60,7 +60,7 @@ module _ (n : ℕ) (m : Map) (h : n < 256) where
 
   module _ (x : ℕ) (b : x < m .slots) (e : m .state x ≡ 1) where
     abbrev c : ℕ
-    c = count x (live m)
+    c = countBelow x (live m)
 
     counted : c + 1 ≤ L
     unfolding liveDarts

@@ -6,7 +6,7 @@ use mathlib.Core.List.{List}
 use lib.ListN.{length}
 use lib.Dec.{eqb, ltb}
 use Rattle.base.specs.Test.{_and_}
-use Rattle.base.specs.Below.{all}
+use Rattle.base.specs.Below.{allBelow}
 use Rattle.base.specs.Digits.{numberAt}
 use Rattle.file.specs.declared.form.Framing.{Framing}
 use Rattle.file.specs.declared.form.Framing.the-variants.{Darts, Broken}
@@ -34,4 +34,4 @@ lowest b zero = 0
 lowest b (suc k) = slotOf b k + 1
 
 unfoldable pub slotsOk : ℕ → List ℕ → ℕ → Bool
-slotsOk N b L = all L (λ k. ltb (slotOf b k) N and all k (λ o. ltb (slotOf b o) (slotOf b k)))
+slotsOk N b L = allBelow L (λ k. ltb (slotOf b k) N and allBelow k (λ o. ltb (slotOf b o) (slotOf b k)))

@@ -9,7 +9,7 @@ use lib.Dec.{eqb, ltb, leb}
 use Rattle.base.specs.First.{least}
 use Rattle.base.specs.Digits.{numberAt}
 use Rattle.model.specs.File.{atPlace, fileForm, fileMap}
-use Rattle.model.specs.Map.{words}
+use Rattle.model.specs.Map.{tableOf}
 use Rattle.model.specs.Calls.{zeros}
 use Rattle.table.specs.Words.{put}
 use Rattle.file.specs.Form.{slotOf}
@@ -52,4 +52,4 @@ wordOf n b k x c = atPlace (least k (λ o. eqb (slotOf b o) x)) (λ o. rowOf n b
 
 -- what a load leaves in the table t
 unfoldable pub loaded : ℕ → ℕ → List ℕ → List ℕ → List ℕ
-loaded n N t b = cond (fileForm n N b) (words (fileMap n N b)) (zeros t)
+loaded n N t b = cond (fileForm n N b) (tableOf (fileMap n N b)) (zeros t)

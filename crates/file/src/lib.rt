@@ -46,7 +46,7 @@ pub fn load(n: u32, slots: usize, table: &mut [u32], bytes: &[u8]) -> bool
 pub fn write(n: u32, slots: usize, table: &[u32], live: usize, out: &mut [u8])
     requires { ⌜ (n ≡ 2) ⊎ (n ≡ 3) ⌝ }
     requires { ⌜ Sized slots (now table) ⌝ }
-    requires { ⌜ live ≡ liveDarts n (view slots (now table)) ⌝ }
+    requires { ⌜ live ≡ liveDarts (view slots (now table)) ⌝ }
     requires { ⌜ length (file n (view slots (now table))) ≤ length (now out) ⌝ }
     ensures { λ _. ⌜ now (out .exit) ≡ file n (view slots (now (table .entry))) ++ drop (length (file n (view slots (now (table .entry))))) (now (out .entry)) ⌝ }
 {

@@ -89,7 +89,7 @@ pub fn section(
 ) -> Cursor
     requires { ⌜ (n ≡ 2) ⊎ (n ≡ 3) ⌝ }
     requires { ⌜ Sized slots (now table) ⌝ }
-    requires { ⌜ live ≡ liveDarts n (view slots (now table)) ⌝ }
+    requires { ⌜ live ≡ liveDarts (view slots (now table)) ⌝ }
     requires { ⌜ from .at + 2 + partSize n part * live ≤ length (now out) ⌝ }
     ensures { λ r. ⌜ Put (now (out .entry)) (from .at) (sectionBytes n (view slots (now (table .entry))) part) (now (out .exit)) (r .at) ⌝ }
 {

@@ -9,7 +9,7 @@ use lib.ListN.{length}
 use lib.Dec.{eqb}
 use borrow.Author.Tests.{eqb-true, eq-eqb, ne-eqb, leb-true, le-leb, lt-leb}
 use Rattle.base.specs.Test.{_and_, _or_}
-use Rattle.base.specs.First.{when, _orElse_}
+use Rattle.base.specs.First.{someIf, _orElse_}
 use Rattle.model.specs.Map.{view}
 use Rattle.model.specs.WellFormed.{wellFormed}
 use Rattle.model.specs.Calls.{sizesOk, tableFault, checkTable}
@@ -46,15 +46,15 @@ module _ (n N : ℕ) (t : List ℕ) where
   )
 
   pub is-1 : sizesOk n N t ≡ false → BadCall ≡ checkTable n N t
-  unfolding checkTable tableFault when _orElse_
+  unfolding checkTable tableFault someIf _orElse_
   is-1 e = rw e
 
   pub is-7 : sizesOk n N t ≡ true → wellFormed n (view N t) ≡ false → BadTable ≡ checkTable n N t
-  unfolding checkTable tableFault when _orElse_
+  unfolding checkTable tableFault someIf _orElse_
   is-7 e w = rw (e, w)
 
   pub is-0 : sizesOk n N t ≡ true → wellFormed n (view N t) ≡ true → Done ≡ checkTable n N t
-  unfolding checkTable tableFault when _orElse_
+  unfolding checkTable tableFault someIf _orElse_
   is-0 e w = rw (e, w)
 
   pub check-small : Small (checkTable n N t)

@@ -10,10 +10,10 @@ use native.Mathlib.Omega.{arith}
 use lib.ListN.{length, getD, take, replicate}
 use lib.Dec.{ltb}
 use borrow.Author.Tests.{eqb-true, eqb-false, eq-eqb, ne-eqb, le-ltb, leb-true}
-use Rattle.base.specs.First.{when, there, _orElse_}
+use Rattle.base.specs.First.{someIf, there, _orElse_}
 use Rattle.base.proofs.TestLaws.{true-or-false, and-left, and-right, or-cases}
 use Rattle.base.proofs.FirstLaws.{or-else-none, when-none}
-use Rattle.model.specs.Map.{Map, view, words, live, recordOf}
+use Rattle.model.specs.Map.{Map, view, tableOf, live, recordOf}
 use Rattle.model.specs.Alike.{Alike}
 use Rattle.model.specs.File.{file, fileForm, fileMap}
 use Rattle.model.specs.WellFormed.{WellFormed, wellFormed}
@@ -28,7 +28,7 @@ use Rattle.model.specs.Sequence.{Holds, AlikeTables, outcomeOf, writtenFile}
 use Rattle.model.specs.declared.Answer.{Answer}
 use Rattle.model.specs.declared.Answer.the-variants.{Done, Edited, Written}
 use Rattle.model.proofs.AnswerLaws.{answers-same}
-use Rattle.model.proofs.SchemeLaws.{formed}
+use Rattle.model.proofs.SchemeLaws.{shaped}
 use Rattle.model.proofs.AcceptedLaws.{accepted-iff}
 use Rattle.model.proofs.WellFormedLaws.{wellFormed-iff}
 use Rattle.model.proofs.MatchLaws.{match-assigns}
@@ -65,7 +65,7 @@ demand1 = record {
 
 module _ (b : List ℕ) where
   bytes-free : inForm b ≡ true → schemeFault (schemeOf b) ≡ none → bytesFault b ≡ none
-  unfolding bytesFault when _orElse_
+  unfolding bytesFault someIf _orElse_
   bytes-free f q = rw (f, q) refl
 
   scheme-accepted : number (checkScheme b) ≡ 0 → (inForm b ≡ true) × Accepted (schemeOf b)
@@ -73,12 +73,12 @@ module _ (b : List ℕ) where
   scheme-accepted e =
       let parts = or-else-none _ _ (done-none (bytesFault b) Done (refuses-bytes b) e) in
       let form = passed _ _ (parts .0) in
-      (form, accepted-iff (schemeOf b) (formed b form) .0 (parts .1))
+      (form, accepted-iff (schemeOf b) (shaped b form) .0 (parts .1))
 
   accepted-scheme : (inForm b ≡ true) × Accepted (schemeOf b) → number (checkScheme b) ≡ 0
   unfolding checkScheme
   accepted-scheme p = ap (λ (o : Option Answer). number (Option·getD o Done))
-      (bytes-free (p .0) (accepted-iff (schemeOf b) (p .1 .formed) .1 (p .1)))
+      (bytes-free (p .0) (accepted-iff (schemeOf b) (p .1 .shaped) .1 (p .1)))
 
 -- ---- an edit that is done
 
@@ -88,14 +88,14 @@ module _ (n N : ℕ) (t store b : List ℕ) (d : ℕ) (e : number (editAnswer n 
   unrefused = done-none _ _ (refuses-edit n N t store b d) e
 
   abbrev O : ℕ → Bool
-  O = orbitOf n N t store b d
+  O = orbitOf N t b d
 
   published : Rewriting (view N t) (edited (view N t) (schemeOf b) O) (schemeOf b) O (dartOf (view N t) (schemeOf b) O)
   unfolding orbitOf
   published =
       let g = granted n N t store b d unrefused in
       let m = view N t in
-      let good = accepted-iff (schemeOf b) (formed b (g .form)) .0 (g .accepted) in
+      let good = accepted-iff (schemeOf b) (shaped b (g .form)) .0 (g .accepted) in
       let rules = wellFormed-iff (schemeOf b .n) m .0 (ap (λ (k : ℕ). wellFormed k m) (g .dimension) ∙ g .well) in
       let orb = good-orbit m (schemeOf b) d good rules (g .slot) (g .alive) in
       rewriting m (schemeOf b) _ good orb (match-assigns m (schemeOf b) good _ orb rules (g .match)) (g .room)
@@ -177,25 +177,25 @@ module _ (n N : ℕ) (t : List ℕ) (h : Holds n N t) (small : (i : ℕ) → get
       (λ x g. ⊎-elim (λ e. inr (sym (same-record m k x (back-live x g (eqb-true _ _ e)) .0) ∙ eqb-true _ _ e))
       (λ e. inl (back-unused x g (eqb-false _ _ e))) (true-or-false (live m x)))
 
-  table-alike : Alike m (view N (words k))
+  table-alike : Alike m (view N (tableOf k))
   unfolding fileMap
   table-alike = alike-trans file-alike (alike-sym (words-alike k))
 
   -- reading the file is not refused
   read-free : (u : List ℕ) → sizesOk n N u ≡ true → readFault n N u (file n m) ≡ none
-  unfolding readFault _orElse_ when
+  unfolding readFault _orElse_ someIf
   read-free u s =
       let form = written-form n m (omega (arith, dimension-small n N t (h .sizes))) (few-slots n N t (h .sizes)) in
       let well = wellFormed-iff n k .1 file-well in
       rw (s, form, well) refl
 
 -- the file of the table that a read leaves is the file of the map that was read
-one-file : (n N : ℕ) (b : List ℕ) → n ≤ 3 → file n (view N (words (fileMap n N b))) ≡ file n (fileMap n N b)
+one-file : (n N : ℕ) (b : List ℕ) → n ≤ 3 → file n (view N (tableOf (fileMap n N b))) ≡ file n (fileMap n N b)
 unfolding fileMap
-one-file n N b small = same-file n small (view N (words (fileMap n N b))) (fileMap n N b) (words-alike (fileMap n N b))
+one-file n N b small = same-file n small (view N (tableOf (fileMap n N b))) (fileMap n N b) (words-alike (fileMap n N b))
 
 -- a read that is not refused leaves the map of the file
-read-table : (n N : ℕ) (t b : List ℕ) → sizesOk n N t ≡ true → readFault n N t b ≡ none → readTable n N t b ≡ words (fileMap n N b)
+read-table : (n N : ℕ) (t b : List ℕ) → sizesOk n N t ≡ true → readFault n N t b ≡ none → readTable n N t b ≡ tableOf (fileMap n N b)
 unfolding readTable there
 read-table n N t b s q = rw (s, q) refl
 
@@ -210,7 +210,7 @@ module _ (n N : ℕ) (t out : List ℕ) where
   write-room q = when-none _ _ (or-else-none _ _ q .1)
 
   write-free : Holds n N t → ltb (length out) (length (file n (view N t))) ≡ false → writeFault n N t out ≡ none
-  unfolding writeFault _orElse_ when
+  unfolding writeFault _orElse_ someIf
   write-free h room = rw (holds-free n N t h, room) refl
 
   write-leaves : Holds n N t → ltb (length out) (length (file n (view N t))) ≡ false → writtenFile n N t out ≡ file n (view N t)
@@ -235,7 +235,7 @@ written-read n N t out r out′ p e small u r₂ u′ len q =
     let p₂ : FileRead n N u b r₂ u′ = subst (λ (l : List ℕ). FileRead n N u l r₂ u′) taken q in
     let sized = sizes-too n N t (h .sizes) u len in
     let free₂ = read-free n N t h small u sized in
-    let table : u′ ≡ words (fileMap n N b) = p₂ .table ∙ read-table n N u b sized free₂ in (
+    let table : u′ ≡ tableOf (fileMap n N b) = p₂ .table ∙ read-table n N u b sized free₂ in (
       p₂ .answer .sameNumber ∙ ap (λ (o : Option Answer). number (Option·getD o Done)) free₂,
       record {
         one = h;
@@ -254,7 +254,7 @@ read-written n N t b r t′ p e bytes out r₂ out′ len q =
     let parts = or-else-none _ _ free in
     let sized : sizesOk n N t ≡ true = passed _ _ (parts .0) in
     let form : fileForm n N b ≡ true = passed _ _ (or-else-none _ _ (parts .1) .0) in
-    let table : t′ ≡ words (fileMap n N b) = p .table ∙ read-table n N t b sized free in
+    let table : t′ ≡ tableOf (fileMap n N b) = p .table ∙ read-table n N t b sized free in
     let h : Holds n N t′ = subst (Holds n N) (sym (p .table)) (read-holds n N t b sized) in
     let same : file n (view N t′) ≡ b = ap (λ (l : List ℕ). file n (view N l)) table ∙ one-file n N b (dimension-small n N t sized) ∙ written-back n N b form bytes in
     let room : ltb (length out) (length (file n (view N t′))) ≡ false = ap (λ (l : List ℕ). ltb (length out) (length l)) same ∙ le-ltb _ _ len in (

@@ -13,11 +13,11 @@ use borrow.Author.Tests.{lt-ltb, le-ltb}
 use Rattle.model.proofs.AnswerLaws.{answers-of}
 use Rattle.model.specs.declared.Answer.{Answer}
 use Rattle.kernel.specs.Promises.{FileRead, FileWritten}
-use Rattle.base.specs.Below.{count}
-use Rattle.base.specs.First.{when, there, _orElse_}
+use Rattle.base.specs.Below.{countBelow}
+use Rattle.base.specs.First.{someIf, there, _orElse_}
 use Rattle.base.proofs.TestLaws.{true-or-false}
 use Rattle.base.proofs.BelowLaws.{count-le}
-use Rattle.model.specs.Map.{view, words, live}
+use Rattle.model.specs.Map.{view, tableOf, live}
 use Rattle.model.specs.WellFormed.{wellFormed}
 use Rattle.model.specs.File.{liveDarts, file, fileForm, fileMap}
 use Rattle.model.specs.Calls.{zeros, sizesOk, tableFault, readFault, readAnswer, readTable, writeFault, writeAnswer, writeOut}
@@ -35,16 +35,16 @@ use Rattle.kernel.proofs.CallLaws.{sizes-read}
 
 module _ (n N : ℕ) (t b : List ℕ) where
   pub read-1 : sizesOk n N t ≡ false → (BadCall ≡ readAnswer n N t b) × (t ≡ readTable n N t b)
-  unfolding readAnswer readTable readFault when _orElse_
+  unfolding readAnswer readTable readFault someIf _orElse_
   read-1 e = (rw e refl, rw e refl)
 
   module _ (s : sizesOk n N t ≡ true) where
     pub read-11 : (t' : List ℕ) → fileForm n N b ≡ false → t' ≡ loaded n N t b → (BadFile ≡ readAnswer n N t b) × (t' ≡ readTable n N t b)
-    unfolding readAnswer readTable readFault when _orElse_ there loaded
+    unfolding readAnswer readTable readFault someIf _orElse_ there loaded
     read-11 t' f e = (rw (s, f) refl, e ∙ rw (s, f) refl)
 
     module _ (t₁ : List ℕ) (f : fileForm n N b ≡ true) (e : t₁ ≡ loaded n N t b) where
-      filled : t₁ ≡ words (fileMap n N b)
+      filled : t₁ ≡ tableOf (fileMap n N b)
       unfolding loaded
       filled = e ∙ rw f refl
 
@@ -61,15 +61,15 @@ module _ (n N : ℕ) (t b : List ℕ) where
       well-is = ap (λ (l : List ℕ). wellFormed n (view N l)) filled ∙ words-formed n (fileMap n N b) (three-le (sizes-read n N t s .0))
 
       pub read-7 : (t' : List ℕ) → wellFormed n (view N t₁) ≡ false → t' ≡ zeros t₁ → (BadTable ≡ readAnswer n N t b) × (t' ≡ readTable n N t b)
-      unfolding readAnswer readTable readFault when _orElse_ there
+      unfolding readAnswer readTable readFault someIf _orElse_ there
       read-7 t' w z = let v = sym well-is ∙ w in (rw (s, f, v) refl, z ∙ ap (λ (k : ℕ). replicate k 0) same-length ∙ rw (s, f, v) refl)
 
       pub read-0 : wellFormed n (view N t₁) ≡ true → (Done ≡ readAnswer n N t b) × (t₁ ≡ readTable n N t b)
-      unfolding readAnswer readTable readFault when _orElse_ there
+      unfolding readAnswer readTable readFault someIf _orElse_ there
       read-0 w = let v = sym well-is ∙ w in (rw (s, f, v) refl, filled ∙ rw (s, f, v) refl)
 
   pub read-small : Small (readAnswer n N t b)
-  unfolding readAnswer readFault when _orElse_
+  unfolding readAnswer readFault someIf _orElse_
   read-small = ⊎-elim
       (λ (s : sizesOk n N t ≡ true). ⊎-elim
       (λ (f : fileForm n N b ≡ true). ⊎-elim
@@ -85,15 +85,15 @@ module _ (n N : ℕ) (t b : List ℕ) where
 
 module _ (n N : ℕ) (t out : List ℕ) where
   pub write-1 : sizesOk n N t ≡ false → (BadCall ≡ writeAnswer n N t out) × (out ≡ writeOut n N t out)
-  unfolding writeAnswer writeOut writeFault tableFault when _orElse_ there
+  unfolding writeAnswer writeOut writeFault tableFault someIf _orElse_ there
   write-1 e = (rw e refl, rw e refl)
 
   module _ (s : sizesOk n N t ≡ true) where
     pub write-7 : wellFormed n (view N t) ≡ false → (BadTable ≡ writeAnswer n N t out) × (out ≡ writeOut n N t out)
-    unfolding writeAnswer writeOut writeFault tableFault when _orElse_ there
+    unfolding writeAnswer writeOut writeFault tableFault someIf _orElse_ there
     write-7 w = (rw (s, w) refl, rw (s, w) refl)
 
-    module _ (k : ℕ) (e : k ≡ count N (live (view N t))) where
+    module _ (k : ℕ) (e : k ≡ countBelow N (live (view N t))) where
       write-size : 9 + k * (6 + 2 * (n + 1)) ≡ length (file n (view N t))
       unfolding liveDarts
       write-size = rw e (sym (length-file n (view N t) (omega (arith, three-le (sizes-read n N t s .0)))))
@@ -108,13 +108,13 @@ module _ (n N : ℕ) (t out : List ℕ) where
       pub write-fits : 9 + k * (6 + 2 * (n + 1)) ≤ length out → length (file n (view N t)) ≤ length out
       write-fits h = rw (← write-size) h
 
-      pub write-live : k ≡ liveDarts n (view N t)
+      pub write-live : k ≡ liveDarts (view N t)
       unfolding liveDarts
       write-live = e
 
       module _ (w : wellFormed n (view N t) ≡ true) where
         pub write-12 : length out < 9 + k * (6 + 2 * (n + 1)) → (ShortOutput ≡ writeAnswer n N t out) × (out ≡ writeOut n N t out)
-        unfolding writeAnswer writeOut writeFault tableFault when _orElse_ there
+        unfolding writeAnswer writeOut writeFault tableFault someIf _orElse_ there
         write-12 h =
             let l : ltb (length out) (length (file n (view N t))) ≡ true = lt-ltb (length out) (length (file n (view N t))) (rw (← write-size) h) in
             (rw (s, w, l) refl, rw (s, w, l) refl)
@@ -122,13 +122,13 @@ module _ (n N : ℕ) (t out : List ℕ) where
         pub write-0 : (out' : List ℕ) → 9 + k * (6 + 2 * (n + 1)) ≤ length out
             → out' ≡ file n (view N t) ++ drop (length (file n (view N t))) out
             → (Written (9 + k * (6 + 2 * (n + 1))) ≡ writeAnswer n N t out) × (out' ≡ writeOut n N t out)
-        unfolding writeAnswer writeOut writeFault tableFault when _orElse_ there
+        unfolding writeAnswer writeOut writeFault tableFault someIf _orElse_ there
         write-0 out' h z =
             let l : ltb (length out) (length (file n (view N t))) ≡ false = le-ltb (length out) (length (file n (view N t))) (rw (← write-size) h) in
             (rw (s, w, l, write-size) refl, z ∙ rw (s, w, l) refl)
 
   pub write-small : Small (writeAnswer n N t out)
-  unfolding writeAnswer writeFault tableFault when _orElse_
+  unfolding writeAnswer writeFault tableFault someIf _orElse_
   write-small = ⊎-elim
       (λ (s : sizesOk n N t ≡ true). ⊎-elim
       (λ (w : wellFormed n (view N t) ≡ true). ⊎-elim
@@ -141,7 +141,7 @@ module _ (n N : ℕ) (t out : List ℕ) where
       (true-or-false (sizesOk n N t))
     where
       few : sizesOk n N t ≡ true → length (file n (view N t)) < 9223372036854775808
-      few s = rw (← write-size s _ refl) (omega (arith, write-few s (count N (live (view N t))) refl))
+      few s = rw (← write-size s _ refl) (omega (arith, write-few s (countBelow N (live (view N t))) refl))
 
 -- ---- the promises
 

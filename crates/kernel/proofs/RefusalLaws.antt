@@ -11,14 +11,14 @@ use native.Mathlib.Omega.{arith}
 use lib.ListN.{length, drop, replicate}
 use lib.Dec.{eqb}
 use Rattle.base.specs.Test.{_and_}
-use Rattle.base.specs.First.{when, _orElse_, there}
+use Rattle.base.specs.First.{someIf, _orElse_, there}
 use Rattle.base.proofs.FirstLaws.{first-at, when-at, or-else-last, some-not-none}
 use Rattle.model.specs.Answer.{number}
 use Rattle.model.specs.Scheme.{inForm, schemeOf}
 use Rattle.model.specs.Map.{view}
 use Rattle.model.specs.Edit.{orbitSize, addedDarts, deletedDarts}
 use Rattle.model.specs.Conditions.{hookFault, incidenceFault, cycleFault, schemeFault, noted}
-use Rattle.model.specs.Calls.{zeros, sizesOk, orbitOf, tableFault, checkTable, bytesFault, checkScheme, roomFault, editFault, editAnswer, editTable, editStore, readFault, readAnswer, writeFault, writeAnswer}
+use Rattle.model.specs.Calls.{zeros, sizesOk, orbitOf, tableFault, checkTable, bytesFault, checkScheme, fitFault, editFault, editAnswer, editTable, editStore, readFault, readAnswer, writeFault, writeAnswer}
 use Rattle.model.proofs.CallLaws.{refused-table}
 use Rattle.model.specs.declared.Scheme.{Scheme}
 use Rattle.model.specs.declared.Answer.{Answer}
@@ -34,13 +34,13 @@ chosen o done = number (Option·getD o done)
 module _ (k : ℕ) where
   -- a test of a chain
   tested : (t : Bool) (a : Answer) (o : Option Answer) (done : Answer) (l : List Refusal) → number a ≡ k
-      → chosen o done ≡ firstRefusal l → chosen (when t a orElse o) done ≡ firstRefusal (refusal k t ∷ l)
-  unfolding chosen firstRefusal when _orElse_
+      → chosen o done ≡ firstRefusal l → chosen (someIf t a orElse o) done ≡ firstRefusal (refusal k t ∷ l)
+  unfolding chosen firstRefusal someIf _orElse_
   tested true a o done l e r = e
   tested false a o done l e r = r
 
-  last-tested : (t : Bool) (a done : Answer) → number a ≡ k → number done ≡ 0 → chosen (when t a) done ≡ firstRefusal (refusal k t ∷ [])
-  unfolding chosen firstRefusal when
+  last-tested : (t : Bool) (a done : Answer) → number a ≡ k → number done ≡ 0 → chosen (someIf t a) done ≡ firstRefusal (refusal k t ∷ [])
+  unfolding chosen firstRefusal someIf
   last-tested true a done e r = e
   last-tested false a done e r = r
 
@@ -89,7 +89,7 @@ module _ (b : List ℕ) (o : Option Answer) (done : Answer) (l : List Refusal) (
   bytes-first : chosen (bytesFault b orElse o) done ≡ firstRefusal (refusal 2 (not (inForm b)) ∷ refusal 3 (there (hookFault S))
       ∷ refusal 4 (there (incidenceFault S)) ∷ refusal 5 (there (cycleFault S)) ∷ l)
   unfolding bytesFault
-  bytes-first = ap (λ (x : Option Answer). chosen x done) (regroup (when (not (inForm b)) BadForm) (schemeFault S) o)
+  bytes-first = ap (λ (x : Option Answer). chosen x done) (regroup (someIf (not (inForm b)) BadForm) (schemeFault S) o)
       ∙ tested 2 (not (inForm b)) BadForm _ done _ refl scheme-first
 
 -- ---- the calls
@@ -118,7 +118,7 @@ module _ (b : List ℕ) where
 
 module _ (n N : ℕ) (t store b : List ℕ) (d : ℕ) where
   edit-chain : (done : Answer) → number done ≡ 0 → chosen (editFault n N t store b d) done ≡ firstRefusal (editRefusals n N t store b d)
-  unfolding editFault roomFault editRefusals
+  unfolding editFault fitFault editRefusals
   edit-chain done z = tested 1 _ _ _ _ _ refl (bytes-first b _ done _ (tested 6 _ _ _ _ _ refl (tested 7 _ _ _ _ _ refl
       (tested 8 _ _ _ _ _ refl (tested 9 _ _ _ _ _ refl (last-tested 10 _ _ _ refl z))))))
 
@@ -208,8 +208,8 @@ module _ (n N : ℕ) (t store b : List ℕ) (d : ℕ) where
   pub refused-keeps : (number (editAnswer n N t store b d) ≡ 0 → ⊥) → editTable n N t store b d ≡ t
   unfolding editAnswer
   refused-keeps h = go (editFault n N t store b d) refl
-      (λ q. h (ap (λ (o : Option Answer). number (Option·getD o (Edited (orbitSize (view N t) (schemeOf b) (orbitOf n N t store b d))
-      (addedDarts (view N t) (schemeOf b) (orbitOf n N t store b d)) (deletedDarts (view N t) (schemeOf b) (orbitOf n N t store b d))))) q))
+      (λ q. h (ap (λ (o : Option Answer). number (Option·getD o (Edited (orbitSize (view N t) (schemeOf b) (orbitOf N t b d))
+      (addedDarts (view N t) (schemeOf b) (orbitOf N t b d)) (deletedDarts (view N t) (schemeOf b) (orbitOf N t b d))))) q))
     where
       go : (o : Option Answer) → editFault n N t store b d ≡ o → (editFault n N t store b d ≡ none → ⊥) → editTable n N t store b d ≡ t
       go none q f = absurd (f q)
@@ -232,7 +232,7 @@ module _ (n N : ℕ) (t store b : List ℕ) (d : ℕ) where
 abbrev pub Refuses : Option Answer → Type 0
 Refuses o = (a : Answer) → o ≡ some a → number a ≡ 0 → ⊥
 
-pub refuses-when : (t : Bool) (a : Answer) → (number a ≡ 0 → ⊥) → Refuses (when t a)
+pub refuses-when : (t : Bool) (a : Answer) → (number a ≡ 0 → ⊥) → Refuses (someIf t a)
 refuses-when t a h b e z = h (ap number (when-at _ e .1) ∙ z)
 
 pub refuses-or : (o p : Option Answer) → Refuses o → Refuses p → Refuses (o orElse p)
@@ -257,7 +257,7 @@ refuses-bytes b = refuses-or _ _ (refuses-when _ _ (λ e. omega arith)) (refuses
     (λ a e z. let five = cycle-number (schemeOf b) a e in omega arith)))
 
 pub refuses-edit : (n N : ℕ) (t store b : List ℕ) (d : ℕ) → Refuses (editFault n N t store b d)
-unfolding editFault roomFault
+unfolding editFault fitFault
 refuses-edit n N t store b d = refuses-or _ _ (refuses-when _ _ (λ e. omega arith)) (refuses-or _ _ (refuses-bytes b) (refuses-or _ _
     (refuses-when _ _ (λ e. omega arith)) (refuses-or _ _ (refuses-when _ _ (λ e. omega arith)) (refuses-or _ _
     (refuses-when _ _ (λ e. omega arith)) (refuses-or _ _ (refuses-when _ _ (λ e. omega arith)) (refuses-when _ _ (λ e. omega arith)))))))

@@ -12,8 +12,8 @@ use lib.ListN.{length}
 use lib.Dec.{eqb}
 use borrow.Author.Tests.{leb-true}
 use Rattle.base.specs.Test.{_and_}
-use Rattle.base.specs.Below.{count}
-use Rattle.base.specs.First.{when, _orElse_}
+use Rattle.base.specs.Below.{countBelow}
+use Rattle.base.specs.First.{someIf, _orElse_}
 use Rattle.base.proofs.TestLaws.{true-or-false, and-left, and-right}
 use Rattle.base.proofs.BelowLaws.{count-le}
 use Rattle.base.proofs.FirstLaws.{or-else-last}
@@ -21,11 +21,11 @@ use Rattle.model.specs.Map.{Map, view}
 use Rattle.model.specs.Scheme.{inForm, schemeOf, added, deleted}
 use Rattle.model.specs.Conditions.{schemeFault}
 use Rattle.model.specs.Edit.{orbitSize, addedDarts, deletedDarts}
-use Rattle.model.specs.Calls.{sizesOk, bytesFault, roomFault, checkScheme, orbitOf, editFault, editAnswer}
+use Rattle.model.specs.Calls.{sizesOk, bytesFault, fitFault, checkScheme, orbitOf, editFault, editAnswer}
 use Rattle.model.specs.declared.Scheme.{Scheme}
 use Rattle.model.specs.declared.Answer.{Answer}
 use Rattle.model.specs.declared.Answer.the-variants.{Done, Edited, BadCall, BadForm}
-use Rattle.model.proofs.SchemeLaws.{formed}
+use Rattle.model.proofs.SchemeLaws.{shaped}
 use Rattle.conditions.proofs.SmallLaws.{SmallFault, hookSmall, incidenceSmall, cycleSmall, fault-small}
 use Rattle.kernel.specs.Word.{Small}
 
@@ -35,13 +35,13 @@ fault-fits (incidenceSmall h) = omega arith
 fault-fits (cycleSmall h i j) = (omega arith, omega arith, omega arith)
 
 -- along a chain of refusals
-small-or : (t : Bool) (a : Answer) (o : Option Answer) (d : Answer) → Small a → Small (Option·getD o d) → Small (Option·getD (when t a orElse o) d)
-unfolding when _orElse_
+small-or : (t : Bool) (a : Answer) (o : Option Answer) (d : Answer) → Small a → Small (Option·getD o d) → Small (Option·getD (someIf t a orElse o) d)
+unfolding someIf _orElse_
 small-or true a o d s r = s
 small-or false a o d s r = r
 
-small-last : (t : Bool) (a d : Answer) → Small a → Small d → Small (Option·getD (when t a) d)
-unfolding when
+small-last : (t : Bool) (a d : Answer) → Small a → Small d → Small (Option·getD (someIf t a) d)
+unfolding someIf
 small-last true a d s r = s
 small-last false a d s r = r
 
@@ -50,22 +50,22 @@ unfolding _orElse_
 small-some none o d f r = r
 small-some (some a) o d f r = f a refl
 
-form-bad : (S : Scheme) (o : Option Answer) (d : Answer) → Small (Option·getD ((when (not false) BadForm orElse schemeFault S) orElse o) d)
-unfolding when _orElse_
+form-bad : (S : Scheme) (o : Option Answer) (d : Answer) → Small (Option·getD ((someIf (not false) BadForm orElse schemeFault S) orElse o) d)
+unfolding someIf _orElse_
 form-bad S o d = tt
 
 form-good : (S : Scheme) (o : Option Answer) (d : Answer) → Small (Option·getD (schemeFault S orElse o) d)
-    → Small (Option·getD ((when (not true) BadForm orElse schemeFault S) orElse o) d)
-unfolding when _orElse_
+    → Small (Option·getD ((someIf (not true) BadForm orElse schemeFault S) orElse o) d)
+unfolding someIf _orElse_
 form-good S o d s = s
 
 -- past the bytes, only bytes in the form are asked of
 bytes-small : (b : List ℕ) (o : Option Answer) (d : Answer) → (inForm b ≡ true → Small (Option·getD o d)) → Small (Option·getD (bytesFault b orElse o) d)
 unfolding bytesFault
 bytes-small b o d r = ⊎-elim
-    (λ e. subst (λ (t : Bool). Small (Option·getD ((when (not t) BadForm orElse schemeFault (schemeOf b)) orElse o) d)) (sym e)
-    (form-good (schemeOf b) o d (small-some (schemeFault (schemeOf b)) o d (λ a q. fault-fits (fault-small (schemeOf b) (formed b e) a q)) (r e))))
-    (λ e. subst (λ (t : Bool). Small (Option·getD ((when (not t) BadForm orElse schemeFault (schemeOf b)) orElse o) d)) (sym e) (form-bad (schemeOf b) o d))
+    (λ e. subst (λ (t : Bool). Small (Option·getD ((someIf (not t) BadForm orElse schemeFault (schemeOf b)) orElse o) d)) (sym e)
+    (form-good (schemeOf b) o d (small-some (schemeFault (schemeOf b)) o d (λ a q. fault-fits (fault-small (schemeOf b) (shaped b e) a q)) (r e))))
+    (λ e. subst (λ (t : Bool). Small (Option·getD ((someIf (not t) BadForm orElse schemeFault (schemeOf b)) orElse o) d)) (sym e) (form-bad (schemeOf b) o d))
     (true-or-false (inForm b))
 
 pub scheme-small : (b : List ℕ) → Small (checkScheme b)
@@ -76,29 +76,29 @@ scheme-small b = subst (λ (o : Option Answer). Small (Option·getD o Done)) (or
 counts-small : (m : Map) (S : Scheme) (O : ℕ → Bool) → m .slots ≤ 1024 → S .nodes ≤ 16 → Small (Edited (orbitSize m S O) (addedDarts m S O) (deletedDarts m S O))
 unfolding orbitSize addedDarts deletedDarts
 counts-small m S O few nodes =
-    let size : count (m .slots) O ≤ 1024 = omega (arith, count-le (m .slots) O) in (
+    let size : countBelow (m .slots) O ≤ 1024 = omega (arith, count-le (m .slots) O) in (
       omega arith,
-      product (count (m .slots) O) (count (S .nodes) (added S)) size (omega (arith, count-le (S .nodes) (added S))),
-      product (count (m .slots) O) (count (S .nodes) (deleted S)) size (omega (arith, count-le (S .nodes) (deleted S))),
+      product (countBelow (m .slots) O) (countBelow (S .nodes) (added S)) size (omega (arith, count-le (S .nodes) (added S))),
+      product (countBelow (m .slots) O) (countBelow (S .nodes) (deleted S)) size (omega (arith, count-le (S .nodes) (deleted S))),
     )
   where
     product : (a b : ℕ) → a ≤ 1024 → b ≤ 16 → a * b < 2097152
     product a b h l = omega (arith, mul-le-mul-right b h, mul-le-mul-left 1024 l)
 
-one : (o : Option Answer) (done : Answer) → Small (Option·getD (when (not false) BadCall orElse o) done)
-unfolding when _orElse_
+one : (o : Option Answer) (done : Answer) → Small (Option·getD (someIf (not false) BadCall orElse o) done)
+unfolding someIf _orElse_
 one o done = tt
 
 module _ (n N : ℕ) (t store b : List ℕ) (d : ℕ) where
   past-sizes : (o : Option Answer) (done : Answer) → (N ≤ 1024 → Small (Option·getD o done))
-      → Small (Option·getD (when (not (sizesOk n N t and eqb (length store) (16 * N))) BadCall orElse o) done)
+      → Small (Option·getD (someIf (not (sizesOk n N t and eqb (length store) (16 * N))) BadCall orElse o) done)
   past-sizes o done r = ⊎-elim
       (λ e. small-or _ BadCall o done tt (r (leb-true N 1024 (and-right _ _ (and-left _ _ (and-left _ _ e))))))
-      (λ e. subst (λ (s : Bool). Small (Option·getD (when (not s) BadCall orElse o) done)) (sym e) (one o done))
+      (λ e. subst (λ (s : Bool). Small (Option·getD (someIf (not s) BadCall orElse o) done)) (sym e) (one o done))
       (true-or-false (sizesOk n N t and eqb (length store) (16 * N)))
 
   pub edit-small : Small (editAnswer n N t store b d)
-  unfolding editAnswer editFault roomFault
+  unfolding editAnswer editFault fitFault
   edit-small = past-sizes _ _ (λ few. bytes-small b _ _ (λ form.
       small-or _ _ _ _ tt (small-or _ _ _ _ tt (small-or _ _ _ _ tt (small-or _ _ _ _ tt
-      (small-last _ _ _ tt (counts-small (view N t) (schemeOf b) (orbitOf n N t store b d) few (formed b form .nodesFew))))))))
+      (small-last _ _ _ tt (counts-small (view N t) (schemeOf b) (orbitOf N t b d) few (shaped b form .nodesFew))))))))

@@ -12,8 +12,8 @@ use lib.ListN.{length}
 use lib.Dec.{eqb}
 use borrow.Author.Tests.{eq-eqb, ne-eqb, lt-ltb, le-ltb, not-true, not-false}
 use Rattle.base.specs.Test.{_and_}
-use Rattle.base.specs.Below.{count}
-use Rattle.base.specs.First.{when, _orElse_, there}
+use Rattle.base.specs.Below.{countBelow}
+use Rattle.base.specs.First.{someIf, _orElse_, there}
 use Rattle.base.proofs.TestLaws.{and-of, and-no-left, and-no-right}
 use Rattle.base.proofs.BelowLaws.{count-same, count-not}
 use Rattle.base.proofs.ListLaws.{length-list}
@@ -31,7 +31,7 @@ use Rattle.model.specs.declared.Answer.{Answer}
 use Rattle.model.specs.declared.Answer.the-variants.{Done, BadCall, BadForm, OtherDimension, BadTable, NoDart}
 use Rattle.model.proofs.AnswerLaws.{answers-of}
 use Rattle.model.proofs.WellFormedLaws.{wellFormed-iff}
-use Rattle.model.proofs.SchemeLaws.{formed}
+use Rattle.model.proofs.SchemeLaws.{shaped}
 use Rattle.model.proofs.AcceptedLaws.{accepted}
 use Rattle.scheme.specs.Reading.{reading}
 use Rattle.scheme.specs.declared.Reading.{Reading}
@@ -39,7 +39,7 @@ use Rattle.conditions.specs.Verdict.{Judging}
 use Rattle.edit.specs.Apply.{At, Applied, rewritten}
 use Rattle.table.specs.Words.{Sized}
 use Rattle.kernel.specs.Promises.{MapEdited}
-use Rattle.kernel.specs.Stages.{dartFault, dartDone, dartTable, AppliedAt, Staged}
+use Rattle.kernel.specs.Stages.{siteFault, siteDone, siteTable, AppliedAt, Staged}
 use Rattle.kernel.proofs.RefusalLaws.{refuses-bytes}
 
 -- ---- the scheme's bytes
@@ -77,7 +77,7 @@ module _ (b : List ℕ) (r : Reading) (e : r ≡ reading b) where
         (r .scheme .rtargets) (r .scheme .lcount) (r .scheme .larcs) (r .ltwice) (r .rtwice)
     judge-asks = record {
       scheme = r .scheme;
-      formed = rw read-scheme (formed b q);
+      shaped = rw read-scheme (shaped b q);
       nIs = refl;
       placesIs = refl;
       nodesIs = refl;
@@ -98,7 +98,7 @@ unfoldable pub judged : List ℕ → Answer
 judged b = Option·getD (bytesFault b) Done
 
 pub form-refused : (b : List ℕ) → inForm b ≡ false → bytesFault b ≡ some BadForm
-unfolding bytesFault when _orElse_
+unfolding bytesFault someIf _orElse_
 form-refused b e = rw e
 
 pub judged-bad : (b : List ℕ) → inForm b ≡ false → BadForm ≡ judged b
@@ -107,7 +107,7 @@ judged-bad b e = rw (form-refused b e)
 
 module _ (b : List ℕ) (S : Scheme) (e : inForm b ≡ true) (s : S ≡ schemeOf b) where
   pub judged-good : (a : Answer) → a ≡ Option·getD (schemeFault S) Done → a ≡ judged b
-  unfolding judged bytesFault when _orElse_
+  unfolding judged bytesFault someIf _orElse_
   judged-good a f = f ∙ rw (e, s)
 
 -- bytes judged done have no fault, and any other answer is their fault
@@ -132,19 +132,19 @@ module _ (b : List ℕ) (r : Answer) (j : r ≡ judged b) where
 
 module _ (n N : ℕ) (t : List ℕ) (S : Scheme) (d : ℕ) where
   pub other-dimension : (x : ℕ) → x ≡ S .n → (x ≡ n → ⊥) → AppliedAt n N t S d OtherDimension t
-  unfolding dartFault when _orElse_ there
+  unfolding siteFault someIf _orElse_ there
   other-dimension x e h =
       let q : eqb (S .n) n ≡ false = ne-eqb (S .n) n (λ z. h (e ∙ z)) in
       record { answer = rw q refl; table = rw q refl }
 
   module _ (same : S .n ≡ n) where
     pub bad-table : wellFormed n (view N t) ≡ false → AppliedAt n N t S d BadTable t
-    unfolding dartFault when _orElse_ there
+    unfolding siteFault someIf _orElse_ there
     bad-table w = let q = eq-eqb (S .n) n same in record { answer = rw (q, w) refl; table = rw (q, w) refl }
 
     module _ (w : wellFormed n (view N t) ≡ true) where
       pub dart-out : N ≤ d → AppliedAt n N t S d NoDart t
-      unfolding dartFault when _orElse_ there _and_
+      unfolding siteFault someIf _orElse_ there _and_
       dart-out h =
           let q = eq-eqb (S .n) n same in
           let l = le-ltb d N h in
@@ -152,7 +152,7 @@ module _ (n N : ℕ) (t : List ℕ) (S : Scheme) (d : ℕ) where
 
       module _ (slot : d < N) where
         pub dart-dead : (s : ℕ) → s ≡ view N t .state d → (s ≡ 1 → ⊥) → AppliedAt n N t S d NoDart t
-        unfolding dartFault when _orElse_ there _and_
+        unfolding siteFault someIf _orElse_ there _and_
         dart-dead s e h =
             let q = eq-eqb (S .n) n same in
             let l = lt-ltb d N slot in
@@ -170,7 +170,7 @@ module _ (n N : ℕ) (t : List ℕ) (S : Scheme) (d : ℕ) where
           }
 
           pub applied : (r : Answer) (t′ : List ℕ) → Applied N t S d r t′ → AppliedAt n N t S d r t′
-          unfolding dartFault dartDone dartTable when _orElse_ _and_ rewritten
+          unfolding siteFault siteDone siteTable someIf _orElse_ _and_ rewritten
           applied r t′ a =
               let q = eq-eqb (S .n) n same in
               let l = lt-ltb d N slot in
@@ -178,12 +178,12 @@ module _ (n N : ℕ) (t : List ℕ) (S : Scheme) (d : ℕ) where
               record { answer = a .answer ∙ rw (q, w, l, z) refl; table = a .table ∙ rw (q, w, l, z) refl }
 
 -- in a well-formed table the slots that are not live are unused
-pub unused-left : (n N : ℕ) (t : List ℕ) (k : ℕ) → wellFormed n (view N t) ≡ true → k ≡ count N (live (view N t))
-    → (k ≤ N) × (N - k ≡ count N (unused (view N t)))
+pub unused-left : (n N : ℕ) (t : List ℕ) (k : ℕ) → wellFormed n (view N t) ≡ true → k ≡ countBelow N (live (view N t))
+    → (k ≤ N) × (N - k ≡ countBelow N (unused (view N t)))
 unused-left n N t k w e =
     let m = view N t in
     let all = count-not N (live m) in
-    let rest : count N (λ x. not (live m x)) ≡ count N (unused m) = count-same N _ (unused m) (λ x h. either (m .state x) (wellFormed-iff n m .0 w .states x h)) in
+    let rest : countBelow N (λ x. not (live m x)) ≡ countBelow N (unused m) = count-same N _ (unused m) (λ x h. either (m .state x) (wellFormed-iff n m .0 w .states x h)) in
     (omega arith, omega arith)
   where
     either : (s : ℕ) → (s ≡ 0) ⊎ (s ≡ 1) → not (eqb s 1) ≡ eqb s 0
@@ -206,7 +206,7 @@ unfolding bytesFault
 no-fault-accepted b S e s =
     let r = or-else-none _ _ e in
     let form : inForm b ≡ true = not-false (inForm b) (when-none _ BadForm (r .0)) in
-    subst Accepted (sym s) (accepted (schemeOf b) (formed b form) (r .1))
+    subst Accepted (sym s) (accepted (schemeOf b) (shaped b form) (r .1))
 
 -- ---- the call
 
@@ -215,7 +215,7 @@ module _ (n N : ℕ) (t store b : List ℕ) (d : ℕ) where
   sized = sizesOk n N t and eqb (length store) (16 * N)
 
   unsized : sized ≡ false → MapEdited n N t store b d BadCall t store
-  unfolding editAnswer editTable editStore editFault when _orElse_ there
+  unfolding editAnswer editTable editStore editFault someIf _orElse_ there
   unsized e = record { answer = answers-of (rw e refl); table = rw e refl; cleared = rw e refl }
 
   pub edit-bad-sizes : sizesOk n N t ≡ false → MapEdited n N t store b d BadCall t store
@@ -226,7 +226,7 @@ module _ (n N : ℕ) (t store b : List ℕ) (d : ℕ) where
 
   pub edit-staged : sizesOk n N t ≡ true → length store ≡ 16 * N → (r : Answer) (t′ store′ : List ℕ) → Staged n N t b d r t′ → store′ ≡ zeros store
       → MapEdited n N t store b d r t′ store′
-  unfolding editAnswer editTable editStore editFault orbitOf dartFault dartDone dartTable when _orElse_ there
+  unfolding editAnswer editTable editStore editFault orbitOf siteFault siteDone siteTable someIf _orElse_ there
   edit-staged e l r t′ store′ s z =
       let q : sized ≡ true = and-of e (eq-eqb (length store) (16 * N) l) in
       record { answer = answers-of (s .answer ∙ rw q refl); table = s .table ∙ rw q refl; cleared = z ∙ rw q refl }

@@ -7,7 +7,7 @@ use mathlib.Core.Logic.{_↔_}
 use mathlib.Core.Bool.{true}
 use mathlib.Core.List.{List, [], _∷_}
 use lib.ListN.{length, getD, take, replicate}
-use Rattle.model.specs.Map.{Map, view, words}
+use Rattle.model.specs.Map.{Map, view, tableOf}
 use Rattle.model.specs.Scheme.{inForm, schemeOf}
 use Rattle.model.specs.Accepted.{Accepted}
 use Rattle.model.specs.Edit.{orbitSize, addedDarts, deletedDarts}
@@ -45,10 +45,10 @@ pub record Demand1 : Type 0 where
 pub record EditDone (n N : ℕ) (t store b : List ℕ) (d : ℕ) (r : Answer) (t′ : List ℕ) : Type 0 where
   pub new : Map
   pub dart : ℕ → ℕ → ℕ
-  pub table : t′ ≡ words new
-  pub rewriting : Rewriting (view N t) new (schemeOf b) (orbitOf n N t store b d) dart
-  pub counts : values r ≡ orbitSize (view N t) (schemeOf b) (orbitOf n N t store b d)
-      ∷ addedDarts (view N t) (schemeOf b) (orbitOf n N t store b d) ∷ deletedDarts (view N t) (schemeOf b) (orbitOf n N t store b d) ∷ []
+  pub table : t′ ≡ tableOf new
+  pub rewriting : Rewriting (view N t) new (schemeOf b) (orbitOf N t b d) dart
+  pub counts : values r ≡ orbitSize (view N t) (schemeOf b) (orbitOf N t b d)
+      ∷ addedDarts (view N t) (schemeOf b) (orbitOf N t b d) ∷ deletedDarts (view N t) (schemeOf b) (orbitOf N t b d) ∷ []
   pub well : Holds n N t′
 
 -- a scheme is accepted exactly when it has the byte form and meets the conditions; an accepted edit is the published rewriting;

@@ -7,7 +7,7 @@ use mathlib.Core.List.{List, [], _∷_}
 use lib.ListN.{length}
 use lib.Dec.{eqb, ltb}
 use Rattle.base.specs.Test.{_and_}
-use Rattle.base.specs.Below.{count}
+use Rattle.base.specs.Below.{countBelow}
 use Rattle.base.specs.First.{there}
 use Rattle.model.specs.Map.{view, live, unused}
 use Rattle.model.specs.WellFormed.{wellFormed}
@@ -43,8 +43,8 @@ editRefusals n N t store b d = refusal 1 (not (sizesOk n N t and eqb (length sto
     ∷ refusal 4 (there (incidenceFault (schemeOf b))) ∷ refusal 5 (there (cycleFault (schemeOf b)))
     ∷ refusal 6 (not (eqb (schemeOf b .n) n)) ∷ refusal 7 (not (wellFormed n (view N t)))
     ∷ refusal 8 (not (ltb d N and live (view N t) d))
-    ∷ refusal 9 (not (matches (view N t) (schemeOf b) (orbitOf n N t store b d)))
-    ∷ refusal 10 (ltb (count N (unused (view N t))) (addedDarts (view N t) (schemeOf b) (orbitOf n N t store b d))) ∷ []
+    ∷ refusal 9 (not (matches (view N t) (schemeOf b) (orbitOf N t b d)))
+    ∷ refusal 10 (ltb (countBelow N (unused (view N t))) (addedDarts (view N t) (schemeOf b) (orbitOf N t b d))) ∷ []
 
 unfoldable pub readRefusals : ℕ → ℕ → List ℕ → List ℕ → List Refusal
 readRefusals n N t b = refusal 1 (not (sizesOk n N t)) ∷ refusal 11 (not (fileForm n N b)) ∷ refusal 7 (not (wellFormed n (fileMap n N b))) ∷ []

@@ -26,7 +26,7 @@ pub(crate) fn pack(a: Answer) -> u64
             added,
             deleted,
         } => (orbit as u64) + (added as u64) * 2097152 + (deleted as u64) * 4398046511104,
-        Answer::Written(length) => length as u64,
+        Answer::Written(size) => size as u64,
         Answer::BadCall => refused(1, 0, 0, 0),
         Answer::BadForm => refused(2, 0, 0, 0),
         Answer::BadHook(node) => refused(3, node, 0, 0),

@@ -9,12 +9,12 @@ use native.Mathlib.Omega.{arith}
 use lib.Dec.{eqb, leb}
 use borrow.Author.Tests.{eqb-true, eqb-false, eq-eqb, leb-true, le-leb, not-false}
 use Rattle.base.specs.Test.{_and_, _⇒_}
-use Rattle.base.specs.First.{when, _orElse_, there}
+use Rattle.base.specs.First.{someIf, _orElse_, there}
 use Rattle.base.proofs.TestLaws.{and-left, and-right, and-of, or-left, or-right, if-so, if-of, true-or-false}
 use Rattle.base.proofs.BelowLaws.{all-at, all-of}
 use Rattle.base.proofs.FirstLaws.{some-not-none, when-none, or-else-none, first-none, first-none-of, least-none, least-none-of}
 use Rattle.model.specs.Scheme.{Side, left, right, kind, orbitDim, word, has, deleted, preserved, added}
-use Rattle.model.specs.Formed.{Formed}
+use Rattle.model.specs.Shaped.{Shaped}
 use Rattle.model.specs.Conditions.{arcAt, arcsOfDim, sameArc, onCycle, Cycle, pathTo, hookRight, hookFault, incidenceOk, incidenceFault, cycleOk, cycleFault, schemeFault, noted}
 use Rattle.model.specs.Accepted.{Accepted, SingleSide}
 use Rattle.model.specs.declared.Scheme.{Scheme}
@@ -43,7 +43,7 @@ unfolding _and_
 not-both true b f = ap not (f refl)
 not-both false b f = refl
 
-module _ (S : Scheme) (f : Formed S) where
+module _ (S : Scheme) (f : Shaped S) where
   pub small : S .n ≤ 3
   small = ⊎-elim (λ e. omega arith) (λ e. omega arith) (f .dimension)
 
@@ -128,17 +128,17 @@ module _ (S : Scheme) (f : Formed S) where
 
     side-of : (side : Side) → SingleSide S side
     side-of left = record {
-      formed = f .sides left;
+      shaped = f .sides left;
       single = λ s i h l. leb-true _ _ (and-left _ _ (and-left _ _ (and-left _ _ (and-left _ _ (incident s i h l)))));
     }
     side-of right = record {
-      formed = f .sides right;
+      shaped = f .sides right;
       single = λ s i h l. leb-true _ _ (and-right _ _ (and-left _ _ (and-left _ _ (and-left _ _ (incident s i h l)))));
     }
 
     pub accepted : Accepted S
     accepted = record {
-      formed = f;
+      shaped = f;
       hookKind = hook-kind;
       hookWord = hook-word;
       reach = λ s h l. found-reached S f s h (reached s h l);
@@ -155,10 +155,10 @@ module _ (S : Scheme) (f : Formed S) where
 
 module _ (S : Scheme) (a : Accepted S) where
   hook-none : hookFault S ≡ none
-  unfolding hookFault hookRight when _orElse_
+  unfolding hookFault hookRight someIf _orElse_
   hook-none =
       let right-hook : hookRight S ≡ true = and-of (a .hookKind) (all-of (S .places) _ (λ p h. eq-eqb _ _ (a .hookWord p h))) in
-      rw right-hook (least-none-of (S .nodes) _ (λ s h. not-both (has S left s) (there (pathTo S s)) (λ l. reached-found S (a .formed) (a .reach s h l))))
+      rw right-hook (least-none-of (S .nodes) _ (λ s h. not-both (has S left s) (there (pathTo S s)) (λ l. reached-found S (a .shaped) (a .reach s h l))))
 
   incidence-none : incidenceFault S ≡ none
   unfolding incidenceFault incidenceOk
@@ -181,13 +181,13 @@ module _ (S : Scheme) (a : Accepted S) where
     cycle-true = and-of (if-of _ (λ e. cycle-of S right s i j (a .addedCycle s i j h ij jn e))) (if-of _ kept-true)
 
   cycle-none : cycleFault S ≡ none
-  unfolding cycleFault when
+  unfolding cycleFault someIf
   cycle-none = first-none-of (S .nodes) _ (λ s h. first-none-of (suc (S .n)) _ (λ i k. first-none-of (suc (S .n)) _ (λ j l.
-      ap (λ (c : Bool). when c (BadCycle s i j)) (not-both (leb (i + 2) j) (cycleOk S s i j) (λ e. cycle-true s i j h (leb-true _ _ e) (omega arith))))))
+      ap (λ (c : Bool). someIf c (BadCycle s i j)) (not-both (leb (i + 2) j) (cycleOk S s i j) (λ e. cycle-true s i j h (leb-true _ _ e) (omega arith))))))
 
   pub no-fault : schemeFault S ≡ none
   unfolding schemeFault _orElse_
   no-fault = rw (hook-none, incidence-none) cycle-none
 
-pub accepted-iff : (S : Scheme) → Formed S → (schemeFault S ≡ none) ↔ Accepted S
+pub accepted-iff : (S : Scheme) → Shaped S → (schemeFault S ≡ none) ↔ Accepted S
 accepted-iff S f = (accepted S f, no-fault S)

@@ -9,23 +9,23 @@ use lib.ListN.{length, drop, replicate}
 use lib.Dec.{eqb, ltb}
 use borrow.Author.Tests.{eqb-true, ltb-true}
 use Rattle.base.specs.Test.{_and_}
-use Rattle.base.specs.First.{when, there, _orElse_}
+use Rattle.base.specs.First.{someIf, there, _orElse_}
 use Rattle.base.proofs.TestLaws.{and-left, and-right, and-same}
 use Rattle.base.proofs.FirstLaws.{or-else-none, or-else-same, getD-same}
-use Rattle.model.specs.Map.{Map, view, words, live}
+use Rattle.model.specs.Map.{Map, view, tableOf, live}
 use Rattle.model.specs.WellFormed.{WellFormed, wellFormed}
 use Rattle.model.specs.Scheme.{schemeOf, orbitDim}
 use Rattle.model.specs.Accepted.{Accepted}
 use Rattle.model.specs.Edit.{orbitSize, addedDarts, deletedDarts, edited}
 use Rattle.model.specs.File.{file, fileMap}
-use Rattle.model.specs.Calls.{sizesOk, tableFault, checkTable, bytesFault, roomFault, orbitOf, editFault, editAnswer, editTable, editStore, readFault, readAnswer, readTable, writeFault, writeAnswer, writeOut}
+use Rattle.model.specs.Calls.{sizesOk, tableFault, checkTable, bytesFault, fitFault, orbitOf, editFault, editAnswer, editTable, editStore, readFault, readAnswer, readTable, writeFault, writeAnswer, writeOut}
 use Rattle.model.specs.Alike.{Alike}
 use Rattle.model.specs.Sequence.{AlikeTables, writtenFile}
 use Rattle.model.specs.declared.Scheme.{Scheme}
 use Rattle.model.specs.declared.Answer.{Answer}
 use Rattle.model.specs.declared.Answer.the-variants.{Done, Edited, Written, BadCall, BadTable, NoDart, NoMatch, NoRoom, ShortOutput}
 use Rattle.model.proofs.WellFormedLaws.{wellFormed-iff}
-use Rattle.model.proofs.SchemeLaws.{formed}
+use Rattle.model.proofs.SchemeLaws.{shaped}
 use Rattle.model.proofs.AcceptedLaws.{accepted, small}
 use Rattle.model.proofs.MatchLaws.{GoodOrbit, match-assigns}
 use Rattle.model.proofs.MatchIff.{good-orbit}
@@ -40,11 +40,11 @@ use Rattle.model.proofs.FileLaws.{same-file}
 
 module _ (m m′ : Map) (a : Alike m m′) (S : Scheme) (g : Accepted S) (w : WellFormed (S .n) m) (w′ : WellFormed (S .n) m′)
     (O : ℕ → Bool) (o : GoodOrbit m S O) where
-  same-room-fault : roomFault m S O ≡ roomFault m′ S O
-  unfolding roomFault
+  same-room-fault : fitFault m S O ≡ fitFault m′ S O
+  unfolding fitFault
   same-room-fault = or-else-same _ _
-      (ap (λ (b : Bool). when (not b) NoMatch) (same-matches S g O m m′ a w w′ o))
-      (λ q. ap₂ (λ (c k : ℕ). when (ltb c k) NoRoom) (same-room m m′ a (S .n) w w′) (same-added m m′ a S O))
+      (ap (λ (b : Bool). someIf (not b) NoMatch) (same-matches S g O m m′ a w w′ o))
+      (λ q. ap₂ (λ (c k : ℕ). someIf (ltb c k) NoRoom) (same-room m m′ a (S .n) w w′) (same-added m m′ a S O))
 
 -- what has been tested of an edit before the match
 record Tested (n N : ℕ) (t b : List ℕ) (d : ℕ) : Type 0 where
@@ -54,7 +54,7 @@ record Tested (n N : ℕ) (t b : List ℕ) (d : ℕ) : Type 0 where
   alive : view N t .state d ≡ 1
 
 granted-tested : (n N : ℕ) (t store b : List ℕ) (d : ℕ) → Granted n N t store b d → Tested n N t b d
-unfolding bytesFault when _orElse_
+unfolding bytesFault someIf _orElse_
 granted-tested n N t store b d g = record {
   clean = rw (g .form) (g .accepted);
   dimension = g .dimension;
@@ -93,15 +93,15 @@ module _ (n N : ℕ) (t t′ : List ℕ) (a : AlikeTables n N t t′) where
     S = schemeOf b
 
     abbrev O : ℕ → Bool
-    O = orbitOf n N t store b d
+    O = orbitOf N t b d
 
     abbrev O′ : ℕ → Bool
-    O′ = orbitOf n N t′ store′ b d
+    O′ = orbitOf N t′ b d
 
     module _ (p : Tested n N t b d) where
       good : Accepted S
       unfolding bytesFault
-      good = let r = or-else-none _ _ (p .clean) in accepted S (formed b (passed _ _ (r .0))) (r .1)
+      good = let r = or-else-none _ _ (p .clean) in accepted S (shaped b (passed _ _ (r .0))) (r .1)
 
       well : WellFormed (S .n) m
       well = subst (λ (k : ℕ). WellFormed k m) (sym (p .dimension)) (a .one .well)
@@ -115,11 +115,11 @@ module _ (n N : ℕ) (t t′ : List ℕ) (a : AlikeTables n N t t′) where
 
       same-O : O ≡ O′
       unfolding orbitOf
-      same-O = same-orbit (S .n) (small S (good .formed)) (S .places) (orbitDim S) (good .formed .orbitDims) d
+      same-O = same-orbit (S .n) (small S (good .shaped)) (S .places) (orbitDim S) (good .shaped .orbitDims) d
           m m′ (a .alike) well well′ (p .slot) (p .alive)
 
-      room-fault : roomFault m S O ≡ roomFault m′ S O′
-      room-fault = same-room-fault m m′ (a .alike) S good well well′ O orbit-good ∙ ap (roomFault m′ S) same-O
+      room-fault : fitFault m S O ≡ fitFault m′ S O′
+      room-fault = same-room-fault m m′ (a .alike) S good well well′ O orbit-good ∙ ap (fitFault m′ S) same-O
 
       counts : Edited (orbitSize m S O) (addedDarts m S O) (deletedDarts m S O)
           ≡ Edited (orbitSize m′ S O′) (addedDarts m′ S O′) (deletedDarts m′ S O′)
@@ -139,11 +139,11 @@ module _ (n N : ℕ) (t t′ : List ℕ) (a : AlikeTables n N t t′) where
     same-fault : editFault n N t store b d ≡ editFault n N t′ store′ b d
     unfolding editFault
     same-fault =
-        or-else-same _ _ (ap₂ (λ (s : Bool) (k : ℕ). when (not (s and eqb k (16 * N))) BadCall) same-sizes e) (λ r1.
+        or-else-same _ _ (ap₂ (λ (s : Bool) (k : ℕ). someIf (not (s and eqb k (16 * N))) BadCall) same-sizes e) (λ r1.
         or-else-same _ _ refl (λ r2.
         or-else-same _ _ refl (λ r6.
-        or-else-same _ _ (ap (λ (w : Bool). when (not w) BadTable) same-well) (λ r7.
-        or-else-same _ _ (ap (λ (w : Bool). when (not w) NoDart) same-dart-test) (λ r8.
+        or-else-same _ _ (ap (λ (w : Bool). someIf (not w) BadTable) same-well) (λ r7.
+        or-else-same _ _ (ap (λ (w : Bool). someIf (not w) NoDart) same-dart-test) (λ r8.
         let dart = passed _ _ r8 in
         room-fault (record {
           clean = r2;
@@ -190,7 +190,7 @@ module _ (n N : ℕ) (t t′ : List ℕ) (a : AlikeTables n N t t′) where
 
   same-read-fault : (b : List ℕ) → readFault n N t b ≡ readFault n N t′ b
   unfolding readFault
-  same-read-fault b = or-else-same _ _ (ap (λ (s : Bool). when (not s) BadCall) same-sizes) (λ r. refl)
+  same-read-fault b = or-else-same _ _ (ap (λ (s : Bool). someIf (not s) BadCall) same-sizes) (λ r. refl)
 
   pub same-read : (b : List ℕ) → readAnswer n N t b ≡ readAnswer n N t′ b
   unfolding readAnswer
@@ -200,7 +200,7 @@ module _ (n N : ℕ) (t t′ : List ℕ) (a : AlikeTables n N t t′) where
   pub same-read-table : (b : List ℕ) → readTable n N t b ≡ readTable n N t′ b
   unfolding readTable
   same-read-table b = rw (a .one .sizes, a .other .sizes)
-      (ap₂ (λ (o : Option Answer) (k : ℕ). cond (there o) (replicate k 0) (words (fileMap n N b))) (same-read-fault b) same-length)
+      (ap₂ (λ (o : Option Answer) (k : ℕ). cond (there o) (replicate k 0) (tableOf (fileMap n N b))) (same-read-fault b) same-length)
 
   pub read-alike : (b : List ℕ) → AlikeTables n N (readTable n N t b) (readTable n N t′ b)
   read-alike b = record {
@@ -218,7 +218,7 @@ module _ (n N : ℕ) (t t′ : List ℕ) (a : AlikeTables n N t t′) where
     same-write-fault : writeFault n N t out ≡ writeFault n N t′ out′
     unfolding writeFault
     same-write-fault = or-else-same _ _ same-table-fault
-        (λ q. ap₂ (λ (k : ℕ) (l : List ℕ). when (ltb k (length l)) ShortOutput) e same-bytes)
+        (λ q. ap₂ (λ (k : ℕ) (l : List ℕ). someIf (ltb k (length l)) ShortOutput) e same-bytes)
 
     pub same-write : writeAnswer n N t out ≡ writeAnswer n N t′ out′
     unfolding writeAnswer

@@ -7,8 +7,8 @@ use mathlib.Core.Bool.{Bool, true, false, cond, true≢false}
 use mathlib.Core.Option.{Option, none, some}
 use lib.Dec.{eqb}
 use Rattle.base.specs.Test.{_and_}
-use Rattle.base.specs.Below.{count}
-use Rattle.base.specs.First.{first, when}
+use Rattle.base.specs.Below.{countBelow}
+use Rattle.base.specs.First.{first, someIf}
 use Rattle.base.proofs.TestLaws.{and-same, cond-same}
 use Rattle.base.proofs.FirstLaws.{first-same}
 use Rattle.model.specs.Map.{Map, unused}
@@ -16,7 +16,7 @@ use Rattle.model.specs.WellFormed.{WellFormed}
 use Rattle.model.specs.Scheme.{left, right, orbitDim, has, deleted, added}
 use Rattle.model.specs.Conditions.{Arc, absent, explicit, implicit, arcAt}
 use Rattle.model.specs.Match.{image, Assignment}
-use Rattle.model.specs.Edit.{Pair, orbitSize, addedDarts, deletedDarts, rank, freeSlot, dartOf, pairOf, newLink, newWord, edited}
+use Rattle.model.specs.Edit.{Pair, orbitSize, addedDarts, deletedDarts, rank, dartOf, pairOf, newLink, newWord, edited}
 use Rattle.model.specs.Accepted.{Accepted}
 use Rattle.model.specs.Alike.{Alike}
 use Rattle.model.specs.declared.Scheme.{Scheme}
@@ -32,15 +32,15 @@ use Rattle.model.proofs.AlikeMatch.{orbit-link-same, same-image}
 module _ (m m′ : Map) (a : Alike m m′) (S : Scheme) (O : ℕ → Bool) where
   pub same-size : orbitSize m S O ≡ orbitSize m′ S O
   unfolding orbitSize
-  same-size = ap (λ (k : ℕ). count k O) (a .slots)
+  same-size = ap (λ (k : ℕ). countBelow k O) (a .slots)
 
   pub same-added : addedDarts m S O ≡ addedDarts m′ S O
   unfolding addedDarts
-  same-added = ap (λ (k : ℕ). k * count (S .nodes) (added S)) same-size
+  same-added = ap (λ (k : ℕ). k * countBelow (S .nodes) (added S)) same-size
 
   pub same-deleted : deletedDarts m S O ≡ deletedDarts m′ S O
   unfolding deletedDarts
-  same-deleted = ap (λ (k : ℕ). k * count (S .nodes) (deleted S)) same-size
+  same-deleted = ap (λ (k : ℕ). k * countBelow (S .nodes) (deleted S)) same-size
 
 -- ---- a word of the new map, by the pair of its slot
 
@@ -53,31 +53,27 @@ new-word-same m m′ S O none old old′ f f′ stood new = stood refl
 new-word-same m m′ S O (some p) old old′ f f′ stood new = cond-same (deleted S (p .node)) _ _ _ _ (λ d. refl) (new p refl)
 
 module _ (m m′ : Map) (S : Scheme) (O : ℕ → Bool) (a : Alike m m′) (w : WellFormed (S .n) m) (w′ : WellFormed (S .n) m′) (g : Accepted S)
-    (o : GoodOrbit m S O) (A : Assignment m S O (image m S)) (room : addedDarts m S O ≤ count (m .slots) (unused m)) where
+    (o : GoodOrbit m S O) (A : Assignment m S O (image m S)) (room : addedDarts m S O ≤ countBelow (m .slots) (unused m)) where
   -- ---- the dart of a pair, the pair of a slot
 
   abbrev kinds : (s : ℕ) → s < S .nodes → (has S left s ≡ true) ⊎ (added S s ≡ true)
-  kinds = left-or-added S (g .formed)
+  kinds = left-or-added S (g .shaped)
 
   left-of : (s : ℕ) → s < S .nodes → added S s ≡ false → has S left s ≡ true
   left-of s h n = ⊎-elim (λ l. l) (λ e. absurd (true≢false (sym e ∙ n))) (kinds s h)
 
-  same-rank : (u s : ℕ) → rank m S O u s ≡ rank m′ S O u s
-  unfolding rank
-  same-rank u s = refl
-
   pub same-dart : (u s : ℕ) → O u ≡ true → s < S .nodes → dartOf m S O u s ≡ dartOf m′ S O u s
   unfolding dartOf
   same-dart u s e h = cond-same (added S s) _ _ _ _
-      (λ n. same-free m m′ a (S .n) w w′ S O (rank m S O u s) ∙ ap (freeSlot m′ S O) (same-rank u s))
+      (λ n. same-free m m′ a (S .n) w w′ (rank S O u s))
       (λ n. same-image S g O m m′ a o A u e s h (left-of s h n))
 
   pub same-pair : (x : ℕ) → pairOf m S O x ≡ pairOf m′ S O x
   unfolding pairOf
   same-pair x =
       first-same (m .slots) _ _ (λ u b. first-same (S .nodes) _ _ (λ s h.
-      ap (λ (t : Bool). when t (record { dart = u; node = s })) (and-same (O u) (λ e. ap (λ (y : ℕ). eqb y x) (same-dart u s e h)))))
-      ∙ ap (λ (k : ℕ). first k (λ u. first (S .nodes) (λ s. when (O u and eqb (dartOf m′ S O u s) x) (record { dart = u; node = s })))) (a .slots)
+      ap (λ (t : Bool). someIf t (record { dart = u; node = s })) (and-same (O u) (λ e. ap (λ (y : ℕ). eqb y x) (same-dart u s e h)))))
+      ∙ ap (λ (k : ℕ). first k (λ u. first (S .nodes) (λ s. someIf (O u and eqb (dartOf m′ S O u s) x) (record { dart = u; node = s })))) (a .slots)
 
   -- ---- the new map
 

@@ -9,17 +9,16 @@ use mathlib.Core.Option.{Option, Option·getD}
 use native.Mathlib.Omega.{arith}
 use lib.Dec.{eqb}
 use borrow.Author.Tests.{eqb-true, eq-eqb}
-use Rattle.base.specs.Below.{count}
-use Rattle.base.specs.First.{nth}
+use Rattle.base.specs.Below.{countBelow}
+use Rattle.base.specs.First.{nthLowest}
 use Rattle.base.proofs.TestLaws.{same-test}
 use Rattle.base.proofs.BelowLaws.{count-same}
 use Rattle.base.proofs.FirstLaws.{nth-same}
-use Rattle.model.specs.Map.{Map, view, words, live, unused}
+use Rattle.model.specs.Map.{Map, view, tableOf, live, unused}
 use Rattle.model.specs.WellFormed.{WellFormed, wellFormed}
 use Rattle.model.specs.Orbit.{orbit, InOrbit, itself, onward}
 use Rattle.model.specs.Edit.{freeSlot}
 use Rattle.model.specs.Alike.{Alike}
-use Rattle.model.specs.declared.Scheme.{Scheme}
 use Rattle.model.proofs.WellFormedLaws.{wellFormed-iff}
 use Rattle.model.proofs.MapLaws.{state-words, link-words, tag-words}
 use Rattle.model.proofs.OrbitLaws.{orbit-reached, reached-dart, orbit-iff}
@@ -51,7 +50,7 @@ alike-trans {m} {m′} {m″} a b = record {
 }
 
 -- the table of a map holds a map like it
-pub words-alike : (m : Map) → Alike (view (m .slots) (words m)) m
+pub words-alike : (m : Map) → Alike (view (m .slots) (tableOf m)) m
 words-alike m = record {
   slots = refl;
   live = λ x h. ((λ e. sym (state-words m x h) ∙ e), (λ e. state-words m x h ∙ e));
@@ -96,17 +95,17 @@ module _ (n : ℕ) (small : n ≤ 3) (m m′ : Map) (a : Alike m m′) (w : Well
   }
 
 -- the table of a well-formed map is well-formed
-pub words-well : (n : ℕ) (m : Map) → n ≤ 3 → WellFormed n m → WellFormed n (view (m .slots) (words m))
+pub words-well : (n : ℕ) (m : Map) → n ≤ 3 → WellFormed n m → WellFormed n (view (m .slots) (tableOf m))
 words-well n m small w = well-alike n small m _ (alike-sym (words-alike m)) w
     (λ x h. ⊎-elim (λ e. inl (state-words m x h ∙ e)) (λ e. inr (state-words m x h ∙ e)) (w .states x h))
 
 -- and only of one
-well-words : (n : ℕ) (m : Map) → n ≤ 3 → WellFormed n (view (m .slots) (words m)) → WellFormed n m
+well-words : (n : ℕ) (m : Map) → n ≤ 3 → WellFormed n (view (m .slots) (tableOf m)) → WellFormed n m
 well-words n m small w = well-alike n small _ m (words-alike m) w
     (λ x h. ⊎-elim (λ e. inl (sym (state-words m x h) ∙ e)) (λ e. inr (sym (state-words m x h) ∙ e)) (w .states x h))
 
 -- a map is well-formed just if its table is
-pub words-formed : (n : ℕ) (m : Map) → n ≤ 3 → wellFormed n (view (m .slots) (words m)) ≡ wellFormed n m
+pub words-formed : (n : ℕ) (m : Map) → n ≤ 3 → wellFormed n (view (m .slots) (tableOf m)) ≡ wellFormed n m
 words-formed n m small = same-test _ _
     (λ e. wellFormed-iff n m .1 (well-words n m small (wellFormed-iff n _ .0 e)))
     (λ e. wellFormed-iff n _ .1 (words-well n m small (wellFormed-iff n m .0 e)))
@@ -129,14 +128,14 @@ module _ (m m′ : Map) (a : Alike m m′) where
     pub same-unused : (x : ℕ) → x < m .slots → unused m x ≡ unused m′ x
     same-unused x h = ap (λ (z : ℕ). eqb z 0) (same-state x h)
 
-    pub same-room : count (m .slots) (unused m) ≡ count (m′ .slots) (unused m′)
-    same-room = count-same (m .slots) (unused m) (unused m′) same-unused ∙ ap (λ (k : ℕ). count k (unused m′)) (a .slots)
+    pub same-room : countBelow (m .slots) (unused m) ≡ countBelow (m′ .slots) (unused m′)
+    same-room = count-same (m .slots) (unused m) (unused m′) same-unused ∙ ap (λ (k : ℕ). countBelow k (unused m′)) (a .slots)
 
-    pub same-free : (S : Scheme) (O : ℕ → Bool) (k : ℕ) → freeSlot m S O k ≡ freeSlot m′ S O k
+    pub same-free : (k : ℕ) → freeSlot m k ≡ freeSlot m′ k
     unfolding freeSlot
-    same-free S O k =
+    same-free k =
         ap (λ (o : Option ℕ). Option·getD o 0)
-        (nth-same (m .slots) (unused m) (unused m′) k same-unused ∙ ap (λ (z : ℕ). nth z (unused m′) k) (a .slots))
+        (nth-same (m .slots) (unused m) (unused m′) k same-unused ∙ ap (λ (z : ℕ). nthLowest z (unused m′) k) (a .slots))
 
 -- ---- orbits
 

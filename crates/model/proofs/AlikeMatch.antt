@@ -21,11 +21,11 @@ module _ (S : Scheme) (g : Accepted S) (O : ℕ → Bool) where
   module _ (m m′ : Map) (a : Alike m m′) (o : GoodOrbit m S O) where
     -- a live dart has the same links in both
     link-same : (x i : ℕ) → x < m .slots → m .state x ≡ 1 → i ≤ S .n → m .link i x ≡ m′ .link i x
-    link-same x i h l k = let n3 = small S (g .formed) in a .link x h l i (omega arith)
+    link-same x i h l k = let n3 = small S (g .shaped) in a .link x h l i (omega arith)
 
     -- the links of the orbit type at an orbit dart
     pub orbit-link-same : (u p : ℕ) → O u ≡ true → p < S .places → m .link (orbitDim S p) u ≡ m′ .link (orbitDim S p) u
-    orbit-link-same u p e k = link-same u (orbitDim S p) (o .slot u e) (o .alive u e) (g .formed .orbitDims p k)
+    orbit-link-same u p e k = link-same u (orbitDim S p) (o .slot u e) (o .alive u e) (g .shaped .orbitDims p k)
 
     pub good-too : GoodOrbit m′ S O
     good-too = record {
@@ -44,11 +44,11 @@ module _ (S : Scheme) (g : Accepted S) (O : ℕ → Bool) where
       hook = λ u b e. A .hook u (o .slot u e) e;
       explicitArc = λ u b e c k.
           let both = A .explicitArc u (o .slot u e) e c k in
-          let from = g .sides left .formed .from c k in
-          let to = g .sides left .formed .to c k in
+          let from = g .sides left .shaped .from c k in
+          let to = g .sides left .shaped .to c k in
           let x = A .darts u (o .slot u e) e _ (from .0) (from .1) in
           let y = A .darts u (o .slot u e) e _ (to .0) (to .1) in
-          let dim = g .sides left .formed .dims c k in (
+          let dim = g .sides left .shaped .dims c k in (
             sym (link-same _ _ (x .0) (x .1) dim) ∙ both .0,
             sym (link-same _ _ (y .0) (y .1) dim) ∙ both .1,
           );
@@ -56,7 +56,7 @@ module _ (S : Scheme) (g : Accepted S) (O : ℕ → Bool) where
           let x = A .darts u (o .slot u e) e s h l in
           ⊎-elim (λ z. absurd (no z))
           (λ dim. sym (link-same _ _ (x .0) (x .1) dim) ∙ A .implicitArc u (o .slot u e) e s h l p k no ∙ ap (λ (v : ℕ). f v s) (orbit-link-same u p e k))
-          (g .sides left .formed .words s p h k);
+          (g .sides left .shaped .words s p h k);
       different = λ u b e s h l v c d t i r q. A .different u (o .slot u e) e s h l v (o .slot v d) d t i r q;
     }
 

@@ -8,8 +8,8 @@ use mathlib.Core.Option.{Option, none, some}
 use native.Mathlib.Omega.{arith}
 use lib.Dec.{eqb}
 use borrow.Author.Tests.{eqb-true, eq-eqb}
-use Rattle.base.specs.Below.{count}
-use Rattle.base.specs.First.{first, least, when, there}
+use Rattle.base.specs.Below.{countBelow}
+use Rattle.base.specs.First.{first, least, someIf, there}
 use Rattle.model.specs.Scheme.{Side, farEnd, word, arcs, arcPart, has}
 use Rattle.model.specs.Conditions.{Arc, absent, explicit, implicit, arcOf, arcAt, arcsOfDim, touches, far, reads}
 use Rattle.model.specs.Accepted.{SingleSide}
@@ -22,9 +22,9 @@ module _ (S : Scheme) (side : Side) where
   -- the arc found at s, seen from the arcs
   pub explicit-from : (s i t : ℕ) → arcAt S side s i ≡ explicit t → (a : ℕ) × (a < arcs S side) × (touches S side s i a ≡ true) × (far S side s a ≡ t)
   unfolding arcAt farEnd
-  explicit-from s i t e = go (first (arcs S side) (λ a. when (touches S side s i a) (far S side s a))) refl (least (S .places) (reads S side s i)) e
+  explicit-from s i t e = go (first (arcs S side) (λ a. someIf (touches S side s i a) (far S side s a))) refl (least (S .places) (reads S side s i)) e
     where
-      go : (o : Option ℕ) → first (arcs S side) (λ a. when (touches S side s i a) (far S side s a)) ≡ o → (r : Option ℕ) → arcOf o r ≡ explicit t
+      go : (o : Option ℕ) → first (arcs S side) (λ a. someIf (touches S side s i a) (far S side s a)) ≡ o → (r : Option ℕ) → arcOf o r ≡ explicit t
           → (a : ℕ) × (a < arcs S side) × (touches S side s i a ≡ true) × (far S side s a ≡ t)
       go (some v) q r e =
           let f = first-at (arcs S side) _ v q in
@@ -35,7 +35,7 @@ module _ (S : Scheme) (side : Side) where
 
   pub implicit-from : (s i p : ℕ) → arcAt S side s i ≡ implicit p → (p < S .places) × (word S side s p ≡ i)
   unfolding arcAt farEnd
-  implicit-from s i p e = go (first (arcs S side) (λ a. when (touches S side s i a) (far S side s a))) (least (S .places) (reads S side s i)) refl e
+  implicit-from s i p e = go (first (arcs S side) (λ a. someIf (touches S side s i a) (far S side s a))) (least (S .places) (reads S side s i)) refl e
     where
       go : (o r : Option ℕ) → least (S .places) (reads S side s i) ≡ r → arcOf o r ≡ implicit p → (p < S .places) × (word S side s p ≡ i)
       go (some v) r q e = absurd (let z : _≡_ {A = ℕ} 0 1 = cc in omega arith)
@@ -60,17 +60,17 @@ module _ (S : Scheme) (side : Side) where
 
   -- no arc is found just where none is counted
   pub absent-of : (s i : ℕ) → arcsOfDim S side s i ≡ 0 → arcAt S side s i ≡ absent
-  unfolding arcAt farEnd arcsOfDim when
+  unfolding arcAt farEnd arcsOfDim someIf
   absent-of s i e = ap₂ arcOf
-      (first-none-of (arcs S side) _ (λ a k. ap (λ (c : Bool). when c (far S side s a)) (count-none (arcs S side) (touches S side s i) (omega arith) a k)))
+      (first-none-of (arcs S side) _ (λ a k. ap (λ (c : Bool). someIf c (far S side s a)) (count-none (arcs S side) (touches S side s i) (omega arith) a k)))
       (least-none-of (S .places) (reads S side s i) (λ p k. count-none (S .places) (reads S side s i) (omega arith) p k))
 
   pub absent-from : (s i : ℕ) → arcAt S side s i ≡ absent → arcsOfDim S side s i ≡ 0
   unfolding arcAt farEnd arcsOfDim
-  absent-from s i e = go (first (arcs S side) (λ a. when (touches S side s i a) (far S side s a))) refl (least (S .places) (reads S side s i)) refl e
+  absent-from s i e = go (first (arcs S side) (λ a. someIf (touches S side s i a) (far S side s a))) refl (least (S .places) (reads S side s i)) refl e
     where
-      go : (o : Option ℕ) → first (arcs S side) (λ a. when (touches S side s i a) (far S side s a)) ≡ o → (r : Option ℕ) → least (S .places) (reads S side s i) ≡ r
-          → arcOf o r ≡ absent → count (arcs S side) (touches S side s i) + count (S .places) (reads S side s i) ≡ 0
+      go : (o : Option ℕ) → first (arcs S side) (λ a. someIf (touches S side s i a) (far S side s a)) ≡ o → (r : Option ℕ) → least (S .places) (reads S side s i) ≡ r
+          → arcOf o r ≡ absent → countBelow (arcs S side) (touches S side s i) + countBelow (S .places) (reads S side s i) ≡ 0
       go (some v) q r w e = absurd (let z : _≡_ {A = ℕ} 0 1 = cc in omega arith)
       go none q (some p) w e = absurd (let z : _≡_ {A = ℕ} 0 1 = cc in omega arith)
       go none q none w e =
@@ -81,20 +81,20 @@ module _ (S : Scheme) (side : Side) where
   module _ (g : SingleSide S side) where
     pub explicit-at : (s i a : ℕ) → s < S .nodes → a < arcs S side → i ≤ S .n → touches S side s i a ≡ true
         → arcAt S side s i ≡ explicit (far S side s a)
-    unfolding arcAt farEnd arcsOfDim when
+    unfolding arcAt farEnd arcsOfDim someIf
     explicit-at s i a h b l t =
         ap (λ (o : Option ℕ). arcOf o (least (S .places) (reads S side s i)))
-        (first-only (arcs S side) _ a (far S side s a) b (ap (λ (c : Bool). when c (far S side s a)) t)
+        (first-only (arcs S side) _ a (far S side s a) b (ap (λ (c : Bool). someIf c (far S side s a)) t)
         (λ j c k e. let w = when-at _ e in sym (w .1) ∙ ap (far S side s) (count-once (arcs S side) (touches S side s i) (omega (arith, g .single s i h l)) j a k b (w .0) t)))
 
     pub implicit-at : (s i p : ℕ) → s < S .nodes → p < S .places → i ≤ S .n → word S side s p ≡ i → arcAt S side s i ≡ implicit p
-    unfolding arcAt farEnd arcsOfDim when
+    unfolding arcAt farEnd arcsOfDim someIf
     implicit-at s i p h b l e =
         let r : reads S side s i p ≡ true = eq-eqb _ _ e in
         let one = g .single s i h l in
         let some-implicit = count-some (S .places) (reads S side s i) p b r in
         ap₂ arcOf
-        (first-none-of (arcs S side) _ (λ a k. ap (λ (c : Bool). when c (far S side s a)) (count-none (arcs S side) (touches S side s i) (omega arith) a k)))
+        (first-none-of (arcs S side) _ (λ a k. ap (λ (c : Bool). someIf c (far S side s a)) (count-none (arcs S side) (touches S side s i) (omega arith) a k)))
         (least-only (S .places) (reads S side s i) p b r (λ j k q. count-once (S .places) (reads S side s i) (omega arith) j p k b q r))
 
     -- an explicit arc leads to a node of the side, and is found from there
@@ -103,19 +103,19 @@ module _ (S : Scheme) (side : Side) where
         let f = explicit-from s i t e in
         let a = f .0 in
         let dim : arcPart S side a 0 ≡ i = eqb-true _ _ (and-left _ _ (f .2)) in
-        let d : i ≤ S .n = subst (λ (k : ℕ). k ≤ S .n) dim (g .formed .dims a (f .1)) in
+        let d : i ≤ S .n = subst (λ (k : ℕ). k ≤ S .n) dim (g .shaped .dims a (f .1)) in
         ⊎-elim
         (λ q.
         let from : arcPart S side a 1 ≡ s = eqb-true _ _ q in
         let to : arcPart S side a 2 ≡ t = sym (far-from a) ∙ ap (λ (z : ℕ). far S side z a) from ∙ f .3 in
-        let n = g .formed .to a (f .1) in
-        let back = explicit-at (arcPart S side a 2) (arcPart S side a 0) a (n .0) (f .1) (g .formed .dims a (f .1)) (touches-to a) ∙ ap explicit (far-to a ∙ from) in
+        let n = g .shaped .to a (f .1) in
+        let back = explicit-at (arcPart S side a 2) (arcPart S side a 0) a (n .0) (f .1) (g .shaped .dims a (f .1)) (touches-to a) ∙ ap explicit (far-to a ∙ from) in
         (subst (λ (z : ℕ). z < S .nodes) to (n .0), ap (has S side) (sym to) ∙ n .1, d, ap₂ (arcAt S side) (sym to) (sym dim) ∙ back))
         (λ q.
         let to : arcPart S side a 2 ≡ s = eqb-true _ _ q in
         let from : arcPart S side a 1 ≡ t = sym (far-to a) ∙ ap (λ (z : ℕ). far S side z a) to ∙ f .3 in
-        let n = g .formed .from a (f .1) in
-        let back = explicit-at (arcPart S side a 1) (arcPart S side a 0) a (n .0) (f .1) (g .formed .dims a (f .1)) (touches-from a) ∙ ap explicit (far-from a ∙ to) in
+        let n = g .shaped .from a (f .1) in
+        let back = explicit-at (arcPart S side a 1) (arcPart S side a 0) a (n .0) (f .1) (g .shaped .dims a (f .1)) (touches-from a) ∙ ap explicit (far-from a ∙ to) in
         (subst (λ (z : ℕ). z < S .nodes) from (n .0), ap (has S side) (sym from) ∙ n .1, d, ap₂ (arcAt S side) (sym from) (sym dim) ∙ back))
         (or-cases _ _ (and-right _ _ (f .2)))
 
@@ -129,4 +129,4 @@ module _ (S : Scheme) (side : Side) where
         go (implicit p) a =
             let x = implicit-from s i p a in
             let word-i = x .1 in
-            ⊎-elim (λ z. absurd (omega arith)) (λ z. absurd (omega arith)) (g .formed .words s p h (x .0))
+            ⊎-elim (λ z. absurd (omega arith)) (λ z. absurd (omega arith)) (g .shaped .words s p h (x .0))

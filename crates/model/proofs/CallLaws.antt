@@ -6,27 +6,27 @@ use mathlib.Core.Bool.{Bool, true, not, cond}
 use mathlib.Core.Option.{none, some}
 use mathlib.Core.List.{List}
 use borrow.Author.Tests.{eqb-true, ltb-true, ltb-false, not-false}
-use Rattle.base.specs.Below.{count}
-use Rattle.base.specs.First.{when}
-use Rattle.model.specs.Map.{view, words, unused}
+use Rattle.base.specs.Below.{countBelow}
+use Rattle.base.specs.First.{someIf}
+use Rattle.model.specs.Map.{view, tableOf, unused}
 use Rattle.model.specs.WellFormed.{WellFormed, wellFormed}
 use Rattle.model.specs.Scheme.{inForm, schemeOf}
 use Rattle.model.specs.Conditions.{schemeFault}
 use Rattle.model.specs.Match.{matches}
 use Rattle.model.specs.Edit.{addedDarts, edited}
-use Rattle.model.specs.Calls.{bytesFault, roomFault, sizesOk, orbitOf, editFault, editTable}
+use Rattle.model.specs.Calls.{bytesFault, fitFault, sizesOk, orbitOf, editFault, editTable}
 use Rattle.model.specs.declared.Answer.{Answer}
 use Rattle.base.proofs.TestLaws.{and-left, and-right}
 use Rattle.base.proofs.FirstLaws.{or-else-none, when-none, there-none, there-of}
 use Rattle.model.proofs.WellFormedLaws.{wellFormed-iff}
 use Rattle.model.proofs.AlikeLaws.{words-well}
-use Rattle.model.proofs.SchemeLaws.{formed}
+use Rattle.model.proofs.SchemeLaws.{shaped}
 use Rattle.model.proofs.AcceptedLaws.{small, accepted}
 use Rattle.model.proofs.MatchLaws.{match-assigns}
 use Rattle.model.proofs.MatchIff.{good-orbit}
 use Rattle.model.proofs.KeepLaws.{edit-keeps}
 
-pub passed : (t : Bool) (a : Answer) → when (not t) a ≡ none → t ≡ true
+pub passed : (t : Bool) (a : Answer) → someIf (not t) a ≡ none → t ≡ true
 passed t a e = not-false t (when-none (not t) a e)
 
 -- what has been tested of an edit that is not refused
@@ -38,12 +38,12 @@ pub record Granted (n N : ℕ) (t store b : List ℕ) (d : ℕ) : Type 0 where
   pub well : wellFormed n (view N t) ≡ true
   pub slot : d < N
   pub alive : view N t .state d ≡ 1
-  pub match : matches (view N t) (schemeOf b) (orbitOf n N t store b d) ≡ true
-  pub room : addedDarts (view N t) (schemeOf b) (orbitOf n N t store b d) ≤ count N (unused (view N t))
+  pub match : matches (view N t) (schemeOf b) (orbitOf N t b d) ≡ true
+  pub room : addedDarts (view N t) (schemeOf b) (orbitOf N t b d) ≤ countBelow N (unused (view N t))
 
 module _ (n N : ℕ) (t store b : List ℕ) (d : ℕ) (q : editFault n N t store b d ≡ none) where
   pub granted : Granted n N t store b d
-  unfolding editFault bytesFault roomFault
+  unfolding editFault bytesFault fitFault
   granted =
       let r1 = or-else-none _ _ q in
       let r2 = or-else-none _ _ (r1 .1) in
@@ -66,31 +66,31 @@ module _ (n N : ℕ) (t store b : List ℕ) (d : ℕ) (q : editFault n N t store
       }
 
   -- the new map is well-formed
-  new-map : WellFormed (schemeOf b .n) (edited (view N t) (schemeOf b) (orbitOf n N t store b d))
+  new-map : WellFormed (schemeOf b .n) (edited (view N t) (schemeOf b) (orbitOf N t b d))
   unfolding orbitOf
   new-map =
       let g = granted in
       let m = view N t in
-      let good = accepted (schemeOf b) (formed b (g .form)) (g .accepted) in
+      let good = accepted (schemeOf b) (shaped b (g .form)) (g .accepted) in
       let rules = wellFormed-iff (schemeOf b .n) m .0 (ap (λ (k : ℕ). wellFormed k m) (g .dimension) ∙ g .well) in
       let orb = good-orbit m (schemeOf b) d good rules (g .slot) (g .alive) in
       edit-keeps m (schemeOf b) _ rules good orb (match-assigns m (schemeOf b) good _ orb rules (g .match)) (g .room)
 
-  pub edit-table : editTable n N t store b d ≡ words (edited (view N t) (schemeOf b) (orbitOf n N t store b d))
+  pub edit-table : editTable n N t store b d ≡ tableOf (edited (view N t) (schemeOf b) (orbitOf N t b d))
   unfolding editTable
-  edit-table = ap (λ (c : Bool). cond c t (words (edited (view N t) (schemeOf b) (orbitOf n N t store b d)))) (there-none q)
+  edit-table = ap (λ (c : Bool). cond c t (tableOf (edited (view N t) (schemeOf b) (orbitOf N t b d)))) (there-none q)
 
   -- the table that an edit leaves is well-formed
   pub edit-table-well : wellFormed n (view N (editTable n N t store b d)) ≡ true
   unfolding edited
   edit-table-well =
       let g = granted in
-      let m = edited (view N t) (schemeOf b) (orbitOf n N t store b d) in
+      let m = edited (view N t) (schemeOf b) (orbitOf N t b d) in
       ap (λ (l : List ℕ). wellFormed n (view N l)) edit-table
-      ∙ ap (λ (k : ℕ). wellFormed k (view N (words m))) (sym (g .dimension))
-      ∙ wellFormed-iff (schemeOf b .n) (view N (words m)) .1 (words-well (schemeOf b .n) m (small (schemeOf b) (formed b (g .form))) new-map)
+      ∙ ap (λ (k : ℕ). wellFormed k (view N (tableOf m))) (sym (g .dimension))
+      ∙ wellFormed-iff (schemeOf b .n) (view N (tableOf m)) .1 (words-well (schemeOf b .n) m (small (schemeOf b) (shaped b (g .form))) new-map)
 
 -- an edit that is refused leaves the table as it was
 pub refused-table : (n N : ℕ) (t store b : List ℕ) (d : ℕ) (a : Answer) → editFault n N t store b d ≡ some a → editTable n N t store b d ≡ t
 unfolding editTable
-refused-table n N t store b d a q = ap (λ (c : Bool). cond c t (words (edited (view N t) (schemeOf b) (orbitOf n N t store b d)))) (there-of q)
+refused-table n N t store b d a q = ap (λ (c : Bool). cond c t (tableOf (edited (view N t) (schemeOf b) (orbitOf N t b d)))) (there-of q)

@@ -7,7 +7,7 @@ use mathlib.Core.Bool.{Bool, true, false≢true}
 use native.Mathlib.Omega.{arith}
 use borrow.Author.Tests.{eqb-true, eq-eqb, leb-true, le-leb}
 use Rattle.model.specs.Scheme.{Side}
-use Rattle.model.specs.Conditions.{Arc, absent, explicit, implicit, arcAt, sameArc, atEnd, atPlaces, fourArcs, oneArc, noArc, onCycle, Cycle, four, oneI, oneJ, apart}
+use Rattle.model.specs.Conditions.{Arc, absent, explicit, implicit, arcAt, sameArc, atEnd, atPlaces, fourArcs, oneArc, bothImplicit, onCycle, Cycle, four, oneI, oneJ, apart}
 use Rattle.model.specs.Accepted.{SingleSide}
 use Rattle.model.specs.declared.Scheme.{Scheme}
 use Rattle.base.proofs.TestLaws.{or-cases, or-left, or-right}
@@ -74,8 +74,8 @@ module _ (S : Scheme) (side : Side) (s i j : ℕ) where
       let b = places-at (arcAt S side s i) (arcAt S side (a .0) i) _ (a .2) in
       oneJ (a .1) (b .2) (b .3 ∙ ap implicit (sym (eqb-true _ _ (b .4))))
 
-  from-none : noArc S side s i j ≡ true → Cycle S side s i j
-  unfolding noArc
+  from-none : bothImplicit S side s i j ≡ true → Cycle S side s i j
+  unfolding bothImplicit
   from-none e =
       let a = places-at (arcAt S side s i) (arcAt S side s j) _ e in
       apart (a .2) (a .3) (⊎-elim (λ l. inl (leb-true _ _ l)) (λ l. inr (leb-true _ _ l)) (or-cases _ _ (a .4)))
@@ -86,7 +86,7 @@ module _ (S : Scheme) (side : Side) (s i j : ℕ) where
       (⊎-elim (λ a. inl (⊎-elim (λ b. inl (or-cases _ _ b)) (λ b. inr b) (or-cases _ _ a))) (λ a. inr a) (or-cases _ _ e))
 
   pub cycle-of : Cycle S side s i j → onCycle S side s i j ≡ true
-  unfolding onCycle fourArcs oneArc noArc
+  unfolding onCycle fourArcs oneArc bothImplicit
   cycle-of (four a b c d) = or-left _ (or-left _ (or-left _ (end-of _ a (end-of _ b (end-of _ c (end-of _ d (eq-eqb s s refl)))))))
   cycle-of (oneI {t} {p} a b c) = or-left _ (or-left _ (or-right _ (end-of _ a (places-of _ b c (eq-eqb p p refl)))))
   cycle-of (oneJ {t} {p} a b c) = or-left _ (or-right _ (end-of _ a (places-of _ b c (eq-eqb p p refl))))

@@ -10,8 +10,8 @@ use native.Mathlib.Omega.{arith}
 use lib.Dec.{eqb}
 use borrow.Author.Tests.{eqb-true, eq-eqb}
 use Rattle.base.specs.Test.{_and_}
-use Rattle.base.specs.Below.{count}
-use Rattle.base.specs.First.{nth, first, when}
+use Rattle.base.specs.Below.{countBelow}
+use Rattle.base.specs.First.{nthLowest, first, someIf}
 use Rattle.model.specs.Map.{Map, unused}
 use Rattle.model.specs.Scheme.{left, right, orbitDim, has, added, deleted}
 use Rattle.model.specs.Conditions.{absent, explicit, implicit, arcAt}
@@ -27,20 +27,20 @@ pair u s = record { dart = u; node = s }
 
 module _ (m : Map) (S : Scheme) (O : ℕ → Bool) (slot : (u : ℕ) → O u ≡ true → u < m .slots)
     (kinds : (s : ℕ) → s < S .nodes → (has S left s ≡ true) ⊎ (added S s ≡ true))
-    (A : Assignment m S O (image m S)) (room : addedDarts m S O ≤ count (m .slots) (unused m)) where
-  pub rank-below : (u s : ℕ) → O u ≡ true → s < S .nodes → added S s ≡ true → rank m S O u s < count (m .slots) (unused m)
+    (A : Assignment m S O (image m S)) (room : addedDarts m S O ≤ countBelow (m .slots) (unused m)) where
+  pub rank-below : (u s : ℕ) → O u ≡ true → s < S .nodes → added S s ≡ true → rank S O u s < countBelow (m .slots) (unused m)
   rank-below u s e h a = lt-of-lt-of-le (rank-low m S O slot u s e h a) room
 
   -- the slot of an added pair is below N, was unused, and has the pair's rank
   pub free-at : (u s : ℕ) → O u ≡ true → s < S .nodes → added S s ≡ true
-      → (dartOf m S O u s < m .slots) × (m .state (dartOf m S O u s) ≡ 0) × (count (dartOf m S O u s) (unused m) ≡ rank m S O u s)
+      → (dartOf m S O u s < m .slots) × (m .state (dartOf m S O u s) ≡ 0) × (countBelow (dartOf m S O u s) (unused m) ≡ rank S O u s)
   unfolding dartOf freeSlot
   free-at u s e h a =
-      let f = nth-found (m .slots) (unused m) (rank m S O u s) (rank-below u s e h a) in
-      let n = nth-at (m .slots) (unused m) (rank m S O u s) (f .0) (f .1) in
-      let same : f .0 ≡ cond (added S s) (Option·getD (nth (m .slots) (unused m) (rank m S O u s)) 0) (image m S u s) =
-      sym (ap (λ (b : Bool). cond b (Option·getD (nth (m .slots) (unused m) (rank m S O u s)) 0) (image m S u s)) a ∙ ap (λ (o : Option ℕ). Option·getD o 0) (f .1)) in
-      subst (λ (x : ℕ). (x < m .slots) × (m .state x ≡ 0) × (count x (unused m) ≡ rank m S O u s)) same (n .0, eqb-true _ _ (n .1), n .2)
+      let f = nth-found (m .slots) (unused m) (rank S O u s) (rank-below u s e h a) in
+      let n = nth-at (m .slots) (unused m) (rank S O u s) (f .0) (f .1) in
+      let same : f .0 ≡ cond (added S s) (Option·getD (nthLowest (m .slots) (unused m) (rank S O u s)) 0) (image m S u s) =
+      sym (ap (λ (b : Bool). cond b (Option·getD (nthLowest (m .slots) (unused m) (rank S O u s)) 0) (image m S u s)) a ∙ ap (λ (o : Option ℕ). Option·getD o 0) (f .1)) in
+      subst (λ (x : ℕ). (x < m .slots) × (m .state x ≡ 0) × (countBelow x (unused m) ≡ rank S O u s)) same (n .0, eqb-true _ _ (n .1), n .2)
 
   pub left-alive : (u s : ℕ) → O u ≡ true → s < S .nodes → has S left s ≡ true → m .state (dartOf m S O u s) ≡ 1
   left-alive u s e h l = ap (m .state) (dart-left m S O u s l) ∙ A .darts u (slot u e) e s h l .1
@@ -60,7 +60,7 @@ module _ (m : Map) (S : Scheme) (O : ℕ → Bool) (slot : (u : ℕ) → O u ≡
       (kinds t l))
       (λ a. ⊎-elim
       (λ b. absurd (apart (left-alive v t f l b) (ap (m .state) (sym q) ∙ free-at u s e h a .1)))
-      (λ b. rank-once m S O u s v t e f h l a b (sym (free-at u s e h a .2) ∙ ap (λ (x : ℕ). count x (unused m)) q ∙ free-at v t f l b .2))
+      (λ b. rank-once m S O u s v t e f h l a b (sym (free-at u s e h a .2) ∙ ap (λ (x : ℕ). countBelow x (unused m)) q ∙ free-at v t f l b .2))
       (kinds t l))
       (kinds s h)
     where
@@ -83,15 +83,15 @@ module _ (m : Map) (S : Scheme) (O : ℕ → Bool) (slot : (u : ℕ) → O u ≡
       )
 
   module _ (u s : ℕ) (e : O u ≡ true) (h : s < S .nodes) where
-    sole : (v t : ℕ) (p : Pair) → t < S .nodes → when (O v and eqb (dartOf m S O v t) (dartOf m S O u s)) (pair v t) ≡ some p → p ≡ pair u s
+    sole : (v t : ℕ) (p : Pair) → t < S .nodes → someIf (O v and eqb (dartOf m S O v t) (dartOf m S O u s)) (pair v t) ≡ some p → p ≡ pair u s
     sole v t p l q =
         let w = when-at _ q in
         let d = dart-injective v t u s (and-left _ _ (w .0)) e l h (eqb-true _ _ (and-right _ _ (w .0))) in
         sym (w .1) ∙ ap₂ pair (d .0) (d .1)
 
-    inner : first (S .nodes) (λ t. when (O u and eqb (dartOf m S O u t) (dartOf m S O u s)) (pair u t)) ≡ some (pair u s)
-    unfolding when
-    inner = first-only (S .nodes) _ s (pair u s) h (ap (λ (b : Bool). when b (pair u s)) (and-of e (eq-eqb (dartOf m S O u s) _ refl))) (λ t p l q. sole u t p l q)
+    inner : first (S .nodes) (λ t. someIf (O u and eqb (dartOf m S O u t) (dartOf m S O u s)) (pair u t)) ≡ some (pair u s)
+    unfolding someIf
+    inner = first-only (S .nodes) _ s (pair u s) h (ap (λ (b : Bool). someIf b (pair u s)) (and-of e (eq-eqb (dartOf m S O u s) _ refl))) (λ t p l q. sole u t p l q)
 
     pub pair-of : pairOf m S O (dartOf m S O u s) ≡ some (pair u s)
     unfolding pairOf
@@ -99,7 +99,7 @@ module _ (m : Map) (S : Scheme) (O : ℕ → Bool) (slot : (u : ℕ) → O u ≡
         (λ v p l q. let f = first-at (S .nodes) _ p q in sole v (f .0) p (f .1) (f .2))
 
   pub pair-none : (x : ℕ) → ((u s : ℕ) → O u ≡ true → s < S .nodes → dartOf m S O u s ≡ x → ⊥) → pairOf m S O x ≡ none
-  unfolding pairOf when
+  unfolding pairOf someIf
   pair-none x f = first-none-of (m .slots) _ (λ u b. first-none-of (S .nodes) _ (λ s h. ⊎-elim
       (λ t. absurd (f u s (and-left _ _ t) h (eqb-true _ _ (and-right _ _ t))))
       (λ t. rw t refl)

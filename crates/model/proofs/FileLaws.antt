@@ -6,7 +6,7 @@ use mathlib.Core.Bool.{Bool, cond}
 use mathlib.Core.List.{List, [], _∷_, _++_}
 use native.Mathlib.Omega.{arith}
 use borrow.Author.Tests.{eqb-true}
-use Rattle.base.specs.Below.{count}
+use Rattle.base.specs.Below.{countBelow}
 use Rattle.base.specs.Lists.{joined}
 use Rattle.base.proofs.TestLaws.{cond-same}
 use Rattle.base.proofs.BelowLaws.{count-same}
@@ -17,9 +17,9 @@ use Rattle.model.specs.Alike.{Alike}
 use Rattle.model.proofs.AlikeLaws.{same-live}
 
 module _ (n : ℕ) (small : n ≤ 3) (m m′ : Map) (a : Alike m m′) where
-  same-count : liveDarts n m ≡ liveDarts n m′
+  same-count : liveDarts m ≡ liveDarts m′
   unfolding liveDarts
-  same-count = count-same (m .slots) (live m) (live m′) (same-live m m′ a) ∙ ap (λ (k : ℕ). count k (live m′)) (a .slots)
+  same-count = count-same (m .slots) (live m) (live m′) (same-live m m′ a) ∙ ap (λ (k : ℕ). countBelow k (live m′)) (a .slots)
 
   same-section : (f f′ : ℕ → List ℕ) → ((x : ℕ) → x < m .slots → m .state x ≡ 1 → f x ≡ f′ x) → section n m f ≡ section n m′ f′
   unfolding section

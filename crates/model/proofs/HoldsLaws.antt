@@ -12,10 +12,10 @@ use lib.Seq.{take-append-seam}
 use lib.Dec.{eqb, ltb, leb}
 use borrow.Author.Tests.{eqb-true, eq-eqb, ne-eqb}
 use Rattle.base.specs.Test.{_and_, _or_}
-use Rattle.base.specs.First.{when, there, _orElse_}
+use Rattle.base.specs.First.{someIf, there, _orElse_}
 use Rattle.base.proofs.TestLaws.{and-left, and-right, or-cases}
 use Rattle.base.proofs.FirstLaws.{or-else-none}
-use Rattle.model.specs.Map.{Map, view, words, tableSize}
+use Rattle.model.specs.Map.{Map, view, tableOf, tableSize}
 use Rattle.model.specs.WellFormed.{WellFormed, wellFormed}
 use Rattle.model.specs.Scheme.{schemeOf}
 use Rattle.model.specs.Edit.{edited}
@@ -32,7 +32,7 @@ use Rattle.model.proofs.CallLaws.{passed, granted, edit-table, edit-tab
 
 module _ (n N : ℕ) (t : List ℕ) where
   pub holds-free : Holds n N t → tableFault n N t ≡ none
-  unfolding tableFault when _orElse_
+  unfolding tableFault someIf _orElse_
   holds-free h = rw (h .sizes, wellFormed-iff n (view N t) .1 (h .well)) refl
 
   holds-of : tableFault n N t ≡ none → Holds n N t
@@ -41,13 +41,13 @@ module _ (n N : ℕ) (t : List ℕ) where
 
   -- a table check answers 0 just where the table holds a well-formed map
   pub holds-iff : Holds n N t ↔ (checkTable n N t ≡ Done)
-  unfolding checkTable tableFault when _orElse_
+  unfolding checkTable tableFault someIf _orElse_
   holds-iff = (
     (λ h. ap (λ (o : Option Answer). Option·getD o Done) (holds-free h)),
     (λ e. holds-of (go (not (sizesOk n N t)) (not (wellFormed n (view N t))) e)),
   )
     where
-      go : (a b : Bool) → Option·getD (when a BadCall orElse when b BadTable) Done ≡ Done → when a BadCall orElse when b BadTable ≡ none
+      go : (a b : Bool) → Option·getD (someIf a BadCall orElse someIf b BadTable) Done ≡ Done → someIf a BadCall orElse someIf b BadTable ≡ none
       go true b e = let z = ap number e in absurd (omega arith)
       go false true e = let z = ap number e in absurd (omega arith)
       go false false e = refl
@@ -65,10 +65,10 @@ module _ (n N : ℕ) (t : List ℕ) where
     sizes-too u e = ap (λ (k : ℕ). (eqb n 2 or eqb n 3) and leb 1 N and leb N 1024 and eqb k (tableSize N)) e ∙ s
 
     -- the table of a well-formed map of N slots holds it
-    pub words-hold : (m : Map) → m .slots ≡ N → WellFormed n m → Holds n N (words m)
+    pub words-hold : (m : Map) → m .slots ≡ N → WellFormed n m → Holds n N (tableOf m)
     words-hold m e w = record {
-      sizes = sizes-too (words m) (length-words m ∙ ap tableSize e ∙ sym table-length);
-      well = subst (λ (k : ℕ). WellFormed n (view k (words m))) e (words-well n m dimension-small w);
+      sizes = sizes-too (tableOf m) (length-words m ∙ ap tableSize e ∙ sym table-length);
+      well = subst (λ (k : ℕ). WellFormed n (view k (tableOf m))) e (words-well n m dimension-small w);
     }
 
     -- the table of zeros has no live dart
@@ -100,7 +100,7 @@ edit-holds n N t store b d q =
     let g = granted n N t store b d q in
     record {
       sizes = sizes-too n N t (g .sizes) (editTable n N t store b d)
-          (ap length (edit-table n N t store b d q) ∙ length-words (edited (view N t) (schemeOf b) (orbitOf n N t store b d)) ∙ sym (table-length n N t (g .sizes)));
+          (ap length (edit-table n N t store b d q) ∙ length-words (edited (view N t) (schemeOf b) (orbitOf N t b d)) ∙ sym (table-length n N t (g .sizes)));
       well = wellFormed-iff n (view N (editTable n N t store b d)) .0 (edit-table-well n N t store b d q);
     }
 
@@ -124,17 +124,17 @@ pub read-holds : (n N : ℕ) (t b : List ℕ) → sizesOk n N t ≡ true → Hol
 unfolding readTable there fileMap
 read-holds n N t b s = rw s (go (readFault n N t b) refl)
   where
-    go : (o : Option Answer) → readFault n N t b ≡ o → Holds n N (cond (there o) (zeros t) (words (fileMap n N b)))
+    go : (o : Option Answer) → readFault n N t b ≡ o → Holds n N (cond (there o) (zeros t) (tableOf (fileMap n N b)))
     go none q = words-hold n N t s (fileMap n N b) refl (read-well n N t b q)
     go (some r) q = zeros-hold n N t s
 
 -- a write leaves the map's file where there is room for it, else none
 pub written-file : (n N : ℕ) (t out : List ℕ) → Holds n N t
     → writtenFile n N t out ≡ cond (ltb (length out) (length (file n (view N t)))) [] (file n (view N t))
-unfolding writtenFile writeAnswer writeOut writeFault when _orElse_ there
+unfolding writtenFile writeAnswer writeOut writeFault someIf _orElse_ there
 written-file n N t out h = rw (holds-free n N t h) (go (ltb (length out) (length (file n (view N t)))))
   where
-    go : (c : Bool) → take (getD (values (Option·getD (when c ShortOutput) (Written (length (file n (view N t)))))) 0 0)
-        (cond (there (when c ShortOutput)) out (file n (view N t) ++ drop (length (file n (view N t))) out)) ≡ cond c [] (file n (view N t))
+    go : (c : Bool) → take (getD (values (Option·getD (someIf c ShortOutput) (Written (length (file n (view N t)))))) 0 0)
+        (cond (there (someIf c ShortOutput)) out (file n (view N t) ++ drop (length (file n (view N t))) out)) ≡ cond c [] (file n (view N t))
     go true = refl
     go false = take-append-seam (file n (view N t)) _

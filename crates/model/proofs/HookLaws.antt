@@ -9,11 +9,11 @@ use mathlib.Core.List.{List, [], _∷_, _++_}
 use lib.Dec.{eqb}
 use borrow.Author.Tests.{eqb-true, eq-eqb}
 use Rattle.base.specs.Test.{_and_, _or_}
-use Rattle.base.specs.First.{when, there}
+use Rattle.base.specs.First.{someIf, there}
 use Rattle.base.proofs.TestLaws.{and-left, and-right, and-of, or-cases, or-left, or-right}
 use Rattle.base.proofs.FirstLaws.{when-at, there-at, first-at, first-of}
 use Rattle.model.specs.Scheme.{left, arcs, arcPart}
-use Rattle.model.specs.Formed.{Formed}
+use Rattle.model.specs.Shaped.{Shaped}
 use Rattle.model.specs.Reach.{Leads, here, step}
 use Rattle.model.specs.Conditions.{leftArc, pathTo, Joins, Reached, atHook, overArc}
 use Rattle.model.specs.declared.Scheme.{Scheme}
@@ -36,7 +36,7 @@ module _ (S : Scheme) where
       )
 
   between-arc : (s t a : ℕ) → a < arcs S left → Joins S a s t → (i : ℕ) × (leftArc S s t ≡ some i)
-  unfolding leftArc when
+  unfolding leftArc someIf
   between-arc s t a h j = first-of (arcs S left) _ a (arcPart S left a 0) h (rw (joined j))
     where
       joined : Joins S a s t → (eqb (arcPart S left a 1) s and eqb (arcPart S left a 2) t or eqb (arcPart S left a 1) t and eqb (arcPart S left a 2) s) ≡ true
@@ -50,7 +50,7 @@ module _ (S : Scheme) where
   path-reaches (here {y} h e) = subst (Reached S) (sym (eqb-true y 0 e)) atHook
   path-reaches (step {p} {x} {y} {i} l h e) = let a = arc-between x y i e in overArc (path-reaches l) (a .0) (a .1) (a .3)
 
-  module _ (f : Formed S) where
+  module _ (f : Shaped S) where
     -- both ends of a left arc are nodes
     joined-below : (a s t : ℕ) → a < arcs S left → Joins S a s t → t < S .nodes
     joined-below a s t h (inl e) = subst (λ (x : ℕ). x < S .nodes) (e .1) (f .sides left .to a h .0)

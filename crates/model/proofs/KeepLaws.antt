@@ -9,7 +9,7 @@ use native.Mathlib.Omega.{arith}
 use lib.Dec.{eqb}
 use borrow.Author.Tests.{eqb-true, ne-eqb}
 use Rattle.base.specs.Test.{_and_}
-use Rattle.base.specs.Below.{count}
+use Rattle.base.specs.Below.{countBelow}
 use Rattle.model.specs.Map.{Map, unused}
 use Rattle.model.specs.WellFormed.{WellFormed}
 use Rattle.model.specs.Scheme.{left, right, kind, orbitDim, has, deleted, preserved, added}
@@ -58,9 +58,9 @@ module _ (S : Scheme) (s : ℕ) where
   preserved-not-added e = kind-not 2 3 (λ q. omega arith) e
 
 module _ (m : Map) (S : Scheme) (O : ℕ → Bool) (w : WellFormed (S .n) m) (g : Accepted S) (o : GoodOrbit m S O)
-    (A : Assignment m S O (image m S)) (room : addedDarts m S O ≤ count (m .slots) (unused m)) where
+    (A : Assignment m S O (image m S)) (room : addedDarts m S O ≤ countBelow (m .slots) (unused m)) where
   abbrev kinds : (s : ℕ) → s < S .nodes → (has S left s ≡ true) ⊎ (added S s ≡ true)
-  kinds = left-or-added S (g .formed)
+  kinds = left-or-added S (g .shaped)
 
   abbrev D : ℕ → ℕ → ℕ
   D u s = dartOf m S O u s
@@ -172,7 +172,7 @@ module _ (m : Map) (S : Scheme) (O : ℕ → Bool) (w : WellFormed (S .n) m) (g 
           ⊎-elim
           (λ d. absurd (one-not-zero (sym (ap (new .state) (q .2) ∙ l) ∙ E.state-deleted m S O (o .slot) kinds A room (p .dart) (p .node) (q .0) (q .1) d)))
           (λ r. livePair (p .dart) (p .node) (q .0) (q .1) (⊎-elim (λ k. or-left _ k) (λ k. or-right _ k) r) (sym (q .2)))
-          (kind-cases S (g .formed) (p .node) (q .1))
+          (kind-cases S (g .shaped) (p .node) (q .1))
 
   new-state : (u s : ℕ) → O u ≡ true → s < S .nodes → has S right s ≡ true → new .state (D u s) ≡ 1
   new-state u s e h r = E.state-pair m S O (o .slot) kinds A room u s e h (right-stays S s r)
@@ -220,7 +220,7 @@ module _ (m : Map) (S : Scheme) (O : ℕ → Bool) (w : WellFormed (S .n) m) (g 
 
   -- a link of the orbit type leads back
   orbit-back : (u p : ℕ) → O u ≡ true → p < S .places → m .link (orbitDim S p) (m .link (orbitDim S p) u) ≡ u
-  orbit-back u p e b = w .back u (o .slot u e) (o .alive u e) (orbitDim S p) (g .formed .orbitDims p b)
+  orbit-back u p e b = w .back u (o .slot u e) (o .alive u e) (orbitDim S p) (g .shaped .orbitDims p b)
 
   step-pair : (u s i : ℕ) → O u ≡ true → s < S .nodes → has S right s ≡ true → i ≤ S .n → (c : Arc) → arcAt S right s i ≡ c → Step i (D u s)
   step-pair u s i e h r k absent a = step-loose i (D u s) k (right-loose u s i e h r k a)
@@ -269,7 +269,7 @@ module _ (m : Map) (S : Scheme) (O : ℕ → Bool) (w : WellFormed (S .n) m) (g 
     orbit-square : (u p q : ℕ) → O u ≡ true → p < S .places → q < S .places
         → (orbitDim S p + 2 ≤ orbitDim S q) ⊎ (orbitDim S q + 2 ≤ orbitDim S p)
         → m .link (orbitDim S q) (m .link (orbitDim S p) (m .link (orbitDim S q) (m .link (orbitDim S p) u))) ≡ u
-    orbit-square u p q e a b (inl l) = w .square u (o .slot u e) (o .alive u e) (orbitDim S p) (orbitDim S q) l (g .formed .orbitDims q b)
+    orbit-square u p q e a b (inl l) = w .square u (o .slot u e) (o .alive u e) (orbitDim S p) (orbitDim S q) l (g .shaped .orbitDims q b)
     orbit-square u p q e a b (inr l) =
         let P : ℕ → ℕ = m .link (orbitDim S p) in
         let Q : ℕ → ℕ = m .link (orbitDim S q) in
@@ -278,7 +278,7 @@ module _ (m : Map) (S : Scheme) (O : ℕ → Bool) (w : WellFormed (S .n) m) (g 
         let e3 = o .link (Q (P u)) p e2 a in
         let e4 = o .link (P (Q (P u))) q e3 b in
         sym (orbit-back (Q (P (Q (P u)))) p e4 a)
-        ∙ ap P (w .square (P u) (o .slot (P u) e1) (o .alive (P u) e1) (orbitDim S q) (orbitDim S p) l (g .formed .orbitDims p a))
+        ∙ ap P (w .square (P u) (o .slot (P u) e1) (o .alive (P u) e1) (orbitDim S q) (orbitDim S p) l (g .shaped .orbitDims p a))
         ∙ orbit-back u p e a
 
     cycle-square : (u s : ℕ) → O u ≡ true → s < S .nodes → has S right s ≡ true → Cycle S right s i j → Square (D u s)
@@ -404,7 +404,7 @@ module _ (m : Map) (S : Scheme) (O : ℕ → Bool) (w : WellFormed (S .n) m) (g 
           ⊎-elim
           (λ d. inl (ap (new .state) (sym (q .2)) ∙ E.state-deleted m S O (o .slot) kinds A room (p .dart) (p .node) (q .0) (q .1) d))
           (λ d. inr (ap (new .state) (sym (q .2)) ∙ new-state (p .dart) (p .node) (q .0) (q .1) (⊎-elim (λ k. or-left _ k) (λ k. or-right _ k) d)))
-          (kind-cases S (g .formed) (p .node) (q .1))
+          (kind-cases S (g .shaped) (p .node) (q .1))
 
   pub edit-keeps : WellFormed (S .n) new
   unfolding edited

@@ -7,7 +7,7 @@ use native.Mathlib.Omega.{arith}
 use lib.ListN.{length, getD, take, drop, length-drop}
 use lib.Seq.{take-add, take-all, getD-drop}
 use Rattle.base.specs.Lists.{joined}
-use Rattle.model.specs.Map.{Map, view, tableSize, recordOf, words}
+use Rattle.model.specs.Map.{Map, view, tableSize, recordOf, tableOf}
 use Rattle.base.proofs.ListLaws.{length-joined, getD-joined, joined-same}
 
 -- ---- the words of a view are the table
@@ -42,8 +42,8 @@ words-take N t (suc k) h =
     ap₂ _++_ (words-take N t k (omega arith)) (recordOf-view N t k (omega arith))
     ∙ sym (take-add (6 * k) 6 t) ∙ ap (λ (z : ℕ). take z t) e
 
-pub words-view : (N : ℕ) (t : List ℕ) → length t ≡ tableSize N → words (view N t) ≡ t
-unfolding words
+pub words-view : (N : ℕ) (t : List ℕ) → length t ≡ tableSize N → tableOf (view N t) ≡ t
+unfolding tableOf
 words-view N t h = words-take N t N (omega arith) ∙ take-all (6 * N) t (omega arith)
 
 -- a table whose view has the words of m is the table of m
@@ -51,8 +51,8 @@ pub words-are : (m : Map) (t : List ℕ) → length t ≡ tableSize (m .slots)
     → ((x : ℕ) → x < m .slots → view (m .slots) t .state x ≡ m .state x)
     → ((i x : ℕ) → i < 4 → x < m .slots → view (m .slots) t .link i x ≡ m .link i x)
     → ((x : ℕ) → x < m .slots → view (m .slots) t .tag x ≡ m .tag x)
-    → t ≡ words m
-unfolding words
+    → t ≡ tableOf m
+unfolding tableOf
 words-are m t h s l g =
     sym (words-view (m .slots) t h) ∙ joined-same (m .slots) (recordOf (view (m .slots) t)) (recordOf m) each
   where
@@ -62,24 +62,24 @@ words-are m t h s l g =
 
 -- ---- the view of a map's words is the map
 
-pub length-words : (m : Map) → length (words m) ≡ tableSize (m .slots)
-unfolding words
+pub length-words : (m : Map) → length (tableOf m) ≡ tableSize (m .slots)
+unfolding tableOf
 length-words m = length-joined 6 (recordOf m) (λ x. refl) (m .slots)
 
 module _ (m : Map) (x : ℕ) (h : x < m .slots) where
-  word-at : (j k : ℕ) → j < 6 → 6 * x + j ≡ k → getD (words m) k 0 ≡ getD (recordOf m x) j 0
-  unfolding words
+  word-at : (j k : ℕ) → j < 6 → 6 * x + j ≡ k → getD (tableOf m) k 0 ≡ getD (recordOf m x) j 0
+  unfolding tableOf
   word-at j k l e = ap (λ (z : ℕ). getD (joined (m .slots) (recordOf m)) z 0) (sym e) ∙ getD-joined 6 (recordOf m) (λ y. refl) (m .slots) x j 0 h l
 
-  pub state-words : view (m .slots) (words m) .state x ≡ m .state x
+  pub state-words : view (m .slots) (tableOf m) .state x ≡ m .state x
   state-words = word-at 0 (6 * x) (omega arith) (omega arith)
 
-  pub link-words : (i : ℕ) → i ≤ 3 → view (m .slots) (words m) .link i x ≡ m .link i x
+  pub link-words : (i : ℕ) → i ≤ 3 → view (m .slots) (tableOf m) .link i x ≡ m .link i x
   link-words zero l = word-at 1 (6 * x + 1 + 0) (omega arith) (omega arith)
   link-words (suc zero) l = word-at 2 (6 * x + 1 + 1) (omega arith) (omega arith)
   link-words (suc (suc zero)) l = word-at 3 (6 * x + 1 + 2) (omega arith) (omega arith)
   link-words (suc (suc (suc zero))) l = word-at 4 (6 * x + 1 + 3) (omega arith) (omega arith)
   link-words (suc (suc (suc (suc i)))) l = absurd (omega arith)
 
-  pub tag-words : view (m .slots) (words m) .tag x ≡ m .tag x
+  pub tag-words : view (m .slots) (tableOf m) .tag x ≡ m .tag x
   tag-words = word-at 5 (6 * x + 5) (omega arith) (omega arith)

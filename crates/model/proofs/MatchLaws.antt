@@ -10,7 +10,7 @@ use native.Mathlib.Omega.{arith}
 use lib.Dec.{eqb}
 use borrow.Author.Tests.{eqb-true, eq-eqb}
 use Rattle.base.specs.Test.{_and_}
-use Rattle.base.specs.Below.{all}
+use Rattle.base.specs.Below.{allBelow}
 use Rattle.model.specs.Map.{Map}
 use Rattle.model.specs.WellFormed.{WellFormed}
 use Rattle.model.specs.Reach.{here, step}
@@ -41,11 +41,11 @@ walk-more m (j ∷ p) i x = walk-more m p i (m .link j x)
 
 module _ (m : Map) (S : Scheme) (g : Accepted S) where
   pathLeads : (s : ℕ) → s < S .nodes → has S left s ≡ true → (p : List ℕ) × (pathTo S s ≡ some p) × Path S p s
-  pathLeads s h l = found-path S (g .formed) s h (reached-found S (g .formed) (g .reach s h l))
+  pathLeads s h l = found-path S (g .shaped) s h (reached-found S (g .shaped) (g .reach s h l))
 
   image-zero : (u : ℕ) → image m S u 0 ≡ u
   unfolding image pathTo walk
-  image-zero u = rw (path-start (S .nodes) (λ t. eqb t 0) (leftArc S) 0 (g .formed .nodesSome) (eq-eqb 0 0 refl)) refl
+  image-zero u = rw (path-start (S .nodes) (λ t. eqb t 0) (leftArc S) 0 (g .shaped .nodesSome) (eq-eqb 0 0 refl)) refl
 
   abbrev gl : SingleSide S left
   gl = g .sides left
@@ -73,14 +73,14 @@ module _ (m : Map) (S : Scheme) (g : Accepted S) where
       walk-dart u e (step {p} {x} {y} {i} l h j) =
           let r = walk-dart u e l in
           let a = arc-between S x y i j in
-          let d : i ≤ S .n = subst (λ (k : ℕ). k ≤ S .n) (a .2) (gl .formed .dims (a .0) (a .1)) in (
+          let d : i ≤ S .n = subst (λ (k : ℕ). k ≤ S .n) (a .2) (gl .shaped .dims (a .0) (a .1)) in (
             subst (λ (x : ℕ). x < m .slots) (sym (walk-more m p i u)) (w .below (walk m p u) (r .0) (r .1) i d),
             ap (m .state) (walk-more m p i u) ∙ w .alive (walk m p u) (r .0) (r .1) i d,
           )
 
       module _ (q : matches m S O ≡ true) where
         both-at : (u : ℕ) → O u ≡ true → (s : ℕ) → s < S .nodes → has S left s ≡ true
-            → (all (suc (S .n)) (λ i. arcHolds m S u s i (arcAt S left s i)) and onlyPair m S O u s) ≡ true
+            → (allBelow (suc (S .n)) (λ i. arcHolds m S u s i (arcAt S left s i)) and onlyPair m S O u s) ≡ true
         unfolding matches
         both-at u e s h l = pair-at _ q u e s h l
 
@@ -92,7 +92,7 @@ module _ (m : Map) (S : Scheme) (g : Accepted S) where
         unfolding arcHolds
         link-explicit u e s h l a b t =
             let i = arcPart S left a 0 in
-            eqb-true _ _ (subst (λ (c : Arc). arcHolds m S u s i c ≡ true) (explicit-at S left gl s i a h b (gl .formed .dims a b) t) (arc-at u e s h l i (gl .formed .dims a b)))
+            eqb-true _ _ (subst (λ (c : Arc). arcHolds m S u s i c ≡ true) (explicit-at S left gl s i a h b (gl .shaped .dims a b) t) (arc-at u e s h l i (gl .shaped .dims a b)))
 
         link-implicit : (u : ℕ) → O u ≡ true → (s : ℕ) → s < S .nodes → has S left s ≡ true → (p : ℕ) → p < S .places
             → word S left s p ≤ S .n → m .link (word S left s p) (image m S u s) ≡ image m S (m .link (orbitDim S p) u) s
@@ -111,12 +111,12 @@ module _ (m : Map) (S : Scheme) (g : Accepted S) where
               (subst (λ (x : ℕ). x < m .slots) (sym same) (d .0), ap (m .state) same ∙ d .1);
           hook = λ u b e. image-zero u;
           explicitArc = λ u b e a k.
-              let f = gl .formed .from a k in
-              let t = gl .formed .to a k in (
+              let f = gl .shaped .from a k in
+              let t = gl .shaped .to a k in (
                 link-explicit u e _ (f .0) (f .1) a k (touches-from S left a) ∙ ap (image m S u) (far-from S left a),
                 link-explicit u e _ (t .0) (t .1) a k (touches-to S left a) ∙ ap (image m S u) (far-to S left a),
               );
-          implicitArc = λ u b e s h l p k no. ⊎-elim (λ z. absurd (no z)) (λ d. link-implicit u e s h l p k d) (gl .formed .words s p h k);
+          implicitArc = λ u b e s h l p k no. ⊎-elim (λ z. absurd (no z)) (λ d. link-implicit u e s h l p k d) (gl .shaped .words s p h k);
           different = λ u b e s h l v c f t i r same.
               let d = if-so _ (pair-at _ (and-right _ _ (both-at u e s h l)) v f t i r) (eq-eqb _ _ same) in
               (eqb-true _ _ (and-left _ _ d), eqb-true _ _ (and-right _ _ d));
@@ -150,12 +150,12 @@ module _ (m : Map) (S : Scheme) (g : Accepted S) where
           ⊎-elim
           (λ q.
           let same = eqb-true (arcPart S left a 1) s q in
-          let end = gl .formed .to a b in
+          let end = gl .shaped .to a b in
           subst End (sym (far-from S left a) ∙ ap (λ (z : ℕ). far S left z a) same)
           (end .0, end .1, ap₂ (λ (k z : ℕ). m .link k (f u z)) (sym dim) (sym same) ∙ x-arc .0))
           (λ q.
           let same = eqb-true (arcPart S left a 2) s q in
-          let end = gl .formed .from a b in
+          let end = gl .shaped .from a b in
           subst End (sym (far-to S left a) ∙ ap (λ (z : ℕ). far S left z a) same)
           (end .0, end .1, ap₂ (λ (k z : ℕ). m .link k (f u z)) (sym dim) (sym same) ∙ x-arc .1))
           (or-cases _ _ (and-right _ _ t))
@@ -172,7 +172,7 @@ module _ (m : Map) (S : Scheme) (g : Accepted S) where
           let x = implicit-from S left s i p z in
           let v = m .link (orbitDim S p) u in
           eq-eqb _ _ (ap (m .link i) (assigned u e s h l) ∙ ap (λ (j : ℕ). m .link j (f u s)) (sym (x .1))
-          ∙ A .implicitArc u (o .slot u e) e s h l p (x .0) (λ c. let word-i = x .1 in let n3 = small S (g .formed) in omega arith)
+          ∙ A .implicitArc u (o .slot u e) e s h l p (x .0) (λ c. let word-i = x .1 in let n3 = small S (g .shaped) in omega arith)
           ∙ sym (assigned v (o .link u p e (x .0)) s h l))
 
       pub assigns-match : matches m S O ≡ true

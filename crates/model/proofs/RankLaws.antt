@@ -7,7 +7,7 @@ use mathlib.Core.Bool.{Bool, true, false, cond}
 use native.Mathlib.Nat.{suc-mul, mul-le-mul-right}
 use native.Mathlib.Omega.{arith}
 use borrow.Author.Tests.{eqb-true, ne-eqb}
-use Rattle.base.specs.Below.{count}
+use Rattle.base.specs.Below.{countBelow}
 use Rattle.model.specs.Map.{Map}
 use Rattle.model.specs.Scheme.{left, kind, has, added}
 use Rattle.model.specs.Match.{image}
@@ -27,25 +27,25 @@ module _ (m : Map) (S : Scheme) (O : ℕ → Bool) where
   -- the dart of a left pair is its image
   pub dart-left : (u s : ℕ) → has S left s ≡ true → dartOf m S O u s ≡ image m S u s
   unfolding dartOf
-  dart-left u s l = ap (λ (b : Bool). cond b (freeSlot m S O (rank m S O u s)) (image m S u s)) (left-not-added S s l)
+  dart-left u s l = ap (λ (b : Bool). cond b (freeSlot m (rank S O u s)) (image m S u s)) (left-not-added S s l)
 
   -- the dart of an added pair is the unused slot of its rank
-  pub dart-added : (u s : ℕ) → added S s ≡ true → dartOf m S O u s ≡ freeSlot m S O (rank m S O u s)
+  pub dart-added : (u s : ℕ) → added S s ≡ true → dartOf m S O u s ≡ freeSlot m (rank S O u s)
   unfolding dartOf
-  dart-added u s a = ap (λ (b : Bool). cond b (freeSlot m S O (rank m S O u s)) (image m S u s)) a
+  dart-added u s a = ap (λ (b : Bool). cond b (freeSlot m (rank S O u s)) (image m S u s)) a
 
   module _ (slot : (u : ℕ) → O u ≡ true → u < m .slots) where
-    pub rank-low : (u s : ℕ) → O u ≡ true → s < S .nodes → added S s ≡ true → rank m S O u s < addedDarts m S O
+    pub rank-low : (u s : ℕ) → O u ≡ true → s < S .nodes → added S s ≡ true → rank S O u s < addedDarts m S O
     unfolding rank addedDarts orbitSize
     rank-low u s e h a =
         let cs = count-lt (added S) s (S .nodes) h a in
-        let more = mul-le-mul-right (count (S .nodes) (added S)) (count-lt O u (m .slots) (slot u e) e) in
-        let next = suc-mul (count u O) (count (S .nodes) (added S)) in
+        let more = mul-le-mul-right (countBelow (S .nodes) (added S)) (count-lt O u (m .slots) (slot u e) e) in
+        let next = suc-mul (countBelow u O) (countBelow (S .nodes) (added S)) in
         omega arith
 
   pub rank-once : (u s v t : ℕ) → O u ≡ true → O v ≡ true → s < S .nodes → t < S .nodes → added S s ≡ true → added S t ≡ true
-      → rank m S O u s ≡ rank m S O v t → (u ≡ v) × (s ≡ t)
+      → rank S O u s ≡ rank S O v t → (u ≡ v) × (s ≡ t)
   unfolding rank
   rank-once u s v t e f h l a b q =
-      let d = digits (count (S .nodes) (added S)) _ _ _ _ (count-lt (added S) s (S .nodes) h a) (count-lt (added S) t (S .nodes) l b) q in
+      let d = digits (countBelow (S .nodes) (added S)) _ _ _ _ (count-lt (added S) s (S .nodes) h a) (count-lt (added S) t (S .nodes) l b) q in
       (count-injective O u v e f (d .0), count-injective (added S) s t a b (d .1))

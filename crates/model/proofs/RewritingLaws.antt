@@ -5,7 +5,7 @@ use mathlib.Core.Path.{_≡_, sym, ap, _∙_, subst}
 use mathlib.Core.Logic.{_⊎_}
 use mathlib.Core.Bool.{Bool, true}
 use native.Mathlib.Omega.{arith}
-use Rattle.base.specs.Below.{count}
+use Rattle.base.specs.Below.{countBelow}
 use Rattle.model.specs.Map.{Map, unused}
 use Rattle.model.specs.Scheme.{left, right, has, added}
 use Rattle.model.specs.Accepted.{Accepted}
@@ -21,12 +21,12 @@ use Rattle.model.proofs.RankLaws.{dart-left}
 use Rattle.model.proofs.EditLaws as E
 
 module _ (m : Map) (S : Scheme) (O : ℕ → Bool) (g : Accepted S) (o : GoodOrbit m S O)
-    (A : Assignment m S O (image m S)) (room : addedDarts m S O ≤ count (m .slots) (unused m)) where
+    (A : Assignment m S O (image m S)) (room : addedDarts m S O ≤ countBelow (m .slots) (unused m)) where
   abbrev D : ℕ → ℕ → ℕ
   D = dartOf m S O
 
   abbrev sides : (s : ℕ) → s < S .nodes → (has S left s ≡ true) ⊎ (added S s ≡ true)
-  sides = left-or-added S (g .formed)
+  sides = left-or-added S (g .shaped)
 
   -- the darts of the left pairs are their images
   assignment : Assignment m S O D
@@ -34,8 +34,8 @@ module _ (m : Map) (S : Scheme) (O : ℕ → Bool) (g : Accepted S) (o : GoodOrb
     darts = λ u b e s h l. subst (λ (x : ℕ). (x < m .slots) × (m .state x ≡ 1)) (sym (dart-left m S O u s l)) (A .darts u b e s h l);
     hook = λ u b e. dart-left m S O u 0 (g .hookKind) ∙ A .hook u b e;
     explicitArc = λ u b e a h.
-        let from = g .formed .sides left .from a h in
-        let to = g .formed .sides left .to a h in
+        let from = g .shaped .sides left .from a h in
+        let to = g .shaped .sides left .to a h in
         let arc = A .explicitArc u b e a h in (
           ap (m .link _) (dart-left m S O u _ (from .1)) ∙ arc .0 ∙ sym (dart-left m S O u _ (to .1)),
           ap (m .link _) (dart-left m S O u _ (to .1)) ∙ arc .1 ∙ sym (dart-left m S O u _ (from .1)),

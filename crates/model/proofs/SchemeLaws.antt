@@ -11,7 +11,7 @@ use lib.ListN.{getD}
 use lib.Dec.{eqb, ltb}
 use borrow.Author.Tests.{eqb-true, ne-eqb, ltb-true, ltb-false, leb-true, lt-ltb, le-ltb}
 use Rattle.base.specs.Test.{_and_, _or_}
-use Rattle.base.specs.First.{least, when}
+use Rattle.base.specs.First.{least, someIf}
 use Rattle.base.proofs.TestLaws.{and-left, and-right, or-cases, true-or-false}
 use Rattle.base.proofs.BelowLaws.{all-at}
 use Rattle.base.proofs.FirstLaws.{first-same, least-none-of, least-same}
@@ -19,7 +19,7 @@ use Rattle.base.proofs.ListLaws.{getD-list}
 use Rattle.model.specs.Scheme.{Side, left, right, onSide, byte, placesOf, nodesOf, kindAt, wordAt, arcCount, arcByte, orbitForm, wordForm, nodeForm, arcForm, arcsForm, inForm, upTo, farEnd, placeCode, wordsOf, arcsOf, placed, placedAt, targetsOf, schemeOf, kind, orbitDim, word, targets, arcs, arcPart, has}
 use Rattle.model.specs.Conditions.{arcOf, arcAt, reads}
 use Rattle.model.specs.Codes.{arcCode}
-use Rattle.model.specs.Formed.{Formed, FormedSide}
+use Rattle.model.specs.Shaped.{Shaped, ShapedSide}
 
 up-to : (bound x v filling : ℕ) → x < bound → upTo bound x v filling ≡ v
 up-to bound x v filling h = rw (lt-ltb x bound h) refl
@@ -145,7 +145,7 @@ module _ (b : List ℕ) (q : inForm b ≡ true) where
       (value-arc side a 0 h (omega arith)) (value-arc side a 1 h (omega arith)) (value-arc side a 2 h (omega arith)))
     where
       each : {d d′ x x′ y y′ : ℕ} → d′ ≡ d → x′ ≡ x → y′ ≡ y
-          → when (eqb d i and (eqb x s or eqb y s)) (cond (eqb x s) y x) ≡ when (eqb d′ i and (eqb x′ s or eqb y′ s)) (cond (eqb x′ s) y′ x′)
+          → someIf (eqb d i and (eqb x s or eqb y s)) (cond (eqb x s) y x) ≡ someIf (eqb d′ i and (eqb x′ s or eqb y′ s)) (cond (eqb x′ s) y′ x′)
       each e f g = rw (e, f, g)
 
   -- past the last node there is no implicit arc
@@ -231,9 +231,9 @@ module _ (b : List ℕ) (q : inForm b ≡ true) where
       let f = and-left _ _ (and-left _ _ (and-left _ _ (and-left _ _ (form-node s h)))) in
       rw (value-kind s h) (leb-true 1 _ (and-left _ _ f), leb-true _ 3 (and-right _ _ f))
 
-  formed-side : (side : Side) (few : arcs (schemeOf b) side ≡ arcCount b side) → FormedSide (schemeOf b) side
+  shaped-side : (side : Side) (few : arcs (schemeOf b) side ≡ arcCount b side) → ShapedSide (schemeOf b) side
   unfolding schemeOf
-  formed-side side same = record {
+  shaped-side side same = record {
     words = word-dim side;
     few = rw same (arcs-few side);
     dims = λ a h. arc-dim side a (rw same at h);
@@ -242,16 +242,16 @@ module _ (b : List ℕ) (q : inForm b ≡ true) where
     coded = value-target side;
   }
 
-  pub formed : Formed (schemeOf b)
+  pub shaped : Shaped (schemeOf b)
   unfolding schemeOf
-  formed = record {
+  shaped = record {
     dimension = form-n;
     placesFew = places-few;
     orbitDims = orbit-dim;
     nodesSome = nodes-some;
     nodesFew = nodes-few;
     kinds = kind-range;
-    sides = λ side. formed-side side (count-is side);
+    sides = λ side. shaped-side side (count-is side);
   }
     where
       count-is : (side : Side) → arcs (schemeOf b) side ≡ arcCount b side

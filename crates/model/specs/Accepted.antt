@@ -6,16 +6,16 @@ use mathlib.Core.Path.{_≡_}
 use mathlib.Core.Bool.{true}
 use Rattle.model.specs.Scheme.{Side, left, right, orbitDim, word, has, deleted, preserved, added}
 use Rattle.model.specs.Conditions.{arcAt, arcsOfDim, Reached, Cycle}
-use Rattle.model.specs.Formed.{Formed, FormedSide}
+use Rattle.model.specs.Shaped.{Shaped, ShapedSide}
 use Rattle.model.specs.declared.Scheme.{Scheme}
 
 -- one side, with at most one arc of each dimension at a node
 pub record SingleSide (S : Scheme) (side : Side) : Type 0 where
-  pub formed : FormedSide S side
+  pub shaped : ShapedSide S side
   pub single : (s i : ℕ) → s < S .nodes → i ≤ S .n → arcsOfDim S side s i ≤ 1
 
 pub record Accepted (S : Scheme) : Type 0 where
-  pub formed : Formed S
+  pub shaped : Shaped S
   -- hook: node 0 is on the left, its left word is the orbit type, and every left node is reached from it
   pub hookKind : has S left 0 ≡ true
   pub hookWord : (p : ℕ) → p < S .places → word S left 0 p ≡ orbitDim S p

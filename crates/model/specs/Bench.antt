@@ -6,7 +6,7 @@ use mathlib.Core.List.{List, [], _∷_, _++_}
 use lib.ListN.{length, getD, take, drop, replicate}
 use lib.Dec.{eqb, ltb, leb}
 use Rattle.base.specs.Test.{_and_}
-use Rattle.base.specs.Below.{count}
+use Rattle.base.specs.Below.{countBelow}
 use Rattle.base.specs.Lists.{joined}
 use Rattle.model.specs.Answer.{number, values}
 use Rattle.model.specs.Map.{view, tableSize, live, unused}
@@ -102,7 +102,7 @@ module _ (b : List ℕ) where
 
   unfoldable pub runLines : List ℕ
   runLines = joined dartCount (λ k. dartLine (dartAt k) (answerAt k))
-      ++ lastLine (count mapSlots (live (view mapSlots (tableAfter dartCount)))) (count mapSlots (unused (view mapSlots (tableAfter dartCount))))
+      ++ lastLine (countBelow mapSlots (live (view mapSlots (tableAfter dartCount)))) (countBelow mapSlots (unused (view mapSlots (tableAfter dartCount))))
 
   unfoldable pub printed : List ℕ
   printed = cond (framed and leb 3 mapLength)

@@ -6,8 +6,8 @@ use mathlib.Core.Bool.{Bool, cond}
 use mathlib.Core.Option.{Option, none, some, Option·getD}
 use lib.Dec.{eqb}
 use Rattle.base.specs.Test.{_and_}
-use Rattle.base.specs.Below.{count}
-use Rattle.base.specs.First.{nth, first, when}
+use Rattle.base.specs.Below.{countBelow}
+use Rattle.base.specs.First.{nthLowest, first, someIf}
 use Rattle.model.specs.Map.{Map, unused}
 use Rattle.model.specs.Scheme.{right, orbitDim, deleted, added}
 use Rattle.model.specs.Conditions.{Arc, absent, explicit, implicit, arcAt}
@@ -18,31 +18,31 @@ pub record Pair : Type 0 where
   pub dart : ℕ
   pub node : ℕ
 
+-- the k-th lowest slot unused before the edit
+unfoldable pub freeSlot : Map → ℕ → ℕ
+freeSlot m k = Option·getD (nthLowest (m .slots) (unused m) k) 0
+
+-- the place of the added pair (u, s) in the order by u and then by s
+unfoldable pub rank : Scheme → (ℕ → Bool) → ℕ → ℕ → ℕ
+rank S O u s = countBelow u O * countBelow (S .nodes) (added S) + countBelow s (added S)
+
 module _ (m : Map) (S : Scheme) (O : ℕ → Bool) where
   unfoldable pub orbitSize : ℕ
-  orbitSize = count (m .slots) O
+  orbitSize = countBelow (m .slots) O
 
   unfoldable pub addedDarts : ℕ
-  addedDarts = orbitSize * count (S .nodes) (added S)
+  addedDarts = orbitSize * countBelow (S .nodes) (added S)
 
   unfoldable pub deletedDarts : ℕ
-  deletedDarts = orbitSize * count (S .nodes) (deleted S)
-
-  -- the place of the added pair (u, s) in the order by u and then by s
-  unfoldable pub rank : ℕ → ℕ → ℕ
-  rank u s = count u O * count (S .nodes) (added S) + count s (added S)
-
-  -- the k-th lowest slot unused before the edit
-  unfoldable pub freeSlot : ℕ → ℕ
-  freeSlot k = Option·getD (nth (m .slots) (unused m) k) 0
+  deletedDarts = orbitSize * countBelow (S .nodes) (deleted S)
 
   -- the dart of the pair (u, s)
   unfoldable pub dartOf : ℕ → ℕ → ℕ
-  dartOf u s = cond (added S s) (freeSlot (rank u s)) (image m S u s)
+  dartOf u s = cond (added S s) (freeSlot m (rank S O u s)) (image m S u s)
 
   -- the pair whose dart is x, if any
   unfoldable pub pairOf : ℕ → Option Pair
-  pairOf x = first (m .slots) (λ u. first (S .nodes) (λ s. when (O u and eqb (dartOf u s) x) (record { dart = u; node = s })))
+  pairOf x = first (m .slots) (λ u. first (S .nodes) (λ s. someIf (O u and eqb (dartOf u s) x) (record { dart = u; node = s })))
 
   -- αi of the dart of (u, s): what its right side names, else as it stood
   unfoldable pub newLink : ℕ → ℕ → Arc → ℕ → ℕ

@@ -7,7 +7,7 @@ use mathlib.Core.List.{List, [], _∷_, _++_}
 use lib.ListN.{length, getD}
 use lib.Dec.{eqb, ltb, leb}
 use Rattle.base.specs.Test.{_and_, bit}
-use Rattle.base.specs.Below.{all, count}
+use Rattle.base.specs.Below.{allBelow, countBelow}
 use Rattle.base.specs.First.{least, there}
 use Rattle.base.specs.Lists.{joined}
 use Rattle.model.specs.Map.{Map, live}
@@ -21,14 +21,14 @@ twoBytes w = w % 256 ∷ w / 256 % 256 ∷ []
 abbrev pub fourBytes : ℕ → List ℕ
 fourBytes w = w % 256 ∷ w / 256 % 256 ∷ w / 65536 % 256 ∷ w / 16777216 % 256 ∷ []
 
-module _ (n : ℕ) (m : Map) where
-  -- L
-  unfoldable pub liveDarts : ℕ
-  liveDarts = count (m .slots) (live m)
+-- L
+unfoldable pub liveDarts : Map → ℕ
+liveDarts m = countBelow (m .slots) (live m)
 
+module _ (n : ℕ) (m : Map) where
   -- a section: its count, then f x for each live x
   unfoldable pub section : (ℕ → List ℕ) → List ℕ
-  section f = twoBytes liveDarts ++ joined (m .slots) (λ x. cond (live m x) (f x) [])
+  section f = twoBytes (liveDarts m) ++ joined (m .slots) (λ x. cond (live m x) (f x) [])
 
   unfoldable pub file : List ℕ
   file = n ∷ twoBytes (m .slots)
@@ -69,7 +69,7 @@ module _ (n N : ℕ) (b : List ℕ) where
   fileForm = eqb (getD b 0 0) n and eqb (twoAt b 1) N
       and eqb (twoAt b (5 + 2 * darts)) darts and eqb (twoAt b (7 + 6 * darts)) darts
       and eqb (length b) (9 + darts * (6 + 2 * (n + 1)))
-      and all darts (λ k. ltb (slotAt k) N and all k (λ o. ltb (slotAt o) (slotAt k)))
+      and allBelow darts (λ k. ltb (slotAt k) N and allBelow k (λ o. ltb (slotAt o) (slotAt k)))
 
   -- where slot x stands in the file
   unfoldable pub placeOf : ℕ → Option ℕ

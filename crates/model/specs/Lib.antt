@@ -5,7 +5,7 @@ pub mod Reach
 pub mod Scheme
 pub mod Conditions
 pub mod Codes
-pub mod Formed
+pub mod Shaped
 pub mod Accepted
 pub mod Orbit
 pub mod Match

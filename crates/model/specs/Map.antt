@@ -1,5 +1,5 @@
 -- A map, looked at through a view: the state, links and tag of each slot. All rules are over the view.
--- The table's layout, six words a slot, stands in `view`, `tableSize` and `words` alone.
+-- The table's layout, six words a slot, stands in `view`, `tableSize` and `tableOf` alone.
 -- Assumes nothing.
 use Prim.Native.Nat.{ℕ, _+_, _*_}
 use mathlib.Core.Bool.{Bool}
@@ -33,8 +33,8 @@ abbrev pub recordOf : Map → ℕ → List ℕ
 recordOf m x = m .state x ∷ m .link 0 x ∷ m .link 1 x ∷ m .link 2 x ∷ m .link 3 x ∷ m .tag x ∷ []
 
 -- the table of a map
-unfoldable pub words : Map → List ℕ
-words m = joined (m .slots) (recordOf m)
+unfoldable pub tableOf : Map → List ℕ
+tableOf m = joined (m .slots) (recordOf m)
 
 abbrev pub live : Map → ℕ → Bool
 live m x = eqb (m .state x) 1

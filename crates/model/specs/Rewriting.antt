@@ -3,7 +3,7 @@
 use Prim.Native.Nat.{ℕ, _+_, _*_, _≤_, _<_}
 use mathlib.Core.Path.{_≡_}
 use mathlib.Core.Bool.{Bool, true}
-use Rattle.base.specs.Below.{count}
+use Rattle.base.specs.Below.{countBelow}
 use Rattle.model.specs.Map.{Map, unused}
 use Rattle.model.specs.Scheme.{right, orbitDim, has, deleted, preserved, added}
 use Rattle.model.specs.Conditions.{absent, explicit, implicit, arcAt}
@@ -29,7 +29,7 @@ pub record Rewriting (m m′ : Map) (S : Scheme) (O : ℕ → Bool) (f : ℕ →
   pub slot : (u s : ℕ) → O u ≡ true → s < S .nodes → added S s ≡ true → f u s < m .slots
   pub wasUnused : (u s : ℕ) → O u ≡ true → s < S .nodes → added S s ≡ true → m .state (f u s) ≡ 0
   pub inOrder : (u s : ℕ) → O u ≡ true → s < S .nodes → added S s ≡ true
-      → count (f u s) (unused m) ≡ count u O * count (S .nodes) (added S) + count s (added S)
+      → countBelow (f u s) (unused m) ≡ countBelow u O * countBelow (S .nodes) (added S) + countBelow s (added S)
   -- preserved and added pairs are live; right arcs set their links
   pub alive : (u s : ℕ) → O u ≡ true → s < S .nodes → has S right s ≡ true → m′ .state (f u s) ≡ 1
   pub explicitLink : (u s i t : ℕ) → O u ≡ true → s < S .nodes → has S right s ≡ true → arcAt S right s i ≡ explicit t

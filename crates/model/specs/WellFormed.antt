@@ -6,12 +6,12 @@ use mathlib.Core.Logic.{_⊎_}
 use mathlib.Core.Bool.{Bool}
 use lib.Dec.{eqb, ltb, leb}
 use Rattle.base.specs.Test.{_and_, _or_, _⇒_}
-use Rattle.base.specs.Below.{all}
+use Rattle.base.specs.Below.{allBelow}
 use Rattle.model.specs.Map.{Map, live, unused}
 
 -- p i j for each i, j with i + 2 ≤ j ≤ n
 unfoldable pub allPairs : ℕ → (ℕ → ℕ → Bool) → Bool
-allPairs n p = all (suc n) (λ i. all (suc n) (λ j. leb (i + 2) j ⇒ p i j))
+allPairs n p = allBelow (suc n) (λ i. allBelow (suc n) (λ j. leb (i + 2) j ⇒ p i j))
 
 -- αi(x) is below N, live, and αi(αi(x)) = x
 unfoldable pub linkOk : Map → ℕ → ℕ → Bool
@@ -22,10 +22,10 @@ unfoldable pub squareOk : Map → ℕ → ℕ → ℕ → Bool
 squareOk m x i j = eqb (m .link j (m .link i (m .link j (m .link i x)))) x
 
 unfoldable pub dartOk : ℕ → Map → ℕ → Bool
-dartOk n m x = all (suc n) (linkOk m x) and (eqb n 2 ⇒ eqb (m .link 3 x) x) and allPairs n (squareOk m x)
+dartOk n m x = allBelow (suc n) (linkOk m x) and (eqb n 2 ⇒ eqb (m .link 3 x) x) and allPairs n (squareOk m x)
 
 unfoldable pub wellFormed : ℕ → Map → Bool
-wellFormed n m = all (m .slots) (λ x. (unused m x or live m x) and (live m x ⇒ dartOk n m x))
+wellFormed n m = allBelow (m .slots) (λ x. (unused m x or live m x) and (live m x ⇒ dartOk n m x))
 
 -- the paper's rules, one by one; `wellFormed n m ≡ true` says the same (proofs/WellFormedLaws.antt)
 pub record WellFormed (n : ℕ) (m : Map) : Type 0 where

@@ -10,7 +10,7 @@ use lib.ListN.{getD, replicate}
 use lib.Dec.{eqb, ltb, leb}
 use borrow.Author.Tests.{eq-eqb, eqb-true, lt-ltb, ltb-true, ltb-false, le-leb, leb-true, leb-false}
 use Rattle.base.specs.Test.{_and_, _or_, _⇒_}
-use Rattle.base.specs.Below.{all}
+use Rattle.base.specs.Below.{allBelow}
 use Rattle.base.specs.Filled.{stored}
 use Rattle.base.specs.Lists.{list}
 use Rattle.base.proofs.TestLaws.{and-left, and-right, and-of, or-cases, or-left, or-right, true-or-false, refuted, same-test}
@@ -66,7 +66,7 @@ module _ (b : List ℕ) (other : ℕ) where
 
   -- what holds once the first a arcs are read; `low` is the least key that may come next
   pub record Joined (a low : ℕ) (targets : List ℕ) (twice : List Bool) : Type 0 where
-    pub formed : all a (arcForm b (sideOf other)) ≡ true
+    pub formed : allBelow a (arcForm b (sideOf other)) ≡ true
     pub next : low ≡ above keyAt a
     pub held : Shown (placedAt b (sideOf other)) (farEnd (arcByte b (sideOf other)) a) (touches (placedAt b (sideOf other)) (arcByte b (sideOf other)) a) targets twice
 
@@ -123,17 +123,17 @@ module _ (b : List ℕ) (l : Layout) (kinds : List ℕ) (other from count : ℕ)
       before-key (part o 0) (part o 1) (part o 2) (part a 0) (part a 1) (part a 2) (omega arith) (omega arith) (omega arith) (omega arith)
 
   key-all : (a : ℕ) → ((o : ℕ) → o < a → arcForm b side o ≡ true) → Ends a
-      → all a (λ o. before (part o 0) (part o 1) (part o 2) (part a 0) (part a 1) (part a 2)) ≡ all a (λ o. ltb (key o) (key a))
+      → allBelow a (λ o. before (part o 0) (part o 1) (part o 2) (part a 0) (part a 1) (part a 2)) ≡ allBelow a (λ o. ltb (key o) (key a))
   key-all a f e = same-test _ _
       (λ q. all-of a _ (λ o h. sym (key-order a f e o h) ∙ all-at a _ q o h))
       (λ q. all-of a _ (λ o h. key-order a f e o h ∙ all-at a _ q o h))
 
-  keys-up : (a : ℕ) → ((o : ℕ) → o < a → arcForm b side o ≡ true) → (p : ℕ) → p < a → all p (λ o. ltb (key o) (key p)) ≡ true
+  keys-up : (a : ℕ) → ((o : ℕ) → o < a → arcForm b side o ≡ true) → (p : ℕ) → p < a → allBelow p (λ o. ltb (key o) (key p)) ≡ true
   unfolding arcForm
   keys-up a f p h = sym (key-all p (λ o g. f o (omega arith)) (ends p (f p h))) ∙ and-right _ _ (f p h)
 
   -- the test of an arc, after arcs that are in the form, is its form
-  pub arc-same : (a low n nodes : ℕ) → all a (arcForm b side) ≡ true → low ≡ above key a → n ≡ byte b 0 → nodes ≡ nodesOf b
+  pub arc-same : (a low n nodes : ℕ) → allBelow a (arcForm b side) ≡ true → low ≡ above key a → n ≡ byte b 0 → nodes ≡ nodesOf b
       → arcTest n nodes kinds other low (part a 0) (part a 1) (part a 2) ≡ arcForm b side a
   unfolding arcTest arcForm
   arc-same a low n nodes up lowIs nIs nodesIs = same-test _ _

@@ -7,7 +7,7 @@ use mathlib.Core.Bool.{true}
 use mathlib.Core.List.{List}
 use borrow.Author.Tests.{eqb-true, eq-eqb, leb-true, le-leb}
 use lib.ListN.{length}
-use Rattle.base.specs.Below.{all}
+use Rattle.base.specs.Below.{allBelow}
 use Rattle.base.proofs.TestLaws.{and-left, and-right, and-of, or-cases, or-left, or-right}
 use Rattle.model.specs.Scheme.{Side, left, right, byte, placesOf, nodesOf, arcCount, endAt, orbitForm, nodeForm, arcsForm, inForm}
 
@@ -17,7 +17,7 @@ module _ (b : List ℕ) where
     pub orbit : orbitForm b ≡ true
     pub nodesSome : 1 ≤ nodesOf b
     pub nodesFew : nodesOf b ≤ 16
-    pub nodes : all (nodesOf b) (nodeForm b) ≡ true
+    pub nodes : allBelow (nodesOf b) (nodeForm b) ≡ true
     pub arcs : (side : Side) → arcsForm b side ≡ true
     pub ends : length b ≡ endAt b
 

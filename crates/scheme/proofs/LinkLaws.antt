@@ -13,8 +13,8 @@ use lib.Seq.{ext-getD, getD-set-same, getD-set-other}
 use lib.Dec.{eqb, ltb, leb}
 use borrow.Author.Tests.{eq-eqb, ne-eqb, eqb-true, lt-ltb, le-ltb, le-leb}
 use Rattle.base.specs.Test.{_and_, _or_, bit}
-use Rattle.base.specs.Below.{any, count}
-use Rattle.base.specs.First.{first, least, when, _orElse_}
+use Rattle.base.specs.Below.{anyBelow, countBelow}
+use Rattle.base.specs.First.{first, least, someIf, _orElse_}
 use Rattle.base.specs.Lists.{list}
 use Rattle.base.proofs.TestLaws.{and-left, and-right, and-of, and-no-right, impossible}
 use Rattle.base.proofs.BelowLaws.{any-at, any-of, count-step, any-same}
@@ -82,7 +82,7 @@ module _ (place : ℕ → ℕ) where
   -- the targets show ends E, of which there are N: there is an end just where there are some
   pub record Shown (E : ℕ → ℕ → Option ℕ) (N : ℕ → ℕ → ℕ) (targets : List ℕ) (twice : List Bool) : Type 0 where
     pub targetsAre : targets ≡ list 64 (λ k. Option·getD (E (k / 4) (k % 4)) (place k))
-    pub twiceAre : twice ≡ list 16 (λ u. any 4 (λ i. leb 2 (N u i + bit (ltb (place (4 * u + i)) 255))))
+    pub twiceAre : twice ≡ list 16 (λ u. anyBelow 4 (λ i. leb 2 (N u i + bit (ltb (place (4 * u + i)) 255))))
     pub small : (u i x : ℕ) → E u i ≡ some x → x < 16
     pub empty : (u i : ℕ) → E u i ≡ none → N u i ≡ 0
     pub counted : (u i x : ℕ) → E u i ≡ some x → 1 ≤ N u i
@@ -104,19 +104,19 @@ module _ (place : ℕ → ℕ) where
 
   module _ (E : ℕ → ℕ → Option ℕ) (N : ℕ → ℕ → ℕ) (d s to : ℕ) (hs : s < 16) (hd : d < 4) where
     -- at another node nothing changes
-    else-where : (u : ℕ) → (u ≡ s → ⊥) → any 4 (over N u) ≡ any 4 (over (plus N d s) u)
+    else-where : (u : ℕ) → (u ≡ s → ⊥) → anyBelow 4 (over N u) ≡ anyBelow 4 (over (plus N d s) u)
     else-where u ne = any-same 4 _ _ (λ i h.
         let q : hits d s u i ≡ false = and-no-right _ (ne-eqb s u (λ w. ne (sym w))) in
         ap (λ (m : ℕ). leb 2 (m + bit (ltb (place (4 * u + i)) 255))) (sym (ap (λ (t : Bool). N u i + bit t) q ∙ omega arith)))
 
     -- an arc more where there was one, explicit or implicit, makes two
-    made : 1 ≤ N s d + bit (ltb (place (4 * s + d)) 255) → any 4 (over (plus N d s) s) ≡ true
+    made : 1 ≤ N s d + bit (ltb (place (4 * s + d)) 255) → anyBelow 4 (over (plus N d s) s) ≡ true
     made h = any-of 4 _ d hd
         (ap (λ (t : Bool). leb 2 (N s d + bit t + bit (ltb (place (4 * s + d)) 255))) (and-of (eq-eqb d d refl) (eq-eqb s s refl))
         ∙ le-leb 2 (N s d + 1 + bit (ltb (place (4 * s + d)) 255)) (omega arith))
 
     -- an arc more where there was none makes no two
-    alone : N s d ≡ 0 → ltb (place (4 * s + d)) 255 ≡ false → (u : ℕ) → any 4 (over N u) ≡ any 4 (over (plus N d s) u)
+    alone : N s d ≡ 0 → ltb (place (4 * s + d)) 255 ≡ false → (u : ℕ) → anyBelow 4 (over N u) ≡ anyBelow 4 (over (plus N d s) u)
     alone n0 free u = any-same 4 _ _ (λ i h. go u i (hits d s u i) refl)
       where
         go : (u i : ℕ) (t : Bool) → hits d s u i ≡ t → over N u i ≡ over (plus N d s) u i
@@ -132,21 +132,21 @@ module _ (place : ℕ → ℕ) where
     -- what stays true of ends and counts with an arc of dimension d from node s to `to` more
     grown : {targets targets′ : List ℕ} {twice twice′ : List Bool} → to < 16 → Shown E N targets twice
         → targets′ ≡ list 64 (λ k. Option·getD (more E d s to (k / 4) (k % 4)) (place k))
-        → twice′ ≡ list 16 (λ u. any 4 (over (plus N d s) u)) → Shown (more E d s to) (plus N d s) targets′ twice′
+        → twice′ ≡ list 16 (λ u. anyBelow 4 (over (plus N d s) u)) → Shown (more E d s to) (plus N d s) targets′ twice′
     grown ht w b c = record {
       targetsAre = b;
       twiceAre = c;
       small = λ u i x q. ⊎-elim
           (λ e. w .small u i x e)
           (λ e. let r = when-at (hits d s u i) (e .1) in let same : to ≡ x = r .1 in omega arith)
-          (or-else-cases (E u i) (when (hits d s u i) to) x q);
+          (or-else-cases (E u i) (someIf (hits d s u i) to) x q);
       empty = λ u i q.
-          let r = or-else-none (E u i) (when (hits d s u i) to) q in
+          let r = or-else-none (E u i) (someIf (hits d s u i) to) q in
           ap₂ (λ (m : ℕ) (t : Bool). m + bit t) (w .empty u i (r .0)) (when-none (hits d s u i) to (r .1));
       counted = λ u i x q. ⊎-elim
           (λ e. let l = w .counted u i x e in omega arith)
           (λ e. let r = when-at (hits d s u i) (e .1) in let one : bit (hits d s u i) ≡ 1 = ap bit (r .0) in omega arith)
-          (or-else-cases (E u i) (when (hits d s u i) to) x q);
+          (or-else-cases (E u i) (someIf (hits d s u i) to) x q);
     }
 
     -- an arc of dimension d from node s to `to` more
@@ -157,7 +157,7 @@ module _ (place : ℕ → ℕ) where
         at-entry : (o : Option ℕ) → E s d ≡ o → getD targets (4 * s + d) 0 ≡ Option·getD o (place (4 * s + d))
         at-entry o q = ends-at E place d s (w .targetsAre) hs hd ∙ ap (λ (p : Option ℕ). Option·getD p (place (4 * s + d))) q
 
-        flagged : E s d ≡ none → crowded targets twice s (4 * s + d) ≡ list 16 (λ u. any 4 (over (plus N d s) u))
+        flagged : E s d ≡ none → crowded targets twice s (4 * s + d) ≡ list 16 (λ u. anyBelow 4 (over (plus N d s) u))
         flagged q = by-cases (ℕ-discrete (place (4 * s + d)) 255)
             (λ e.
             sym (crowded-free targets twice s (4 * s + d) (at-entry none q ∙ e)) ∙ w .twiceAre
@@ -188,12 +188,12 @@ module _ (place : ℕ → ℕ) where
   module _ (part : ℕ → ℕ → ℕ) where
     -- how many of the first a arcs have dimension i and touch u
     abbrev pub touches : ℕ → ℕ → ℕ → ℕ
-    touches a u i = count a (touching part u i)
+    touches a u i = countBelow a (touching part u i)
 
     -- without arcs the targets are the implicit ones, of which a node and dimension has at most one
     pub shown-none : {targets : List ℕ} {twice : List Bool} → targets ≡ list 64 place → twice ≡ replicate 16 false
         → Shown (farEnd part 0) (touches 0) targets twice
-    unfolding farEnd first count
+    unfolding farEnd first countBelow
     shown-none f g = record {
       targetsAre = f ∙ list-same 64 _ _ (λ k h. refl);
       twiceAre = g ∙ list-all 16 false _ (λ u h. impossible _ (λ t. let w = any-at 4 _ t in one (ltb (place (4 * u + w .0)) 255) (w .2)));
@@ -220,8 +220,8 @@ module _ (place : ℕ → ℕ) where
       -- Seen from a node and dimension, D is that the dimension is the arc's, X and Y that the node is its smaller, its larger.
 
       -- the one aim of a loop gives its end
-      end-loop : (D X Y : Bool) (o : Option ℕ) → X ≡ Y → o orElse when (D and X) t ≡ o orElse when (D and (X or Y)) (cond X t s)
-      unfolding _and_ _or_ when _orElse_
+      end-loop : (D X Y : Bool) (o : Option ℕ) → X ≡ Y → o orElse someIf (D and X) t ≡ o orElse someIf (D and (X or Y)) (cond X t s)
+      unfolding _and_ _or_ someIf _orElse_
       end-loop D X Y (some x) e = refl
       end-loop false X Y none e = refl
       end-loop true true Y none e = refl
@@ -229,8 +229,8 @@ module _ (place : ℕ → ℕ) where
 
       -- the two aims of another arc give the end that is far from the node
       end-ends : (D X Y : Bool) (o : Option ℕ)
-          → (o orElse when (D and X) t) orElse when (D and Y) s ≡ o orElse when (D and (X or Y)) (cond X t s)
-      unfolding _and_ _or_ when _orElse_
+          → (o orElse someIf (D and X) t) orElse someIf (D and Y) s ≡ o orElse someIf (D and (X or Y)) (cond X t s)
+      unfolding _and_ _or_ someIf _orElse_
       end-ends D X Y (some x) = refl
       end-ends false X Y none = refl
       end-ends true true Y none = refl

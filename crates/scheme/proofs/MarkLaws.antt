@@ -14,8 +14,8 @@ use lib.Seq.{getD-set-same, getD-set-other}
 use lib.Dec.{eqb}
 use borrow.Author.Tests.{eq-eqb, ne-eqb, eqb-true, lt-leb, le-leb, leb-true}
 use Rattle.base.specs.Test.{_and_, _or_}
-use Rattle.base.specs.Below.{all}
-use Rattle.base.specs.First.{when, first, least}
+use Rattle.base.specs.Below.{allBelow}
+use Rattle.base.specs.First.{someIf, first, least}
 use Rattle.base.proofs.TestLaws.{and-left, and-right, and-of, or-left, or-right, or-rest, if-so, if-of, impossible, true-or-false, same-test}
 use Rattle.base.proofs.BelowLaws.{all-at, all-of}
 use Rattle.base.proofs.FirstLaws.{or-else-last, least-at, least-none, least-none-of, least-hit}
@@ -52,7 +52,7 @@ module _ (targets : List ℕ) (base n d p : ℕ) where
 
 -- where the test fails at p, one number more finds nothing more
 least-pass : (p : ℕ) (f : ℕ → Bool) → f p ≡ false → least (suc p) f ≡ least p f
-unfolding least first when
+unfolding least first someIf
 least-pass p f e = rw e (or-else-last _)
 
 module _ (b : List ℕ) (at : ℕ) where
@@ -61,12 +61,12 @@ module _ (b : List ℕ) (at : ℕ) where
   stands d o = eqb (byte b (at + o)) d
 
   -- a dimension that is fresh among the first p bytes stands at none of them
-  fresh-least : (p d : ℕ) → all p (freshAt b at d) ≡ true → least p (stands d) ≡ none
+  fresh-least : (p d : ℕ) → allBelow p (freshAt b at d) ≡ true → least p (stands d) ≡ none
   unfolding freshAt
   fresh-least p d q = least-none-of p (stands d) (λ o h. impossible _ (λ e. true≢false (sym (if-so _ (all-at p _ q o h) e))))
 
   -- a dimension is fresh where its code is 255
-  fresh-code : (p d : ℕ) → p ≤ 4 → eqb (placeCode (least p (stands d))) 255 ≡ all p (freshAt b at d)
+  fresh-code : (p d : ℕ) → p ≤ 4 → eqb (placeCode (least p (stands d))) 255 ≡ allBelow p (freshAt b at d)
   unfolding freshAt
   fresh-code p d few = same-test _ _
       (λ q. all-of p _ (λ o h. if-of _ (λ e. absurd (true≢false (sym e ∙ least-none p (stands d) (go (least p (stands d)) refl q) o h)))))
@@ -78,7 +78,7 @@ module _ (b : List ℕ) (at : ℕ) where
 
   -- a byte that fits is 255, or a dimension that is fresh
   fit-cases : (n p : ℕ) → fitsAt b n at p ≡ true
-      → (byte b (at + p) ≡ 255) ⊎ ((byte b (at + p) ≡ 255 → ⊥) × (byte b (at + p) ≤ n) × (all p (freshAt b at (byte b (at + p))) ≡ true))
+      → (byte b (at + p) ≡ 255) ⊎ ((byte b (at + p) ≡ 255 → ⊥) × (byte b (at + p) ≤ n) × (allBelow p (freshAt b at (byte b (at + p))) ≡ true))
   unfolding fitsAt
   fit-cases n p q = by-cases (ℕ-discrete (byte b (at + p)) 255)
       (λ e. inl e)
@@ -121,8 +121,8 @@ module _ (b : List ℕ) (at : ℕ) where
 
     module _ (n : ℕ) (few : n ≤ 3) where
       -- the entries outside the row are as before
-      pub rowed-else : (p : ℕ) → all p (fitsAt b n at) ≡ true → (k : ℕ) → (k < base) ⊎ (base + 4 ≤ k) → getD (rowed targets base b at p) k 0 ≡ getD targets k 0
-      unfolding rowed all
+      pub rowed-else : (p : ℕ) → allBelow p (fitsAt b n at) ≡ true → (k : ℕ) → (k < base) ⊎ (base + 4 ≤ k) → getD (rowed targets base b at p) k 0 ≡ getD targets k 0
+      unfolding rowed allBelow
       rowed-else zero q k h = refl
       rowed-else (suc p) q k h =
           let before = rowed-else p (and-left _ _ q) k h in
@@ -140,9 +140,9 @@ module _ (b : List ℕ) (at : ℕ) where
 
       module _ (room : base + 4 ≤ length targets) (clear : (i : ℕ) → i < 4 → getD targets (base + i) 0 ≡ 255) where
         -- a row that was clear has for each dimension the first position at which it stands
-        pub rowed-at : (p : ℕ) → all p (fitsAt b n at) ≡ true → (i : ℕ) → i < 4
+        pub rowed-at : (p : ℕ) → allBelow p (fitsAt b n at) ≡ true → (i : ℕ) → i < 4
             → getD (rowed targets base b at p) (base + i) 0 ≡ placeCode (least p (stands i))
-        unfolding rowed all
+        unfolding rowed allBelow
         rowed-at zero q i h = clear i h ∙ ap placeCode (sym (least-none-of 0 (stands i) (λ k l. absurd (omega arith))))
         rowed-at (suc p) q i h =
             let before = rowed-at p (and-left _ _ q) i h in
@@ -154,7 +154,7 @@ module _ (b : List ℕ) (at : ℕ) where
             (λ e. ap (λ (j : ℕ). getD (set (rows p) (base + byte b (at + p)) (16 + p)) (base + j) 0) e
             ∙ getD-set-same (rows p) _ _ 0 (inside (f .1))
             ∙ ap placeCode (sym (least-hit (suc p) (stands i) p (omega arith)
-            (fresh-least p i (ap (λ (d : ℕ). all p (freshAt b at d)) e ∙ f .2)) (eq-eqb _ _ (sym e)))))
+            (fresh-least p i (ap (λ (d : ℕ). allBelow p (freshAt b at d)) e ∙ f .2)) (eq-eqb _ _ (sym e)))))
             (λ ne. getD-set-other (rows p) _ (base + i) _ 0 (λ e. ne (omega arith)) ∙ before ∙ pass (ne-eqb _ _ (λ e. ne (sym e)))))
             (fit-cases n p (and-right _ _ q))
           where
@@ -165,7 +165,7 @@ module _ (b : List ℕ) (at : ℕ) where
             inside u = omega (arith, length-rowed p)
 
         -- the next byte can be marked just if it fits
-        pub rowed-fits : {l : List ℕ} {r : Bool} (p : ℕ) → l ≡ rowed targets base b at p → p ≤ 4 → all p (fitsAt b n at) ≡ true
+        pub rowed-fits : {l : List ℕ} {r : Bool} (p : ℕ) → l ≡ rowed targets base b at p → p ≤ 4 → allBelow p (fitsAt b n at) ≡ true
             → r ≡ markable l base n (byte b (at + p)) → r ≡ fitsAt b n at p
         unfolding fitsAt markable
         rowed-fits {l} p e small q r = r ∙ ⊎-elim
@@ -175,6 +175,6 @@ module _ (b : List ℕ) (at : ℕ) where
             (λ t. or-right _ (let u = or-rest w t in and-of (and-left _ _ u) (code (leb-true _ _ (and-left _ _ u)) ∙ and-right _ _ u))))
             (true-or-false (eqb (byte b (at + p)) 255))
           where
-            code : byte b (at + p) ≤ n → eqb (getD l (base + byte b (at + p)) 0) 255 ≡ all p (freshAt b at (byte b (at + p)))
+            code : byte b (at + p) ≤ n → eqb (getD l (base + byte b (at + p)) 0) 255 ≡ allBelow p (freshAt b at (byte b (at + p)))
             code h = ap (λ (x : ℕ). eqb x 255) (ap (λ (m : List ℕ). getD m (base + byte b (at + p)) 0) e ∙ rowed-at p q (byte b (at + p)) (omega arith))
                 ∙ fresh-code p (byte b (at + p)) small

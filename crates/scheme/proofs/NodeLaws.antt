@@ -8,7 +8,7 @@ use native.Mathlib.Omega.{arith}
 use lib.ListN.{set, replicate}
 use borrow.Author.Tests.{le-leb, lt-leb}
 use Rattle.base.specs.Test.{_and_}
-use Rattle.base.specs.Below.{all}
+use Rattle.base.specs.Below.{allBelow}
 use Rattle.base.specs.Filled.{filled}
 use Rattle.base.specs.Lists.{list}
 use Rattle.base.proofs.TestLaws.{and-left, and-right, and-of, refuted, same-test}
@@ -43,7 +43,7 @@ module _ (b : List ℕ) (s : ℕ) where
 
 module _ (b : List ℕ) where
   pub record Passed (s at : ℕ) (kinds lwords rwords ltargets rtargets : List ℕ) : Type 0 where
-    pub formed : all s (nodeForm b) ≡ true
+    pub formed : allBelow s (nodeForm b) ≡ true
     pub atIs : at ≡ nodeAt b s
     pub kindsIs : kinds ≡ filled 16 s (kindAt b) 0
     pub lwordsIs : lwords ≡ filled 64 (4 * s) (row b left) 255

@@ -8,7 +8,7 @@ use native.Mathlib.Omega.{arith}
 use lib.ListN.{set, replicate}
 use lib.Dec.{ltb, leb}
 use borrow.Author.Tests.{le-leb, lt-leb}
-use Rattle.base.specs.Below.{all}
+use Rattle.base.specs.Below.{allBelow}
 use Rattle.base.specs.Filled.{filled}
 use Rattle.base.proofs.TestLaws.{and-left, and-right, and-of, refuted}
 use Rattle.base.proofs.BelowLaws.{all-at, all-none, all-more, all-ends}
@@ -22,8 +22,8 @@ module _ (b : List ℕ) where
 
   -- `low` is the least dimension that may come next
   pub record Risen (p low : ℕ) (held : List ℕ) : Type 0 where
-    pub dims : all p (λ q. leb (byte b (2 + q)) (byte b 0)) ≡ true
-    pub up : all p (λ q. all q (λ o. ltb (byte b (2 + o)) (byte b (2 + q)))) ≡ true
+    pub dims : allBelow p (λ q. leb (byte b (2 + q)) (byte b 0)) ≡ true
+    pub up : allBelow p (λ q. allBelow q (λ o. ltb (byte b (2 + o)) (byte b (2 + q)))) ≡ true
     pub next : low ≡ above dim p
     pub holds : held ≡ filled 4 p dim 0
 

@@ -8,7 +8,7 @@ use mathlib.Core.List.{List}
 use native.Mathlib.Omega.{arith}
 use lib.ListN.{length, replicate}
 use Rattle.base.specs.Test.{_or_}
-use Rattle.base.specs.Below.{all, any, count}
+use Rattle.base.specs.Below.{allBelow, anyBelow, countBelow}
 use Rattle.base.specs.Lists.{list, listFrom}
 use Rattle.base.proofs.TestLaws.{refuted}
 use Rattle.model.specs.Scheme.{Side, left, right, nodesOf, arcsAt, arcByte, arcCount, orbitForm, nodeForm, arcsForm, arcsOf, placedAt, targetsOf, inForm, schemeOf}
@@ -30,7 +30,7 @@ module _ (b : List ℕ) where
   pub no-orbit : orbitForm b ≡ false → inForm b ≡ false
   no-orbit e = refuted (λ q. parts b q .orbit) e
 
-  pub no-nodes : all (nodesOf b) (nodeForm b) ≡ false → inForm b ≡ false
+  pub no-nodes : allBelow (nodesOf b) (nodeForm b) ≡ false → inForm b ≡ false
   no-nodes e = refuted (λ q. parts b q .nodes) e
 
   pub no-arcs : (side : Side) → arcsForm b side ≡ false → inForm b ≡ false
@@ -38,14 +38,14 @@ module _ (b : List ℕ) where
 
 -- ---- what is known where the arcs are read, and once they are
 
-module _ (b : List ℕ) (l : Layout) (laid : LaidOut b l) (nodes : all (nodesOf b) (nodeForm b) ≡ true) where
+module _ (b : List ℕ) (l : Layout) (laid : LaidOut b l) (nodes : allBelow (nodesOf b) (nodeForm b) ≡ true) where
   -- the arcs of a side are few and lie within the bytes
   side-inside : (side : Side) → (arcCount b side ≤ 64) × (arcsAt b side + 1 + 3 * arcCount b side ≤ length b)
   side-inside left = (omega (arith, laid .lcountIs, laid .lcountFew), omega (arith, laid .ends))
   side-inside right = (omega (arith, laid .rcountIs, laid .rcountFew), omega (arith, laid .ends))
 
-  pub placed-side : {kinds : List ℕ} {from count : ℕ} → kinds ≡ schemeOf b .kinds → (other : ℕ) → (other ≡ 3) ⊎ (other ≡ 1)
-      → from ≡ arcsAt b (sideOf other) + 1 → count ≡ arcCount b (sideOf other) → ArcsPlaced b l kinds other from count
+  pub placed-side : {kinds : List ℕ} {from countBelow : ℕ} → kinds ≡ schemeOf b .kinds → (other : ℕ) → (other ≡ 3) ⊎ (other ≡ 1)
+      → from ≡ arcsAt b (sideOf other) + 1 → countBelow ≡ arcCount b (sideOf other) → ArcsPlaced b l kinds other from countBelow
   placed-side k other o f c = let i = side-inside (sideOf other) in record {
     laid = laid;
     nodes = nodes;
@@ -104,7 +104,7 @@ holds b q o k l r la lt lw ra rt rv = record {
 -- a blank scheme has no arcs
 pub blank-held : Held blank (replicate 4 0) (replicate 16 0) (replicate 64 255) (replicate 64 255) (replicate 192 0) (replicate 64 255) (replicate 192 0) (replicate 64 255)
     (replicate 16 false) (replicate 16 false)
-unfolding blank twiceOf twiceAt arcsOfDim count any list listFrom _or_
+unfolding blank twiceOf twiceAt arcsOfDim countBelow anyBelow list listFrom _or_
 blank-held = record {
   orbitIs = refl;
   kindsIs = refl;

@@ -13,7 +13,7 @@ use lib.Seq.{ext-getD, getD-set-same, getD-set-other}
 use lib.Dec.{eqb}
 use borrow.Author.Tests.{eq-eqb, eqb-true, le-leb, lt-leb}
 use Rattle.base.specs.Test.{_and_}
-use Rattle.base.specs.First.{when, _orElse_}
+use Rattle.base.specs.First.{someIf, _orElse_}
 use Rattle.base.specs.Lists.{list}
 use Rattle.base.proofs.TestLaws.{and-left, and-right, and-of, impossible}
 use Rattle.base.proofs.FirstLaws.{or-else-last}
@@ -52,7 +52,7 @@ hits-else d s k ne = impossible _ (λ t.
 
 -- the end that one more arc gives: the first one stays
 abbrev pub more : (ℕ → ℕ → Option ℕ) → ℕ → ℕ → ℕ → ℕ → ℕ → Option ℕ
-more E d s to u i = E u i orElse when (hits d s u i) to
+more E d s to u i = E u i orElse someIf (hits d s u i) to
 
 module _ (E : ℕ → ℕ → Option ℕ) (D : ℕ → ℕ) where
   -- the table of ends, filled with D
@@ -77,7 +77,7 @@ module _ (E : ℕ → ℕ → Option ℕ) (D : ℕ → ℕ) where
   -- where there was no end, the arc's end is set
   pub ends-set : {l : List ℕ} (d s to : ℕ) → l ≡ endsOr → s < 16 → d < 4 → E s d ≡ none
       → set l (4 * s + d) to ≡ list 64 (λ k. Option·getD (more E d s to (k / 4) (k % 4)) (D k))
-  unfolding when _orElse_
+  unfolding someIf _orElse_
   ends-set {l} d s to e hs hd empty =
       ext-getD 0 _ _ (length-set l _ to ∙ long ∙ sym (length-list 64 _)) (λ k h.
       let h′ : k < 64 = omega (arith, length-set l (4 * s + d) to, long) in
@@ -91,23 +91,23 @@ module _ (E : ℕ → ℕ → Option ℕ) (D : ℕ → ℕ) where
       here k h q =
           let none′ : E (k / 4) (k % 4) ≡ none = sym (same-end d s k hd q) ∙ empty in
           ap (λ (j : ℕ). getD (set l (4 * s + d) to) j 0) q ∙ getD-set-same l (4 * s + d) to 0 (omega (arith, long))
-          ∙ sym (getD-list 64 k _ 0 h ∙ ap₂ (λ (o : Option ℕ) (t : Bool). Option·getD (o orElse when t to) (D k)) none′ (hits-here d s k hd q))
+          ∙ sym (getD-list 64 k _ 0 h ∙ ap₂ (λ (o : Option ℕ) (t : Bool). Option·getD (o orElse someIf t to) (D k)) none′ (hits-here d s k hd q))
 
       kept : (k : ℕ) → k < 64 → (k ≡ 4 * s + d → ⊥)
           → getD (set l (4 * s + d) to) k 0 ≡ getD (list 64 (λ k. Option·getD (more E d s to (k / 4) (k % 4)) (D k))) k 0
       kept k h ne = getD-set-other l (4 * s + d) k to 0 ne ∙ ap (λ (m : List ℕ). getD m k 0) e ∙ getD-list 64 k _ 0 h
-          ∙ sym (getD-list 64 k _ 0 h ∙ ap (λ (t : Bool). Option·getD (E (k / 4) (k % 4) orElse when t to) (D k)) (hits-else d s k ne)
+          ∙ sym (getD-list 64 k _ 0 h ∙ ap (λ (t : Bool). Option·getD (E (k / 4) (k % 4) orElse someIf t to) (D k)) (hits-else d s k ne)
           ∙ ap (λ (o : Option ℕ). Option·getD o (D k)) (or-else-last (E (k / 4) (k % 4))))
 
   -- where there was an end, nothing changes
   pub ends-kept : {l : List ℕ} (d s to x : ℕ) → l ≡ endsOr → d < 4 → E s d ≡ some x
       → l ≡ list 64 (λ k. Option·getD (more E d s to (k / 4) (k % 4)) (D k))
-  unfolding when _orElse_
+  unfolding someIf _orElse_
   ends-kept d s to x e hd is = e ∙ list-same 64 _ _ (λ k h. by-cases (ℕ-discrete k (4 * s + d))
       (λ q.
       let there : E (k / 4) (k % 4) ≡ some x = sym (same-end d s k hd q) ∙ is in
       ap (λ (o : Option ℕ). Option·getD o (D k)) there
-      ∙ sym (ap (λ (o : Option ℕ). Option·getD (o orElse when (hits d s (k / 4) (k % 4)) to) (D k)) there))
+      ∙ sym (ap (λ (o : Option ℕ). Option·getD (o orElse someIf (hits d s (k / 4) (k % 4)) to) (D k)) there))
       (λ ne.
-      sym (ap (λ (t : Bool). Option·getD (E (k / 4) (k % 4) orElse when t to) (D k)) (hits-else d s k ne)
+      sym (ap (λ (t : Bool). Option·getD (E (k / 4) (k % 4) orElse someIf t to) (D k)) (hits-else d s k ne)
       ∙ ap (λ (o : Option ℕ). Option·getD o (D k)) (or-else-last (E (k / 4) (k % 4))))))

@@ -10,7 +10,7 @@ use native.Mathlib.Omega.{arith}
 use lib.Dec.{eqb, ltb, leb}
 use borrow.Author.Tests.{eqb-true, eq-eqb, lt-ltb, ltb-true, ltb-false}
 use Rattle.base.specs.Test.{_and_, _or_, bit}
-use Rattle.base.specs.Below.{count}
+use Rattle.base.specs.Below.{countBelow}
 use Rattle.base.specs.First.{least}
 use Rattle.base.proofs.TestLaws.{and-right, or-cases, if-so, true-or-false}
 use Rattle.base.proofs.BelowLaws.{all-at, any-same, count-zero, count-single, count-some, count-same}
@@ -37,7 +37,7 @@ module _ (b : List ℕ) (q : inForm b ≡ true) (side : Side) where
 
   module _ (s i : ℕ) (h : s < 16) (l : i < 4) where
     -- a word has a dimension at one position at most
-    words-once : count (schemeOf b .places) (reads (schemeOf b) side s i) ≤ 1
+    words-once : countBelow (schemeOf b .places) (reads (schemeOf b) side s i) ≤ 1
     unfolding wordForm
     words-once = rw places-is (⊎-elim
         (λ e. let n = ltb-true s (nodesOf b) e in count-single (placesOf b) _ (λ j k m k< u v.
@@ -50,10 +50,10 @@ module _ (b : List ℕ) (q : inForm b ≡ true) (side : Side) where
         (λ e. let z = count-zero (placesOf b) _ (no-place b q side s i (ltb-false s (nodesOf b) e) h l) in omega arith)
         (true-or-false (ltb s (nodesOf b))))
 
-    place-bit : count (schemeOf b .places) (reads (schemeOf b) side s i) ≡ bit (ltb (placedAt b side (4 * s + i)) 255)
+    place-bit : countBelow (schemeOf b .places) (reads (schemeOf b) side s i) ≡ bit (ltb (placedAt b side (4 * s + i)) 255)
     place-bit = rw (place-is b q side s i h l, ← places-is) (go (least (schemeOf b .places) (reads (schemeOf b) side s i)) refl)
       where
-        go : (o : Option ℕ) → least (schemeOf b .places) (reads (schemeOf b) side s i) ≡ o → count (schemeOf b .places) (reads (schemeOf b) side s i) ≡ bit (ltb (placeCode o) 255)
+        go : (o : Option ℕ) → least (schemeOf b .places) (reads (schemeOf b) side s i) ≡ o → countBelow (schemeOf b .places) (reads (schemeOf b) side s i) ≡ bit (ltb (placeCode o) 255)
         go none e = count-zero (schemeOf b .places) _ (λ p k. least-none (schemeOf b .places) _ e p k)
         go (some p) e =
             let w = least-at (schemeOf b .places) _ p e in
@@ -64,14 +64,14 @@ module _ (b : List ℕ) (q : inForm b ≡ true) (side : Side) where
             let once = words-once in
             rw (lt-ltb (16 + p) 255 below) (omega arith)
 
-    touching-same : count (arcCount b side) (touching (arcByte b side) s i) ≡ count (arcs (schemeOf b) side) (touching (arcPart (schemeOf b) side) s i)
+    touching-same : countBelow (arcCount b side) (touching (arcByte b side) s i) ≡ countBelow (arcs (schemeOf b) side) (touching (arcPart (schemeOf b) side) s i)
     touching-same = rw arcs-is (count-same (arcCount b side) _ _ (λ a k. each
         (value-arc b q side a 0 k (omega arith)) (value-arc b q side a 1 k (omega arith)) (value-arc b q side a 2 k (omega arith))))
       where
         each : {d d′ x x′ y y′ : ℕ} → d′ ≡ d → x′ ≡ x → y′ ≡ y → (eqb d i and (eqb x s or eqb y s)) ≡ (eqb d′ i and (eqb x′ s or eqb y′ s))
         each e f g = rw (e, f, g)
 
-    number-same : count (arcCount b side) (touching (arcByte b side) s i) + bit (ltb (placedAt b side (4 * s + i)) 255) ≡ arcsOfDim (schemeOf b) side s i
+    number-same : countBelow (arcCount b side) (touching (arcByte b side) s i) + bit (ltb (placedAt b side (4 * s + i)) 255) ≡ arcsOfDim (schemeOf b) side s i
     unfolding arcsOfDim
     number-same = ap₂ _+_ touching-same (sym place-bit)
 

@@ -13,7 +13,7 @@ use lib.Seq.{ext-getD}
 use lib.Dec.{eqb, ltb}
 use borrow.Author.Tests.{eq-eqb, ne-eqb, eqb-true, lt-ltb, le-ltb, ltb-true, ltb-false}
 use Rattle.base.specs.Test.{_and_, _or_, _⇒_}
-use Rattle.base.specs.Below.{all}
+use Rattle.base.specs.Below.{allBelow}
 use Rattle.base.specs.First.{least}
 use Rattle.base.specs.Filled.{filled, stored}
 use Rattle.base.proofs.TestLaws.{and-left, and-right, and-of, or-left, or-right, or-rest, true-or-false, same-test}
@@ -48,17 +48,17 @@ module _ (b : List ℕ) where
   word-at left s p = refl
   word-at right s p = refl
 
-  word-form : (side : Side) (s : ℕ) → wordForm b side s ≡ all (placesOf b) (fitsAt b (byte b 0) (wordPlace b side s))
+  word-form : (side : Side) (s : ℕ) → wordForm b side s ≡ allBelow (placesOf b) (fitsAt b (byte b 0) (wordPlace b side s))
   unfolding wordForm fitsAt freshAt
   word-form left s = refl
   word-form right s = refl
 
-  word-empty : (side : Side) (s : ℕ) → wordEmpty b side s ≡ (onSide side (kindAt b s) or all (placesOf b) (emptyAt b (wordPlace b side s)))
+  word-empty : (side : Side) (s : ℕ) → wordEmpty b side s ≡ (onSide side (kindAt b s) or allBelow (placesOf b) (emptyAt b (wordPlace b side s)))
   unfolding wordEmpty emptyAt
   word-empty left s = refl
   word-empty right s = refl
 
-  empty-form : (side : Side) (s : ℕ) → all (placesOf b) (emptyAt b (wordPlace b side s)) ≡ true → wordForm b side s ≡ true
+  empty-form : (side : Side) (s : ℕ) → allBelow (placesOf b) (emptyAt b (wordPlace b side s)) ≡ true → wordForm b side s ≡ true
   unfolding emptyAt
   empty-form side s q = word-form side s ∙ all-of _ _ (λ p l. sym (empty-fits b (wordPlace b side s) (byte b 0) p (eqb-true _ _ (all-at _ _ q p l))))
 
@@ -142,14 +142,14 @@ module _ (b : List ℕ) (s other kind n places at : ℕ) (w : Placed b s other k
   on : onSide side (kindAt b s) ≡ (eqb kind other ⇒ false)
   on = ap (onSide side) (sym (w .kindIs)) ∙ on-side (w .sideIs) (w .kindSome) (w .kindFew)
 
-  here : all places (fitsAt b n at) ≡ wordForm b side s
+  here : allBelow places (fitsAt b n at) ≡ wordForm b side s
   here = rw (w .placesIs, w .nIs, w .atIs) (sym (word-form b side s))
 
-  there : all places (emptyAt b at) ≡ all (placesOf b) (emptyAt b place)
+  there : allBelow places (emptyAt b at) ≡ allBelow (placesOf b) (emptyAt b place)
   there = rw (w .placesIs, w .atIs) refl
 
   -- the word of a node that the side has
-  pub on-form : {r : Bool} → (kind ≡ other → ⊥) → r ≡ all places (fitsAt b n at) → r ≡ (wordForm b side s and wordEmpty b side s)
+  pub on-form : {r : Bool} → (kind ≡ other → ⊥) → r ≡ allBelow places (fitsAt b n at) → r ≡ (wordForm b side s and wordEmpty b side s)
   unfolding _⇒_
   on-form ne e =
       let full : wordEmpty b side s ≡ true = word-empty b side s ∙ or-left _ (on ∙ ap (λ (t : Bool). t ⇒ false) (ne-eqb _ _ ne)) in
@@ -165,7 +165,7 @@ module _ (b : List ℕ) (s other kind n places at : ℕ) (w : Placed b s other k
       (omega arith) (λ k h u. row-rest b side s k h u)
 
   -- the word of a node that the side has not
-  pub off-form : {r : Bool} → kind ≡ other → r ≡ all places (emptyAt b at) → r ≡ (wordForm b side s and wordEmpty b side s)
+  pub off-form : {r : Bool} → kind ≡ other → r ≡ allBelow places (emptyAt b at) → r ≡ (wordForm b side s and wordEmpty b side s)
   unfolding _⇒_
   off-form eq e =
       let off : onSide side (kindAt b s) ≡ false = on ∙ ap (λ (t : Bool). t ⇒ false) (eq-eqb _ _ eq) in
@@ -173,7 +173,7 @@ module _ (b : List ℕ) (s other kind n places at : ℕ) (w : Placed b s other k
       (λ q. and-of (empty-form b side s q) (word-empty b side s ∙ or-right _ q))
       (λ q. or-rest off (sym (word-empty b side s) ∙ and-right _ _ q))
 
-  pub off-value : {l : List ℕ} → l ≡ filled 64 (4 * s) (row b side) 255 → all places (emptyAt b at) ≡ true → l ≡ filled 64 (4 * (s + 1)) (row b side) 255
+  pub off-value : {l : List ℕ} → l ≡ filled 64 (4 * s) (row b side) 255 → allBelow places (emptyAt b at) ≡ true → l ≡ filled 64 (4 * (s + 1)) (row b side) 255
   unfolding emptyAt
   off-value e q =
       let few = w .few in
@@ -192,7 +192,7 @@ module _ (b : List ℕ) (s other kind n places at : ℕ) (w : Placed b s other k
       (filled-length 64 _ 255 _ e, λ i h. filled-high 64 _ 255 _ e (4 * s + i) (omega arith) (omega arith))
 
   -- the table with the word of a node that the side has
-  pub on-targets : {l : List ℕ} → n ≤ 3 → l ≡ filled 64 (4 * s) (placed b side) 255 → all places (fitsAt b n at) ≡ true
+  pub on-targets : {l : List ℕ} → n ≤ 3 → l ≡ filled 64 (4 * s) (placed b side) 255 → allBelow places (fitsAt b n at) ≡ true
       → rowed l (4 * s) b at places ≡ filled 64 (4 * (s + 1)) (placed b side) 255
   on-targets {l} few e q =
       let small = w .small in
@@ -220,7 +220,7 @@ module _ (b : List ℕ) (s other kind n places at : ℕ) (w : Placed b s other k
       (true-or-false (ltb k (4 * s))))
 
   -- an empty word leaves the table as it is
-  pub off-targets : {l : List ℕ} → l ≡ filled 64 (4 * s) (placed b side) 255 → all places (emptyAt b at) ≡ true → l ≡ filled 64 (4 * (s + 1)) (placed b side) 255
+  pub off-targets : {l : List ℕ} → l ≡ filled 64 (4 * s) (placed b side) 255 → allBelow places (emptyAt b at) ≡ true → l ≡ filled 64 (4 * (s + 1)) (placed b side) 255
   unfolding emptyAt
   off-targets e q =
       filled-over 64 (placed b side) 255 (4 * s) (4 * (s + 1)) e (omega arith) (λ k h u.

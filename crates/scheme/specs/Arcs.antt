@@ -8,7 +8,7 @@ use mathlib.Core.List.{List}
 use lib.ListN.{length, getD}
 use lib.Dec.{eqb, ltb, leb}
 use Rattle.base.specs.Test.{_and_, _⇒_}
-use Rattle.base.specs.Below.{all}
+use Rattle.base.specs.Below.{allBelow}
 use Rattle.model.specs.Scheme.{nodesOf, arcsAt, arcCount, nodeForm, schemeOf}
 use Rattle.scheme.specs.Frame.{LaidOut}
 use Rattle.scheme.specs.Words.{sideOf}
@@ -17,7 +17,7 @@ use Rattle.scheme.specs.declared.frame.Layout.{Layout}
 -- the arcs of the side that has not the nodes of the kind `other`, after nodes that are in the form
 pub record ArcsPlaced (b : List ℕ) (l : Layout) (kinds : List ℕ) (other from count : ℕ) : Type 0 where
   pub laid : LaidOut b l
-  pub nodes : all (nodesOf b) (nodeForm b) ≡ true
+  pub nodes : allBelow (nodesOf b) (nodeForm b) ≡ true
   pub kindsAre : kinds ≡ schemeOf b .kinds
   pub sideIs : (other ≡ 3) ⊎ (other ≡ 1)
   pub fromIs : from ≡ arcsAt b (sideOf other) + 1

@@ -7,7 +7,7 @@ use mathlib.Core.List.{List}
 use lib.ListN.{getD, set}
 use lib.Dec.{eqb, ltb, leb}
 use Rattle.base.specs.Test.{_and_, _or_, bit}
-use Rattle.base.specs.Below.{any, count}
+use Rattle.base.specs.Below.{anyBelow, countBelow}
 use Rattle.base.specs.Lists.{list}
 use Rattle.model.specs.Scheme.{byte, touching}
 
@@ -45,4 +45,4 @@ pub data Linked (d s t : ℕ) (targets : List ℕ) (twice : List Bool) (targets�
 
 -- the nodes with two arcs after the first c explicit ones, beside the implicit ones
 unfoldable pub twiceTo : (ℕ → ℕ) → (ℕ → ℕ → ℕ) → ℕ → List Bool
-twiceTo place part c = list 16 (λ s. any 4 (λ i. leb 2 (count c (touching part s i) + bit (ltb (place (4 * s + i)) 255))))
+twiceTo place part c = list 16 (λ s. anyBelow 4 (λ i. leb 2 (countBelow c (touching part s i) + bit (ltb (place (4 * s + i)) 255))))

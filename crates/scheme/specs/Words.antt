@@ -5,7 +5,7 @@ use mathlib.Core.Bool.{Bool, false, cond}
 use mathlib.Core.List.{List}
 use lib.Dec.{eqb, leb}
 use Rattle.base.specs.Test.{_and_, _or_, _⇒_}
-use Rattle.base.specs.Below.{all}
+use Rattle.base.specs.Below.{allBelow}
 use Rattle.model.specs.Scheme.{Side, left, right, byte, placesOf, nodeAt, wordAt, upTo}
 
 -- the side that has not the nodes of this kind
@@ -30,4 +30,4 @@ module _ (b : List ℕ) where
   emptyAt at p = eqb (byte b (at + p)) 255
 
   unfoldable pub fitsAt : ℕ → ℕ → ℕ → Bool
-  fitsAt n at p = eqb (byte b (at + p)) 255 or leb (byte b (at + p)) n and all p (freshAt at (byte b (at + p)))
+  fitsAt n at p = eqb (byte b (at + p)) 255 or leb (byte b (at + p)) n and allBelow p (freshAt at (byte b (at + p)))

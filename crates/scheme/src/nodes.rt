@@ -7,7 +7,7 @@ ghost use mathlib.Core.Bool.{true};
 ghost use Prim.Native.Nat.{ℕ, _+_, _*_, _≤_, _<_};
 ghost use lib.ListN.{length, getD, replicate};
 ghost use Rattle.base.specs.Test.{_and_};
-ghost use Rattle.base.specs.Below.{all};
+ghost use Rattle.base.specs.Below.{allBelow};
 ghost use Rattle.base.specs.Filled.{filled, stored};
 ghost use Rattle.base.specs.Lists.{list};
 ghost use Rattle.model.specs.Scheme.{nodesOf, nodeAt, kindAt, orbitForm, wordForm, wordEmpty, nodeForm, left, right, placed, placedAt, schemeOf};
@@ -44,7 +44,7 @@ pub(crate) fn read_orbit(bytes: &[u8], l: Layout, orbit: &mut [u8; 4]) -> bool
 // Every byte of the word at `at` is 255.
 fn empty(bytes: &[u8], at: usize, places: usize) -> bool
     requires { ⌜ at + places ≤ length (now bytes) ⌝ }
-    ensures { λ r. ⌜ r ≡ all places (emptyAt (now (bytes .entry)) at) ⌝ }
+    ensures { λ r. ⌜ r ≡ allBelow places (emptyAt (now (bytes .entry)) at) ⌝ }
 {
     let mut p = 0;
     while p < places {
@@ -87,7 +87,7 @@ fn read_word(
 ) -> bool
     requires { ⌜ (n ≤ 3) × (at + places ≤ length (now bytes)) × (places ≤ 4) × (base + 4 ≤ 64) ⌝ }
     requires { ⌜ (length (now targets) ≡ 64) × ((i : ℕ) → i < 4 → getD (now targets) (base + i) 0 ≡ 255) ⌝ }
-    ensures { λ r. ⌜ r ≡ all places (fitsAt (now (bytes .entry)) n at) ⌝ }
+    ensures { λ r. ⌜ r ≡ allBelow places (fitsAt (now (bytes .entry)) n at) ⌝ }
     ensures { λ r. ⌜ (r ≡ true → now (words .exit) ≡ stored (now (words .entry)) base (now (bytes .entry)) at places) ⌝ }
     ensures { λ r. ⌜ (r ≡ true → now (targets .exit) ≡ rowed (now (targets .entry)) base (now (bytes .entry)) at places) ⌝ }
 {
@@ -187,7 +187,7 @@ pub(crate) fn read_nodes(
     requires { ⌜ LaidOut (now bytes) l ⌝ }
     requires { ⌜ (now kinds ≡ replicate 16 0) × (now lwords ≡ replicate 64 255) × (now rwords ≡ replicate 64 255) ⌝ }
     requires { ⌜ (now ltargets ≡ replicate 64 255) × (now rtargets ≡ replicate 64 255) ⌝ }
-    ensures { λ r. ⌜ r ≡ all (nodesOf (now (bytes .entry))) (nodeForm (now (bytes .entry))) ⌝ }
+    ensures { λ r. ⌜ r ≡ allBelow (nodesOf (now (bytes .entry))) (nodeForm (now (bytes .entry))) ⌝ }
     ensures { λ r. ⌜ (r ≡ true → now (kinds .exit) ≡ schemeOf (now (bytes .entry)) .kinds) ⌝ }
     ensures { λ r. ⌜ (r ≡ true → now (lwords .exit) ≡ schemeOf (now (bytes .entry)) .lwords) ⌝ }
     ensures { λ r. ⌜ (r ≡ true → now (rwords .exit) ≡ schemeOf (now (bytes .entry)) .rwords) ⌝ }

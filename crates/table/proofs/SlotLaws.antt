@@ -8,7 +8,7 @@ use native.Mathlib.Omega.{arith}
 use lib.Dec.{eqb, ltb, leb}
 use borrow.Author.Tests.{eqb-true, eqb-false, eq-eqb, ne-eqb, ltb-true, lt-ltb, le-ltb, leb-true, le-leb, not-true, not-false}
 use Rattle.base.specs.Test.{_and_, _or_, _⇒_}
-use Rattle.base.specs.Below.{all, count}
+use Rattle.base.specs.Below.{allBelow, countBelow}
 use Rattle.model.specs.Map.{Map, live, unused}
 use Rattle.model.specs.WellFormed.{WellFormed, wellFormed, linkOk, allPairs}
 use Rattle.base.proofs.TestLaws.{and-left, and-right, and-of, and-assoc, and-no-left, and-no-right, or-cases, or-left, or-right, if-so, if-of, true-or-false, same-test, eqb-same, refuted, impossible}
@@ -75,7 +75,7 @@ module _ (m : Map) (x : ℕ) where
   -- where the links 0 and 1 lead to slots, the test is that of the 2-link
   pub inside-last : (y z v : ℕ) → y ≡ m .link 0 x → z ≡ m .link 1 x → v ≡ m .link 2 x → y < m .slots → z < m .slots
       → ltb v (m .slots) ≡ insideOk m x
-  unfolding insideOk all _and_
+  unfolding insideOk allBelow _and_
   inside-last y z v e f g h k = rw (← e, ← f, ← g, lt-ltb _ _ h, lt-ltb _ _ k)
 
   -- a link to a slot is right where it leads to a live dart, and back
@@ -186,7 +186,7 @@ module _ (n : ℕ) (m : Map) (x : ℕ) where
 
   -- for n = 2 three tests make a dart right
   two-of : n ≡ 2 → nearOk m x ≡ true → farOk m x 2 ≡ true → eqb (m .link 3 x) x ≡ true → cornersOk n m x ≡ true
-  unfolding cornersOk allPairs all _and_ _⇒_
+  unfolding cornersOk allPairs allBelow _and_ _⇒_
   two-of two a b c = rw (two, near-0 a, near-1 a, far-link 2 b, far-corner 2 b, c)
 
   -- for n = 2 the tests of a dart are those three, joined
@@ -197,7 +197,7 @@ module _ (n : ℕ) (m : Map) (x : ℕ) where
 
   -- for n = 3 four tests make a dart right
   three-of : n ≡ 3 → nearOk m x ≡ true → farOk m x 2 ≡ true → farOk m x 3 ≡ true → cornerOk m x 1 3 ≡ true → cornersOk n m x ≡ true
-  unfolding cornersOk allPairs all _and_ _⇒_
+  unfolding cornersOk allPairs allBelow _and_ _⇒_
   three-of three a b c d = rw (three, near-0 a, near-1 a, far-link 2 b, far-corner 2 b, far-link 3 c, far-corner 3 c, d)
 
   -- for n = 3 the tests of a dart are those four, joined
@@ -254,11 +254,11 @@ module _ (n : ℕ) (m : Map) (s : (x : ℕ) → x < m .slots → slotOk n m x �
 -- the slots below x are right, and k darts of them are live
 pub record Passed (n : ℕ) (m : Map) (x k : ℕ) : Type 0 where
   pub fits : x ≤ m .slots
-  pub right : all x (slotOk n m) ≡ true
-  pub counted : k ≡ count x (live m)
+  pub right : allBelow x (slotOk n m) ≡ true
+  pub counted : k ≡ countBelow x (live m)
 
 pub pass-none : (n : ℕ) (m : Map) → Passed n m 0 0
-unfolding all count
+unfolding allBelow countBelow
 pass-none n m = record { fits = omega arith; right = refl; counted = refl }
 
 pub pass-few : (n : ℕ) (m : Map) (x k : ℕ) → Passed n m x k → k ≤ x

@@ -4,7 +4,7 @@ use Prim.Native.Nat.{ℕ}
 use mathlib.Core.Path.{_≡_, refl, sym, _∙_}
 use mathlib.Core.Bool.{Bool, true, false, cond}
 use native.Mathlib.Omega.{arith}
-use Rattle.base.specs.Below.{count}
+use Rattle.base.specs.Below.{countBelow}
 use Rattle.model.specs.Map.{Map, live}
 use Rattle.model.specs.WellFormed.{wellFormed}
 use Rattle.table.specs.Slots.{surveyed}
@@ -20,7 +20,7 @@ told-broken true k e = absurd (let z : _≡_ {A = ℕ} 0 1 = cc in omega arith)
 told-broken false k e = refl
 
 module _ (n : ℕ) (m : Map) (f : Finding) (s : f ≡ surveyed n m) where
-  pub survey-live : (k : ℕ) → f ≡ Live k → (wellFormed n m ≡ true) × (k ≡ count (m .slots) (live m))
+  pub survey-live : (k : ℕ) → f ≡ Live k → (wellFormed n m ≡ true) × (k ≡ countBelow (m .slots) (live m))
   unfolding surveyed
   survey-live k e = told-live _ _ k (sym s ∙ e)
 

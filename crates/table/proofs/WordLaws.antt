@@ -9,7 +9,7 @@ use native.Mathlib.Omega.{arith}
 use lib.ListN.{length, getD, length-set}
 use lib.Seq.{getD-set-same, getD-set-other, ext-getD}
 use Rattle.base.proofs.ListLaws.{getD-joined}
-use Rattle.model.specs.Map.{Map, view, tableSize, recordOf, words}
+use Rattle.model.specs.Map.{Map, view, tableSize, recordOf, tableOf}
 use Rattle.model.proofs.MapLaws.{length-words}
 use Rattle.table.specs.Words.{Sized, wordAt, put}
 
@@ -48,12 +48,12 @@ module _ (N : ℕ) (t : List ℕ) (x : ℕ) where
 
 -- a table that has the words of a map's records is the map's table
 pub words-by : (m : Map) (t : List ℕ) → length t ≡ tableSize (m .slots)
-    → ((x c : ℕ) → x < m .slots → c < 6 → wordAt t x c ≡ getD (recordOf m x) c 0) → t ≡ words m
-unfolding wordAt words
-words-by m t e f = ext-getD 0 t (words m) (e ∙ sym (length-words m)) (λ i h.
+    → ((x c : ℕ) → x < m .slots → c < 6 → wordAt t x c ≡ getD (recordOf m x) c 0) → t ≡ tableOf m
+unfolding wordAt tableOf
+words-by m t e f = ext-getD 0 t (tableOf m) (e ∙ sym (length-words m)) (λ i h.
     let x : i / 6 < m .slots = omega arith in
     let c : i % 6 < 6 = omega arith in
     let at : 6 * (i / 6) + i % 6 ≡ i = omega arith in
     ap (λ (k : ℕ). getD t k 0) (sym at) ∙ f (i / 6) (i % 6) x c
     ∙ sym (getD-joined 6 (recordOf m) (λ y. refl) (m .slots) (i / 6) (i % 6) 0 x c)
-    ∙ ap (λ (k : ℕ). getD (words m) k 0) at)
+    ∙ ap (λ (k : ℕ). getD (tableOf m) k 0) at)

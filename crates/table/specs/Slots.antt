@@ -5,7 +5,7 @@ use Prim.Native.Nat.{ℕ, suc}
 use mathlib.Core.Bool.{Bool, cond}
 use lib.Dec.{eqb, ltb}
 use Rattle.base.specs.Test.{_and_, _or_, _⇒_}
-use Rattle.base.specs.Below.{all, count}
+use Rattle.base.specs.Below.{allBelow, countBelow}
 use Rattle.model.specs.Map.{Map, live, unused}
 use Rattle.model.specs.WellFormed.{linkOk, allPairs, wellFormed}
 use Rattle.table.specs.declared.Finding.{Finding}
@@ -21,7 +21,7 @@ frontOk m y v = live m y and eqb (m .link 0 y) v
 
 -- the links 0, 1 and 2 of x lead to slots
 unfoldable pub insideOk : Map → ℕ → Bool
-insideOk m x = all 3 (λ i. ltb (m .link i x) (m .slots))
+insideOk m x = allBelow 3 (λ i. ltb (m .link i x) (m .slots))
 
 -- the 0-link and the 1-link of x are right
 unfoldable pub nearOk : Map → ℕ → Bool
@@ -32,11 +32,11 @@ unfoldable pub farOk : Map → ℕ → ℕ → Bool
 farOk m x i = linkOk m x i and cornerOk m x 0 i
 
 unfoldable pub cornersOk : ℕ → Map → ℕ → Bool
-cornersOk n m x = all (suc n) (linkOk m x) and (eqb n 2 ⇒ eqb (m .link 3 x) x) and allPairs n (cornerOk m x)
+cornersOk n m x = allBelow (suc n) (linkOk m x) and (eqb n 2 ⇒ eqb (m .link 3 x) x) and allPairs n (cornerOk m x)
 
 unfoldable pub slotOk : ℕ → Map → ℕ → Bool
 slotOk n m x = (unused m x or live m x) and (live m x ⇒ cornersOk n m x)
 
 -- what the survey of a map finds
 unfoldable pub surveyed : ℕ → Map → Finding
-surveyed n m = cond (wellFormed n m) (Live (count (m .slots) (live m))) Broken
+surveyed n m = cond (wellFormed n m) (Live (countBelow (m .slots) (live m))) Broken

@@ -7,7 +7,7 @@ use native.Mathlib.Omega.{arith}
 use borrow.Author.Needs.{needs}
 use borrow.Author.Tests.{not-true, not-false}
 use denote.Ref.{now}
-use Rattle.base.specs.Below.{count}
+use Rattle.base.specs.Below.{countBelow}
 use Rattle.model.specs.Map.{view, live}
 use Rattle.model.specs.WellFormed.{wellFormed}
 use Rattle.model.specs.Calls.{sizesOk}
@@ -21,7 +21,7 @@ sized : (c : tie.Else1) → let a = c .before .before .before .before .args in s
 sized c = sym (c .before .sizes .ensures) ∙ not-false _ (c .if1 .left)
 
 surveyed : (c : tie.After-found) → let a = c .before .before .before .before .before .before .before .args in let m = view (a .slots) (now (a .table)) in
-    (wellFormed (a .n) m ≡ true) × (c .found .given .0 .0 ≡ count (a .slots) (live m))
+    (wellFormed (a .n) m ≡ true) × (c .found .given .0 .0 ≡ countBelow (a .slots) (live m))
 surveyed c = survey-live _ _ _ (c .before .before .survey .ensures) _ (c .found .given .1)
 
 few : (c : tie.After-found) → c .found .given .0 .0 * (6 + 2 * (c .before .before .before .before .before .before .before .args .n + 1)) ≤ 1024 * 14

@@ -6,7 +6,7 @@ use mathlib.Core.Bool.{true}
 use borrow.Author.Tests.{not-true, not-false}
 use denote.Ref.{now}
 use borrow.Author.Needs.{needs}
-use Rattle.base.specs.Below.{all}
+use Rattle.base.specs.Below.{allBelow}
 use Rattle.model.specs.Scheme.{left, right, nodesOf, nodeForm}
 use Rattle.scheme.specs.Frame.{LaidOut}
 use Rattle.scheme.specs.Reading.{blank}
@@ -27,7 +27,7 @@ past-nodes c = c .before .before .before .before .before .before .before
 laid : (c : tie.After-known-told) → LaidOut (now (c .before .before .before .before .before .args .bytes)) (c .before .l .given .0 .0)
 laid c = rw (c .before .l .given .1) at (c .before .before .before .frame .ensures)
 
-nodes : (c : tie.Else2) → let b = now (told (past-orbit c) .before .before .before .before .before .args .bytes) in all (nodesOf b) (nodeForm b) ≡ true
+nodes : (c : tie.Else2) → let b = now (told (past-orbit c) .before .before .before .before .before .args .bytes) in allBelow (nodesOf b) (nodeForm b) ≡ true
 nodes c = sym (c .before .read-nodes .ensures .0) ∙ not-false _ (c .if2 .left)
 
 frame-requires : tie.Need-frame-requires

@@ -9,20 +9,20 @@ use borrow.Author.Needs.{needs}
 use borrow.Author.Tests.{eq-eqb, ne-eqb}
 use denote.Ref.{now}
 use Rattle.base.proofs.BelowLaws.{count-le}
-use Rattle.base.specs.Below.{count}
+use Rattle.base.specs.Below.{countBelow}
 use Rattle.model.specs.Map.{view}
 use Rattle.bench.proofs.SessionLaws.{tally-hit, tally-miss}
 use Rattle.bench.proofs.session.tally.Statement.{statement}
 use Rattle.bench.proofs.session.tally.Tie as tie
 
 abbrev Inv-loop : tie.InvT-loop
-Inv-loop slots table s found₀ x₀ found x = (x ≤ slots) × (found ≡ count x (λ y. eqb (view slots table .state y) s))
+Inv-loop slots table s found₀ x₀ found x = (x ≤ slots) × (found ≡ countBelow x (λ y. eqb (view slots table .state y) s))
 
 abbrev μ-loop : tie.MeasureT-loop
 μ-loop slots table s found₀ x₀ found x = slots - x
 
 loop-holds : tie.Need-loop-holds Inv-loop μ-loop
-unfolding count
+unfolding countBelow
 loop-holds c = (omega arith, refl)
 
 state-requires : tie.Need-state-requires Inv-loop μ-loop

@@ -5,14 +5,14 @@ use mathlib.Core.Path.{_≡_, refl}
 use mathlib.Core.Bool.{true}
 use native.Mathlib.Omega.{arith}
 use borrow.Author.Tests.{eq-eqb}
-use Rattle.base.specs.Below.{all}
+use Rattle.base.specs.Below.{allBelow}
 use Rattle.base.proofs.BelowLaws.{all-more}
 use Rattle.conditions.proofs.HookLaws.{Read, hook-added, hook-other, hook-whole}
 use Rattle.conditions.proofs.hook.hooked.Statement.{statement}
 use Rattle.conditions.proofs.hook.hooked.Tie as tie
 
 abbrev Inv-loop : tie.InvT-loop
-Inv-loop places orbit kinds words p₀ p = (p ≤ places) × (all p (Read places orbit kinds words) ≡ true)
+Inv-loop places orbit kinds words p₀ p = (p ≤ places) × (allBelow p (Read places orbit kinds words) ≡ true)
 
 abbrev μ-loop : tie.MeasureT-loop
 μ-loop places orbit kinds words p₀ p = places - p
@@ -24,7 +24,7 @@ returns : tie.Need-returns Inv-loop μ-loop
 returns c = hook-added _ _ _ _ (c .if1 .taken)
 
 loop-holds : tie.Need-loop-holds Inv-loop μ-loop
-unfolding all
+unfolding allBelow
 loop-holds c = (omega arith, refl)
 
 element-copy-out-if2 : tie.Need-element-copy-out-if2 Inv-loop μ-loop

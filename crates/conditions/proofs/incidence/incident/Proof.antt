@@ -6,20 +6,20 @@ use mathlib.Core.Bool.{true}
 use native.Mathlib.Omega.{arith}
 use borrow.Author.Needs.{needs}
 use borrow.Author.Tests.{not-false}
-use Rattle.base.specs.Below.{all}
+use Rattle.base.specs.Below.{allBelow}
 use Rattle.base.proofs.BelowLaws.{all-more}
 use Rattle.conditions.proofs.IncidenceLaws.{AtDim, incident-not, incident-three, incident-four}
 use Rattle.conditions.proofs.incidence.incident.Statement.{statement}
 use Rattle.conditions.proofs.incidence.incident.Tie as tie
 
 abbrev Inv-loop : tie.InvT-loop
-Inv-loop n kind lefts rights s i₀ i = (i ≤ 3) × (all i (AtDim n kind lefts rights s) ≡ true)
+Inv-loop n kind lefts rights s i₀ i = (i ≤ 3) × (allBelow i (AtDim n kind lefts rights s) ≡ true)
 
 abbrev μ-loop : tie.MeasureT-loop
 μ-loop n kind lefts rights s i₀ i = 3 - i
 
 loop-holds : tie.Need-loop-holds Inv-loop μ-loop
-unfolding all
+unfolding allBelow
 loop-holds c = (omega arith, refl)
 
 mul-allowed : tie.Need-mul-allowed Inv-loop μ-loop

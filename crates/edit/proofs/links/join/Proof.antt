@@ -5,7 +5,7 @@ use mathlib.Core.Path.{refl}
 use borrow.Author.Needs.{needs}
 use Rattle.table.specs.Words.{put}
 use Rattle.edit.specs.Store.{dartAt}
-use Rattle.edit.specs.Links.{column}
+use Rattle.edit.specs.Links.{overwritten}
 use Rattle.edit.proofs.LinkLaws.{Stage, stage-none, stage-more, stage-length, stage-done, put-at, slot-at}
 use Rattle.edit.proofs.links.join.Statement.{statement}
 use Rattle.edit.proofs.links.join.Tie as tie
@@ -60,7 +60,7 @@ same-length : tie.Need-same-length Inv-loop μ-loop
 same-length c = stage-length (c .before .loop .inv) (c .before .before .before .before .pre .0)
 
 returns : tie.Need-returns Inv-loop μ-loop
-unfolding column
+unfolding overwritten
 returns c = stage-done (c .before .loop .inv) (c .loop-test .left)
 
 pub join-spec : {M : Type 1} → statement M

@@ -40,7 +40,7 @@ y-slot c =
     let w = c .before .before in
     let b = start w in
     let a = b .args in
-    b .pre .0 .formed .below (w .word .result) (x-slot w) (ap (view (a .slots) (now (a .table)) .state) (x-is w) ∙ b .pre .1 .1 .1) _
+    b .pre .0 .well .below (w .word .result) (x-slot w) (ap (view (a .slots) (now (a .table)) .state) (x-is w) ∙ b .pre .1 .1 .1) _
     (b .pre .0 .dim (c .before .loop .p) (c .loop-test .taken))
 
 add-word : tie.Need-add-word Inv-loop μ-loop

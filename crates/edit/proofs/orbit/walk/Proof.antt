@@ -36,7 +36,7 @@ expand-requires c κs =
     let v = l .before .loop .inv in
     let p = start (l .before) .pre in
     let r = p .0 in
-    (r, (v .taken, (l .loop-test .taken, walking-live _ _ _ _ (r .n) (r .formed) (r .dim) (p .1 .0 .0) (p .1 .0 .1) _ _ _ _ v (l .loop-test .taken))))
+    (r, (v .taken, (l .loop-test .taken, walking-live _ _ _ _ (r .n) (r .well) (r .dim) (p .1 .0 .0) (p .1 .0 .1) _ _ _ _ v (l .loop-test .taken))))
 
 add-head : tie.Need-add-head Inv-loop μ-loop
 add-head c = omega arith
@@ -57,7 +57,7 @@ returns c =
     let v = c .before .loop .inv in
     let p = start (c .before) .pre in
     let r = p .0 in
-    (walking-done _ _ _ _ (r .n) (r .formed) (r .dim) (p .1 .0 .0) (p .1 .0 .1) _ _ _ v (c .loop-test .left), v .taken)
+    (walking-done _ _ _ _ (r .n) (r .well) (r .dim) (p .1 .0 .0) (p .1 .0 .1) _ _ _ v (c .loop-test .left), v .taken)
 
 pub walk-spec : {M : Type 1} → statement M
 walk-spec =

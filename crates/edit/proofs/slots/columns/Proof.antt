@@ -4,13 +4,13 @@ use Prim.Native.Nat.{_-_, _≤_}
 use mathlib.Core.Path.{_≡_, _∙_}
 use native.Mathlib.Omega.{arith}
 use borrow.Author.Needs.{needs}
-use Rattle.edit.specs.Grant.{Columned}
+use Rattle.edit.specs.Grant.{ColumnsBegin}
 use Rattle.edit.proofs.ColumnLaws.{columned-none, columned-more, column-fits}
 use Rattle.edit.proofs.slots.columns.Statement.{statement}
 use Rattle.edit.proofs.slots.columns.Tie as tie
 
 abbrev Inv-loop : tie.InvT-loop
-Inv-loop slots size added many cols₀ a₀ cols a = (a ≤ many) × Columned slots size added a cols₀ cols
+Inv-loop slots size added many cols₀ a₀ cols a = (a ≤ many) × ColumnsBegin slots size added a cols₀ cols
 
 abbrev μ-loop : tie.MeasureT-loop
 μ-loop slots size added many cols₀ a₀ cols a = many - a

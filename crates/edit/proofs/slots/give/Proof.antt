@@ -6,7 +6,7 @@ use mathlib.Core.Bool.{Bool}
 use native.Mathlib.Omega.{arith}
 use borrow.Author.Needs.{needs}
 use denote.Ref.{now}
-use Rattle.base.specs.Below.{count}
+use Rattle.base.specs.Below.{countBelow}
 use Rattle.model.specs.declared.Scheme.{Scheme}
 use Rattle.edit.specs.Grant.{Grant, Granting, early, Digits}
 use Rattle.edit.proofs.BlockLaws.{blank}
@@ -21,7 +21,7 @@ use Rattle.edit.proofs.slots.mark_bits.Reads as mark-bits-reads
 
 abbrev Inv-loop : tie.InvT-loop
 Inv-loop slots table₀ store₀ size added many cols bits free₀ w₀ table store free w = (w ≤ 16) × Digits (early slots store₀ size) bits
-    × ((S : Scheme) (O : ℕ → Bool) → Grant slots S O table₀ store₀ size many → Granting slots S O table₀ store₀ size (count (64 * w) O * many) free table store)
+    × ((S : Scheme) (O : ℕ → Bool) → Grant slots S O table₀ store₀ size many → Granting slots S O table₀ store₀ size (countBelow (64 * w) O * many) free table store)
 
 abbrev μ-loop : tie.MeasureT-loop
 μ-loop slots table₀ store₀ size added many cols bits free₀ w₀ table store free w = 16 - w
@@ -32,7 +32,7 @@ start l = l .before .before .before .before .before .before .before .before .bef
 -- what stands at the loop's head, for the scheme and the orbit that the caller has
 abbrev so-far : (l : tie.At-loop Inv-loop μ-loop) → let b = start l in let O = orbitOf (b .pre) in
     Granting (b .args .slots) (b .pre .scheme) O (now (b .args .table)) (now (b .args .store)) (b .args .size)
-    (count (64 * l .loop .w) O * b .args .many) (l .loop .free) (l .loop .table) (l .loop .store)
+    (countBelow (64 * l .loop .w) O * b .args .many) (l .loop .free) (l .loop .table) (l .loop .store)
 so-far l = l .loop .inv .2 _ _ (grant-of (start l .pre))
 
 columns-requires : tie.Need-columns-requires Inv-loop μ-loop

@@ -6,7 +6,7 @@ use native.Mathlib.Nat.{add-zero}
 use native.Mathlib.Omega.{arith}
 use lib.ListN.{length}
 use borrow.Author.Needs.{needs}
-use Rattle.base.specs.Below.{count}
+use Rattle.base.specs.Below.{countBelow}
 use Rattle.table.specs.Words.{Sized}
 use Rattle.edit.specs.Grant.{Turn, Granting}
 use Rattle.edit.proofs.GrantLaws.{granting-sized, turn-done, turn-cell, turn-room, turn-more}
@@ -16,7 +16,7 @@ use Rattle.edit.proofs.slots.row.Tie as tie
 abbrev Inv-loop : tie.InvT-loop
 Inv-loop slots table₀ store₀ size many u r free v from₀ a₀ table store from a = (a ≤ many)
     × ((T : Turn slots table₀ store₀ size many u r free)
-    → Granting slots (T .scheme) (T .orbit) (T .table) (T .store) size (count u (T .orbit) * many + a) from table store)
+    → Granting slots (T .scheme) (T .orbit) (T .table) (T .store) size (countBelow u (T .orbit) * many + a) from table store)
 
 abbrev μ-loop : tie.MeasureT-loop
 μ-loop slots table₀ store₀ size many u r free v from₀ a₀ table store from a = many - a

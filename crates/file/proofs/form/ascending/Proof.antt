@@ -5,7 +5,7 @@ use mathlib.Core.Path.{_≡_, refl, sym}
 use mathlib.Core.Bool.{true}
 use native.Mathlib.Omega.{arith}
 use borrow.Author.Needs.{needs}
-use Rattle.base.specs.Below.{all}
+use Rattle.base.specs.Below.{allBelow}
 use Rattle.file.specs.Form.{slotsOk, lowest}
 use Rattle.file.proofs.FormLaws.{here, slots-out, slots-back, slots-more, lowest-more}
 use Rattle.file.proofs.form.ascending.Statement.{statement}
@@ -18,7 +18,7 @@ abbrev μ-loop : tie.MeasureT-loop
 μ-loop slots b darts from₀ low₀ k₀ from low k = darts - k
 
 loop-holds : tie.Need-loop-holds Inv-loop μ-loop
-unfolding lowest slotsOk all
+unfolding lowest slotsOk allBelow
 loop-holds c = (omega arith, refl, refl, refl)
 
 two-requires : tie.Need-two-requires Inv-loop μ-loop

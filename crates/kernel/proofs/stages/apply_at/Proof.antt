@@ -4,7 +4,7 @@ use Prim.Native.Nat.{_-_, _≤_}
 use mathlib.Core.Path.{_≡_, sym, _∙_}
 use mathlib.Core.Bool.{true}
 use denote.Ref.{now}
-use Rattle.base.specs.Below.{count}
+use Rattle.base.specs.Below.{countBelow}
 use Rattle.model.specs.Map.{view, live, unused}
 use Rattle.model.specs.WellFormed.{wellFormed}
 use Rattle.table.proofs.SurveyLaws.{survey-live, survey-broken}
@@ -18,11 +18,11 @@ same : (k : tie.After-known-told) → let a = k .before .before .before .before 
 same k = let e = k .before .before .before .before .before in sym (e .before .wide .ensures) ∙ e .if1 .left
 
 lives : (k : tie.After-known-told) → let a = k .before .before .before .before .before .before .before .before .before .args in
-    (wellFormed (a .n) (view (a .slots) (now (a .table))) ≡ true) × (k .before .found .given .0 .0 ≡ count (a .slots) (live (view (a .slots) (now (a .table)))))
+    (wellFormed (a .n) (view (a .slots) (now (a .table))) ≡ true) × (k .before .found .given .0 .0 ≡ countBelow (a .slots) (live (view (a .slots) (now (a .table)))))
 lives k = survey-live _ _ _ (k .before .before .before .survey .ensures) _ (k .before .found .given .1)
 
 free : (k : tie.After-known-told) → let a = k .before .before .before .before .before .before .before .before .before .args in
-    (k .before .found .given .0 .0 ≤ a .slots) × (a .slots - k .before .found .given .0 .0 ≡ count (a .slots) (unused (view (a .slots) (now (a .table)))))
+    (k .before .found .given .0 .0 ≤ a .slots) × (a .slots - k .before .found .given .0 .0 ≡ countBelow (a .slots) (unused (view (a .slots) (now (a .table)))))
 free k = let a = k .before .before .before .before .before .before .before .before .before .args in unused-left (a .n) (a .slots) (now (a .table)) _ (lives k .0) (lives k .1)
 
 well : (k : tie.After-known-told) → let a = k .before .before .before .before .before .before .before .before .before .args in wellFormed (a .n) (view (a .slots) (now (a .table))) ≡ true

@@ -4,7 +4,7 @@ use Prim.Native.Nat.{_-_, _≤_}
 use mathlib.Core.Path.{_≡_}
 use mathlib.Core.Bool.{true}
 use native.Mathlib.Omega.{arith}
-use Rattle.base.specs.Below.{all}
+use Rattle.base.specs.Below.{allBelow}
 use Rattle.base.proofs.BelowLaws.{all-none, all-more, all-stops, all-ends}
 use Rattle.scheme.specs.Words.{emptyAt}
 use Rattle.scheme.proofs.WordLaws.{is-empty, not-empty}
@@ -12,7 +12,7 @@ use Rattle.scheme.proofs.nodes.empty.Statement.{statement}
 use Rattle.scheme.proofs.nodes.empty.Tie as tie
 
 abbrev Inv-loop : tie.InvT-loop
-Inv-loop bytes at places p₀ p = (p ≤ places) × (all p (emptyAt bytes at) ≡ true)
+Inv-loop bytes at places p₀ p = (p ≤ places) × (allBelow p (emptyAt bytes at) ≡ true)
 
 abbrev μ-loop : tie.MeasureT-loop
 μ-loop bytes at places p₀ p = places - p

@@ -6,7 +6,7 @@ use mathlib.Core.Bool.{true, true≢false}
 use native.Mathlib.Omega.{arith}
 use borrow.Author.Tests.{not-true, not-false}
 use denote.Ref.{now}
-use Rattle.base.specs.Below.{all}
+use Rattle.base.specs.Below.{allBelow}
 use Rattle.base.specs.Filled.{stored}
 use Rattle.base.proofs.BelowLaws.{all-none, all-more, all-stops, all-ends}
 use Rattle.base.proofs.FilledLaws.{stored-none, stored-more, stored-all}
@@ -17,7 +17,7 @@ use Rattle.scheme.proofs.nodes.read_word.Statement.{statement}
 use Rattle.scheme.proofs.nodes.read_word.Tie as tie
 
 abbrev Inv-loop : tie.InvT-loop
-Inv-loop bytes n places at words₀ targets₀ base p₀ words targets p = (p ≤ places) × (all p (fitsAt bytes n at) ≡ true) × (words ≡ stored words₀ base bytes at p) × (targets ≡ rowed targets₀ base bytes at p)
+Inv-loop bytes n places at words₀ targets₀ base p₀ words targets p = (p ≤ places) × (allBelow p (fitsAt bytes n at) ≡ true) × (words ≡ stored words₀ base bytes at p) × (targets ≡ rowed targets₀ base bytes at p)
 
 abbrev μ-loop : tie.MeasureT-loop
 μ-loop bytes n places at words₀ targets₀ base p₀ words targets p = places - p
