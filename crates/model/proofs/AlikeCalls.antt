@@ -20,7 +20,7 @@ use Rattle.model.specs.Edit.{orbitSize, addedDarts, deletedDarts, edited
 use Rattle.model.specs.File.{file, fileMap}
 use Rattle.model.specs.Calls.{sizesOk, tableFault, checkTable, bytesFault, fitFault, orbitOf, editFault, editAnswer, editTable, editStore, readFault, readAnswer, readTable, writeFault, writeAnswer, writeOut}
 use Rattle.model.specs.Alike.{Alike}
-use Rattle.model.specs.Sequence.{AlikeTables, writtenFile}
+use Rattle.model.specs.Sequence.{AlikeTables}
 use Rattle.model.specs.declared.Scheme.{Scheme}
 use Rattle.model.specs.declared.Answer.{Answer}
 use Rattle.model.specs.declared.Answer.the-variants.{Done, Edited, Written, BadCall, BadTable, NoDart, NoMatch, NoRoom, ShortOutput}
@@ -30,7 +30,7 @@ use Rattle.model.proofs.AcceptedLaws.{accepted, small}
 use Rattle.model.proofs.MatchLaws.{GoodOrbit, match-assigns}
 use Rattle.model.proofs.MatchIff.{good-orbit}
 use Rattle.model.proofs.CallLaws.{Granted, passed, granted, edit-table, refused-table}
-use Rattle.model.proofs.HoldsLaws.{holds-free, dimension-small, table-length, edit-holds, store-zero, read-holds, written-file}
+use Rattle.model.proofs.HoldsLaws.{holds-free, dimension-small, table-length, edit-holds, store-zero, read-holds, written-file, writtenFile}
 use Rattle.model.proofs.AlikeLaws.{alike-refl, alike-sym, alike-trans, words-alike, same-live, same-room, same-orbit}
 use Rattle.model.proofs.AlikeMatch.{same-matches}
 use Rattle.model.proofs.AlikeEdit.{same-size, same-added, same-deleted, edited-alike}

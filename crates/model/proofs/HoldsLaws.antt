@@ -22,7 +22,7 @@ use Rattle.model.specs.Edit.{edited}
 use Rattle.model.specs.File.{file, fileMap}
 use Rattle.model.specs.Answer.{number, values}
 use Rattle.model.specs.Calls.{zeros, sizesOk, tableFault, checkTable, orbitOf, editFault, editTable, editStore, readFault, readTable, writeFault, writeAnswer, writeOut}
-use Rattle.model.specs.Sequence.{Holds, writtenFile}
+use Rattle.model.specs.Sequence.{Holds}
 use Rattle.model.specs.declared.Answer.{Answer}
 use Rattle.model.specs.declared.Answer.the-variants.{Done, Written, BadCall, BadTable, ShortOutput}
 use Rattle.model.proofs.WellFormedLaws.{wellFormed-iff}
@@ -128,10 +128,14 @@ read-holds n N t b s = rw s (go (readFault n N t b) refl)
     go none q = words-hold n N t s (fileMap n N b) refl (read-well n N t b q)
     go (some r) q = zeros-hold n N t s
 
+-- the file that a write leaves in the output: as many bytes as the answer counts
+abbrev pub writtenFile : ℕ → ℕ → List ℕ → List ℕ → List ℕ
+writtenFile n N t out = take (getD (values (writeAnswer n N t out)) 0 0) (writeOut n N t out)
+
 -- a write leaves the map's file where there is room for it, else none
 pub written-file : (n N : ℕ) (t out : List ℕ) → Holds n N t
     → writtenFile n N t out ≡ cond (ltb (length out) (length (file n (view N t)))) [] (file n (view N t))
-unfolding writtenFile writeAnswer writeOut writeFault someIf _orElse_ there
+unfolding writeAnswer writeOut writeFault someIf _orElse_ there
 written-file n N t out h = rw (holds-free n N t h) (go (ltb (length out) (length (file n (view N t)))))
   where
     go : (c : Bool) → take (getD (values (Option·getD (someIf c ShortOutput) (Written (length (file n (view N t)))))) 0 0)

@@ -15,6 +15,7 @@ pub mod MapLaws
 pub mod RankLaws
 pub mod EditLaws
 pub mod KeepLaws
+pub mod SizeLaws
 pub mod CallLaws
 pub mod AlikeLaws
 pub mod AlikeMatch

@@ -1,18 +1,18 @@
 -- Demand 3: "Take two well-formed maps of one dimension and slot count, with the same live slots and equal live records; unused records and working
 -- stores may hold anything. Give both the same sequence of edits, checks, reads and writes at that dimension and slot count, with equal other arguments
 -- and lent buffers of equal length. After every call both maps are well-formed, still alike in this sense, and answers and written files are equal."
--- The definitions below say this in its order. The last of them, `AlikeThroughout`, is the demand; proofs/SequenceLaws.antt proves it.
+-- The definitions below say this in its order for one call; `AlikeRuns` of crates/kernel/specs/Runs.antt says it of sequences of any kernel's calls.
 -- Assumes nothing.
 use Prim.Native.Nat.{ℕ}
 use mathlib.Core.Path.{_≡_}
 use mathlib.Core.Bool.{true}
-use mathlib.Core.List.{List, [], _∷_, Forall₂}
+use mathlib.Core.List.{List, []}
 use lib.ListN.{length, getD, take}
 use Rattle.model.specs.Map.{view}
 use Rattle.model.specs.WellFormed.{WellFormed}
 use Rattle.model.specs.Alike.{Alike}
 use Rattle.model.specs.Answer.{values}
-use Rattle.model.specs.Calls.{sizesOk, checkTable, checkScheme, editAnswer, editTable, readAnswer, readTable, writeAnswer, writeOut}
+use Rattle.model.specs.Calls.{sizesOk, checkTable, checkScheme, editAnswer, editTable, editStore, readAnswer, readTable, writeAnswer, writeOut}
 use Rattle.model.specs.declared.Answer.{Answer}
 
 -- ---- two well-formed maps of one dimension and slot count, with the same live slots and equal live records
@@ -48,41 +48,39 @@ pub record SameCall (c c′ : Call) : Type 0 where
 
 -- ---- what comes of every call
 
--- the answer, the table that the call leaves, and the file that it has written
+-- the answer, and what the table and the lent buffer hold afterwards
 pub record Outcome : Type 0 where
   pub answer : Answer
   pub table : List ℕ
-  pub file : List ℕ
+  pub lent : List ℕ
 
+-- the outcome that the definitions of the calls (Calls.antt) give
 module _ (n N : ℕ) (t : List ℕ) where
-  -- the file that a write leaves in the output: as many bytes as the answer counts, none where it is a refusal
-  unfoldable pub writtenFile : List ℕ → List ℕ
-  writtenFile out = take (getD (values (writeAnswer n N t out)) 0 0) (writeOut n N t out)
-
   unfoldable pub outcomeOf : Request → List ℕ → Outcome
-  outcomeOf tableCheck l = record { answer = checkTable n N t; table = t; file = [] }
-  outcomeOf (schemeCheck b) l = record { answer = checkScheme b; table = t; file = [] }
-  outcomeOf (edit b d) l = record { answer = editAnswer n N t l b d; table = editTable n N t l b d; file = [] }
-  outcomeOf (read b) l = record { answer = readAnswer n N t b; table = readTable n N t b; file = [] }
-  outcomeOf write l = record { answer = writeAnswer n N t l; table = t; file = writtenFile l }
+  outcomeOf tableCheck l = record { answer = checkTable n N t; table = t; lent = l }
+  outcomeOf (schemeCheck b) l = record { answer = checkScheme b; table = t; lent = l }
+  outcomeOf (edit b d) l = record { answer = editAnswer n N t l b d; table = editTable n N t l b d; lent = editStore n N t l b d }
+  outcomeOf (read b) l = record { answer = readAnswer n N t b; table = readTable n N t b; lent = l }
+  outcomeOf write l = record { answer = writeAnswer n N t l; table = t; lent = writeOut n N t l }
 
   unfoldable pub outcome : Call → Outcome
   outcome c = outcomeOf (c .request) (c .lent)
 
--- the outcomes of a sequence, one for each call: a call finds the table that the call before it left
-unfoldable pub run : ℕ → ℕ → List ℕ → List Call → List Outcome
-run n N t [] = []
-run n N t (c ∷ s) = outcome n N t c ∷ run n N (outcome n N t c .table) s
+-- the file that a call has written: of a write's output as many bytes as the answer counts, none where it is a refusal
+abbrev pub fileOf : Request → Outcome → List ℕ
+fileOf tableCheck o = []
+fileOf (schemeCheck b) o = []
+fileOf (edit b d) o = []
+fileOf (read b) o = []
+fileOf write o = take (getD (values (o .answer)) 0 0) (o .lent)
+
+-- a call and its outcome
+pub record Event : Type 0 where
+  pub call : Call
+  pub outcome : Outcome
 
 -- both maps are well-formed, still alike, and answers and written files are equal
-pub record AlikeOutcomes (n N : ℕ) (o o′ : Outcome) : Type 0 where
-  pub tables : AlikeTables n N (o .table) (o′ .table)
-  pub answers : o .answer ≡ o′ .answer
-  pub files : o .file ≡ o′ .file
-
--- ---- the demand
-
--- the sequences correspond call by call, and so do their outcomes
-abbrev pub AlikeThroughout : Type 0
-AlikeThroughout = (n N : ℕ) (t t′ : List ℕ) → AlikeTables n N t t′
-    → (s s′ : List Call) → Forall₂ SameCall s s′ → Forall₂ (AlikeOutcomes n N) (run n N t s) (run n N t′ s′)
+pub record AlikeEvents (n N : ℕ) (e e′ : Event) : Type 0 where
+  pub tables : AlikeTables n N (e .outcome .table) (e′ .outcome .table)
+  pub answers : e .outcome .answer ≡ e′ .outcome .answer
+  pub files : fileOf (e .call .request) (e .outcome) ≡ fileOf (e′ .call .request) (e′ .outcome)
