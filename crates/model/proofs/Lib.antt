@@ -26,3 +26,4 @@ pub mod UnusedLaws
 pub mod AlikeCalls
 pub mod SequenceLaws
 pub mod RewritingLaws
+pub mod RewritingOnce

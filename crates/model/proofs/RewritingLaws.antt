@@ -1,7 +1,7 @@
 -- The edited map is the rewriting that document 01 describes, statement by statement.
 -- Assumes nothing.
 use Prim.Native.Nat.{ℕ, _≤_, _<_}
-use mathlib.Core.Path.{_≡_, sym, ap, _∙_, subst}
+use mathlib.Core.Path.{_≡_, refl, sym, ap, _∙_, subst}
 use mathlib.Core.Logic.{_⊎_}
 use mathlib.Core.Bool.{Bool, true}
 use native.Mathlib.Omega.{arith}
@@ -45,8 +45,9 @@ module _ (m : Map) (S : Scheme) (O : ℕ → Bool) (g : Accepted S) (o : GoodOrb
   }
 
   pub rewriting : Rewriting m (edited m S O) S O D
-  unfolding rank
+  unfolding rank edited
   rewriting = record {
+    slots = refl;
     assigned = assignment;
     slot = λ u s e h a. E.free-at m S O (o .slot) sides A room u s e h a .0;
     wasUnused = λ u s e h a. E.free-at m S O (o .slot) sides A room u s e h a .1;

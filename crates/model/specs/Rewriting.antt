@@ -1,4 +1,5 @@
 -- What an edit does, as statements about the map before it, m, and after it, m′: O is the orbit, and f gives the dart of each pair.
+-- They leave nothing open: two rewritings of one map are one table (`rewriting-once` of proofs/RewritingOnce.antt).
 -- Assumes nothing.
 use Prim.Native.Nat.{ℕ, _+_, _*_, _≤_, _<_}
 use mathlib.Core.Path.{_≡_}
@@ -23,6 +24,8 @@ pub record ZeroRecord (m : Map) (x : ℕ) : Type 0 where
   pub tag : m .tag x ≡ 0
 
 pub record Rewriting (m m′ : Map) (S : Scheme) (O : ℕ → Bool) (f : ℕ → ℕ → ℕ) : Type 0 where
+  -- the slot count stays
+  pub slots : m′ .slots ≡ m .slots
   -- the darts of the left pairs are the assignment
   pub assigned : Assignment m S O f
   -- the added pairs, ordered by u and then by s, take the lowest slots unused before the edit
