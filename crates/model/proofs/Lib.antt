@@ -27,3 +27,4 @@ pub mod AlikeCalls
 pub mod SequenceLaws
 pub mod RewritingLaws
 pub mod RewritingOnce
+pub mod LongestScheme

@@ -6,8 +6,9 @@ use mathlib.Core.Logic.{_⊎_, inl, inr, ⊎-elim}
 use mathlib.Core.Bool.{Bool, true, false, cond}
 use mathlib.Core.Option.{Option, none, some, Option·getD}
 use mathlib.Core.List.{List}
+use native.Mathlib.Nat.{mul-le-mul-right}
 use native.Mathlib.Omega.{arith}
-use lib.ListN.{getD}
+use lib.ListN.{length, getD}
 use lib.Dec.{eqb, ltb}
 use borrow.Author.Tests.{eqb-true, ne-eqb, ltb-true, ltb-false, leb-true, lt-ltb, le-ltb}
 use Rattle.base.specs.Test.{_and_, _or_}
@@ -16,7 +17,7 @@ use Rattle.base.proofs.TestLaws.{and-left, and-right, or-cases, true-or-false}
 use Rattle.base.proofs.BelowLaws.{all-at}
 use Rattle.base.proofs.FirstLaws.{first-same, least-none-of, least-same}
 use Rattle.base.proofs.ListLaws.{getD-list}
-use Rattle.model.specs.Scheme.{Side, left, right, onSide, byte, placesOf, nodesOf, kindAt, wordAt, arcCount, arcByte, orbitForm, wordForm, nodeForm, arcForm, arcsForm, inForm, upTo, farEnd, placeCode, wordsOf, arcsOf, placed, placedAt, targetsOf, schemeOf, kind, orbitDim, word, targets, arcs, arcPart, has}
+use Rattle.model.specs.Scheme.{Side, left, right, onSide, byte, placesOf, nodesOf, kindAt, wordAt, arcCount, arcByte, endAt, orbitForm, wordForm, nodeForm, arcForm, arcsForm, inForm, upTo, farEnd, placeCode, wordsOf, arcsOf, placed, placedAt, targetsOf, schemeOf, kind, orbitDim, word, targets, arcs, arcPart, has}
 use Rattle.model.specs.Conditions.{arcOf, arcAt, reads}
 use Rattle.model.specs.Codes.{arcCode}
 use Rattle.model.specs.Shaped.{Shaped, ShapedSide}
@@ -69,6 +70,18 @@ module _ (b : List ℕ) (q : inForm b ≡ true) where
   pub arcs-few : (side : Side) → arcCount b side ≤ 64
   unfolding arcsForm
   arcs-few side = leb-true _ _ (and-left _ _ (form-arcs side))
+
+  -- document 01: "The longest scheme has 537 bytes"; the bench program's limit relies on it: no scheme in the form is too long for it
+  pub form-short : length b ≤ 537
+  unfolding inForm
+  form-short =
+      let ends : length b ≡ endAt b = eqb-true _ _ (and-right _ _ q) in
+      let n3 = small in
+      let few = places-few in
+      let nodes = mul-le-mul-right (1 + 2 * placesOf b) nodes-few in
+      let arcs-left = arcs-few left in
+      let arcs-right = arcs-few right in
+      omega arith
 
   form-arc : (side : Side) (a : ℕ) → a < arcCount b side → arcForm b side a ≡ true
   unfolding arcsForm
