@@ -13,7 +13,8 @@ use Rattle.base.proofs.TestLaws.{and-left, and-right}
 use Rattle.base.proofs.BelowLaws.{count-le}
 use Rattle.model.specs.Answer.{number}
 use Rattle.model.specs.Map.{view, unused}
-use Rattle.model.specs.Scheme.{schemeOf, nodesOf, deleted}
+use Rattle.model.specs.Bytes.{nodesOf}
+use Rattle.model.specs.Scheme.{schemeOf, deleted}
 use Rattle.model.specs.Edit.{orbitSize, addedDarts, deletedDarts}
 use Rattle.model.specs.Calls.{orbitOf, editFault, editAnswer}
 use Rattle.model.specs.Bench.{shown, dartLine, lastLine, refusedLine}

@@ -13,9 +13,10 @@ use Rattle.base.specs.First.{least}
 use Rattle.base.specs.Test.{_or_}
 use Rattle.base.proofs.TestLaws.{and-left, and-right}
 use Rattle.base.proofs.FirstLaws.{first-at, when-at, least-at}
-use Rattle.model.specs.Scheme.{Side, left, right, farEnd, targets, arcs, arcPart}
-use Rattle.model.specs.Conditions.{Arc, absent, explicit, implicit, arcOf, arcAt, reads}
-use Rattle.model.specs.Codes.{arcCode}
+use Rattle.model.specs.Arc.{farEnd, arcOf}
+use Rattle.model.specs.Codes.{targets, arcCode}
+use Rattle.model.specs.Scheme.{Side, left, right, arcs, arcPart}
+use Rattle.model.specs.Conditions.{Arc, absent, explicit, implicit, arcAt, reads}
 use Rattle.model.specs.Shaped.{Shaped}
 use Rattle.model.specs.declared.Scheme.{Scheme}
 use Rattle.model.proofs.AcceptedLaws.{small}

@@ -11,12 +11,12 @@ use Rattle.base.specs.Test.{_and_}
 use Rattle.base.specs.First.{first, least, someIf, _orElse_}
 use Rattle.model.specs.Scheme.{left, right}
 use Rattle.model.specs.Conditions.{hookFault, noted, schemeFault}
+use Rattle.model.specs.Twice.{twiceOf}
 use Rattle.model.specs.Shaped.{Shaped}
 use Rattle.model.specs.declared.Scheme.{Scheme}
 use Rattle.model.specs.declared.Answer.{Answer}
 use Rattle.model.specs.declared.Answer.the-variants.{Done, BadHook, BadIncidence}
 use Rattle.model.proofs.AcceptedLaws as AcceptedLaws
-use Rattle.model.specs.Codes.{twiceOf}
 use Rattle.conditions.specs.Arcs.{Joining, Coded}
 use Rattle.conditions.specs.Tree.{Aimed, Lefts, Spanning, TreeOf}
 use Rattle.conditions.specs.Hook.{hookedBy, leftOut, foundOf, hookBy}

@@ -17,7 +17,8 @@ use Rattle.base.proofs.BelowLaws.{all-not, all-same}
 use Rattle.base.proofs.FirstLaws.{least-hit, least-same, least-none}
 use Rattle.base.proofs.ListLaws.{getD-inside}
 use Rattle.base.proofs.TestLaws.{or-left, or-right, true-or-false}
-use Rattle.model.specs.Scheme.{left, onSide, kind, orbitDim, has, added}
+use Rattle.model.specs.Bytes.{onSide}
+use Rattle.model.specs.Scheme.{left, kind, orbitDim, has, added}
 use Rattle.model.specs.Conditions.{pathTo, hookRight}
 use Rattle.model.specs.Shaped.{Shaped}
 use Rattle.model.specs.declared.Scheme.{Scheme}

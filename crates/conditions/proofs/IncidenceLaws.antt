@@ -16,9 +16,10 @@ use Rattle.base.proofs.TestLaws.{and-no-left, true-or-false}
 use Rattle.base.proofs.BelowLaws.{all-not, all-step, all-same, any-at, any-of, count-zero, one-to-three}
 use Rattle.base.proofs.FirstLaws.{least-same}
 use Rattle.base.proofs.ListLaws.{getD-list}
+use Rattle.model.specs.Codes.{arcCode}
 use Rattle.model.specs.Scheme.{Side, left, right, kind, word, arcs, arcPart}
 use Rattle.model.specs.Conditions.{Arc, absent, explicit, implicit, touches, reads, arcAt, arcsOfDim, incidenceOk, incidenceFault}
-use Rattle.model.specs.Codes.{arcCode, twiceAt, twiceOf}
+use Rattle.model.specs.Twice.{twiceAt, twiceOf}
 use Rattle.model.specs.Shaped.{Shaped}
 use Rattle.model.specs.declared.Scheme.{Scheme}
 use Rattle.model.proofs.AcceptedLaws as AcceptedLaws

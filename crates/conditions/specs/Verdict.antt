@@ -7,9 +7,9 @@ use mathlib.Core.Option.{Option·getD}
 use mathlib.Core.List.{List}
 use lib.ListN.{length}
 use Rattle.model.specs.Scheme.{left, right}
-use Rattle.model.specs.Shaped.{Shaped}
 use Rattle.model.specs.Conditions.{schemeFault}
-use Rattle.model.specs.Codes.{twiceOf}
+use Rattle.model.specs.Twice.{twiceOf}
+use Rattle.model.specs.Shaped.{Shaped}
 use Rattle.model.specs.declared.Scheme.{Scheme}
 use Rattle.model.specs.declared.Answer.{Answer}
 use Rattle.model.specs.declared.Answer.the-variants.{Done, BadHook}

@@ -22,8 +22,8 @@ use Rattle.model.specs.Answer.{number}
 use Rattle.model.specs.Map.{view, live, unused}
 use Rattle.model.specs.WellFormed.{wellFormed}
 use Rattle.model.specs.Scheme.{left, right, inForm, wordsOf, schemeOf}
-use Rattle.model.specs.Codes.{twiceOf}
 use Rattle.model.specs.Conditions.{schemeFault}
+use Rattle.model.specs.Twice.{twiceOf}
 use Rattle.model.specs.Accepted.{Accepted}
 use Rattle.model.specs.Calls.{zeros, sizesOk, bytesFault, orbitOf, editFault, editAnswer, editTable, editStore}
 use Rattle.model.specs.declared.Scheme.{Scheme}

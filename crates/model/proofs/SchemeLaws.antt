@@ -17,15 +17,17 @@ use Rattle.base.proofs.TestLaws.{and-left, and-right, or-cases, true-or-false}
 use Rattle.base.proofs.BelowLaws.{all-at}
 use Rattle.base.proofs.FirstLaws.{first-same, least-none-of, least-same}
 use Rattle.base.proofs.ListLaws.{getD-list}
-use Rattle.model.specs.Scheme.{Side, left, right, onSide, byte, placesOf, nodesOf, kindAt, wordAt, arcCount, arcByte, endAt, orbitForm, wordForm, nodeForm, arcForm, arcsForm, inForm, upTo, farEnd, placeCode, wordsOf, arcsOf, placed, placedAt, targetsOf, schemeOf, kind, orbitDim, word, targets, arcs, arcPart, has}
-use Rattle.model.specs.Conditions.{arcOf, arcAt, reads}
-use Rattle.model.specs.Codes.{arcCode}
+use Rattle.model.specs.Bytes.{onSide, byte, placesOf, nodesOf, kindAt, wordAt, arcCount, arcByte, endAt, upTo}
+use Rattle.model.specs.Arc.{farEnd, arcOf}
+use Rattle.model.specs.Codes.{placeCode, placed, placedAt, targetsOf, targets, arcCode}
+use Rattle.model.specs.Scheme.{Side, left, right, orbitForm, wordForm, nodeForm, arcForm, arcsForm, inForm, wordsOf, arcsOf, schemeOf, kind, orbitDim, word, arcs, arcPart, has}
+use Rattle.model.specs.Conditions.{arcAt, reads}
 use Rattle.model.specs.Shaped.{Shaped, ShapedSide}
 
 up-to : (bound x v filling : ℕ) → x < bound → upTo bound x v filling ≡ v
 up-to bound x v filling h = rw (lt-ltb x bound h) refl
 
--- the arc that leads to a node, else the one at a position, as one byte
+-- the code of the explicit arc to a node, else of the implicit one at a position
 code-of : (o r : Option ℕ) → Option·getD o (placeCode r) ≡ arcCode (arcOf o r)
 code-of (some t) r = refl
 code-of none (some p) = refl

@@ -18,7 +18,10 @@ use Rattle.base.proofs.BelowLaws.{all-at, all-of, all-none, all-more, all-ends}
 use Rattle.base.proofs.ListLaws.{getD-list}
 use Rattle.base.proofs.FilledLaws.{filled-none, filled-all, stored-filled, same-ltb}
 use Rattle.base.proofs.AscentLaws.{above, above-step, ascends, descends}
-use Rattle.model.specs.Scheme.{Side, onSide, byte, nodesOf, kindAt, arcCount, arcByte, before, nodeForm, arcForm, arcsForm, arcsOf, placedAt, targetsOf, farEnd, schemeOf}
+use Rattle.model.specs.Bytes.{onSide, byte, nodesOf, kindAt, arcCount, arcByte}
+use Rattle.model.specs.Arc.{farEnd}
+use Rattle.model.specs.Codes.{placedAt, targetsOf}
+use Rattle.model.specs.Scheme.{Side, before, nodeForm, arcForm, arcsForm, arcsOf, schemeOf}
 use Rattle.scheme.specs.Words.{sideOf}
 use Rattle.scheme.specs.Arcs.{ArcsPlaced, keyOf, arcTest}
 use Rattle.scheme.specs.Targets.{Linked, twiceTo}

@@ -9,7 +9,8 @@ use native.Mathlib.Nat.{eq-or-lt-of-le, mul-le-mul-right}
 use native.Mathlib.Omega.{arith}
 use lib.ListN.{length}
 use Rattle.base.proofs.TestLaws.{true-or-false, refuted}
-use Rattle.model.specs.Scheme.{Side, left, right, byte, placesOf, nodesOf, nodeAt, arcsAt, inForm}
+use Rattle.model.specs.Bytes.{byte, placesOf, nodesOf, nodeAt, arcsAt}
+use Rattle.model.specs.Scheme.{Side, left, right, inForm}
 use Rattle.scheme.specs.Place.{after, fits}
 use Rattle.scheme.specs.Frame.{LaidOut}
 use Rattle.scheme.specs.Words.{wordPlace}

@@ -21,7 +21,10 @@ use Rattle.base.proofs.BelowLaws.{any-at, any-of, count-step, any-same}
 use Rattle.base.proofs.FirstLaws.{some-not-none, or-else-cases, or-else-none, when-at, when-none, first-step, least-at}
 use Rattle.base.proofs.ListLaws.{getD-list, length-list}
 use Rattle.base.proofs.FilledLaws.{list-same, list-all}
-use Rattle.model.specs.Scheme.{Side, placesOf, nodesOf, wordAt, touching, farEnd, placeCode, placed, placedAt}
+use Rattle.model.specs.Bytes.{placesOf, nodesOf, wordAt}
+use Rattle.model.specs.Arc.{touching, farEnd}
+use Rattle.model.specs.Codes.{placeCode, placed, placedAt}
+use Rattle.model.specs.Scheme.{Side}
 use Rattle.scheme.specs.Targets.{aimed, crowded, Linked, loop, ends}
 use Rattle.scheme.proofs.TargetLaws.{aim-taken, aim-left, hits, more, ends-at, ends-set, ends-kept}
 

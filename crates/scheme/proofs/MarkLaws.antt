@@ -19,7 +19,8 @@ use Rattle.base.specs.First.{someIf, first, least}
 use Rattle.base.proofs.TestLaws.{and-left, and-right, and-of, or-left, or-right, or-rest, if-so, if-of, impossible, true-or-false, same-test}
 use Rattle.base.proofs.BelowLaws.{all-at, all-of}
 use Rattle.base.proofs.FirstLaws.{or-else-last, least-at, least-none, least-none-of, least-hit}
-use Rattle.model.specs.Scheme.{byte, placeCode}
+use Rattle.model.specs.Bytes.{byte}
+use Rattle.model.specs.Codes.{placeCode}
 use Rattle.scheme.specs.Words.{freshAt, fitsAt}
 use Rattle.scheme.specs.Targets.{markable, marked, rowed}
 

@@ -14,7 +14,9 @@ use Rattle.base.specs.Lists.{list}
 use Rattle.base.proofs.TestLaws.{and-left, and-right, and-of, refuted, same-test}
 use Rattle.base.proofs.BelowLaws.{all-none, all-more}
 use Rattle.base.proofs.FilledLaws.{filled-none, filled-more, filled-all, same-ltb}
-use Rattle.model.specs.Scheme.{Side, left, right, byte, placesOf, nodesOf, nodeAt, kindAt, wordForm, wordEmpty, nodeForm, upTo, wordsOf, schemeOf, placed, placedAt}
+use Rattle.model.specs.Bytes.{byte, placesOf, nodesOf, nodeAt, kindAt, upTo}
+use Rattle.model.specs.Codes.{placed, placedAt}
+use Rattle.model.specs.Scheme.{Side, left, right, wordForm, wordEmpty, nodeForm, wordsOf, schemeOf}
 use Rattle.scheme.specs.Words.{row}
 
 -- ---- one node

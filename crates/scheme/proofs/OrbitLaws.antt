@@ -14,7 +14,8 @@ use Rattle.base.proofs.TestLaws.{and-left, and-right, and-of, refuted}
 use Rattle.base.proofs.BelowLaws.{all-at, all-none, all-more, all-ends}
 use Rattle.base.proofs.FilledLaws.{filled-none, filled-more, filled-all}
 use Rattle.base.proofs.AscentLaws.{above, above-step, ascends, descends}
-use Rattle.model.specs.Scheme.{byte, placesOf, orbitForm, upTo, schemeOf}
+use Rattle.model.specs.Bytes.{byte, placesOf, upTo}
+use Rattle.model.specs.Scheme.{orbitForm, schemeOf}
 
 module _ (b : List ℕ) where
   abbrev dim : ℕ → ℕ

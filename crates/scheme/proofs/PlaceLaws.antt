@@ -9,7 +9,7 @@ use borrow.Author.Tests.{lt-ltb, le-ltb, ltb-true, ltb-false, le-leb, lt-leb, le
 use lib.ListN.{length}
 use Rattle.base.specs.Test.{_and_}
 use Rattle.base.proofs.TestLaws.{and-left, and-right, and-of, and-no-left, and-no-right}
-use Rattle.model.specs.Scheme.{byte}
+use Rattle.model.specs.Bytes.{byte}
 use Rattle.scheme.specs.Place.{stepAt, after, fits, sectionAt}
 use Rattle.scheme.specs.declared.cursor.Cursor.{Cursor}
 use Rattle.scheme.specs.declared.cursor.Step.{Step}

@@ -11,9 +11,11 @@ use Rattle.base.specs.Test.{_or_}
 use Rattle.base.specs.Below.{allBelow, anyBelow, countBelow}
 use Rattle.base.specs.Lists.{list, listFrom}
 use Rattle.base.proofs.TestLaws.{refuted}
-use Rattle.model.specs.Scheme.{Side, left, right, nodesOf, arcsAt, arcByte, arcCount, orbitForm, nodeForm, arcsForm, arcsOf, placedAt, targetsOf, inForm, schemeOf}
+use Rattle.model.specs.Bytes.{nodesOf, arcsAt, arcByte, arcCount}
+use Rattle.model.specs.Codes.{placedAt, targetsOf}
+use Rattle.model.specs.Scheme.{Side, left, right, orbitForm, nodeForm, arcsForm, arcsOf, inForm, schemeOf}
 use Rattle.model.specs.Conditions.{arcsOfDim}
-use Rattle.model.specs.Codes.{twiceAt, twiceOf}
+use Rattle.model.specs.Twice.{twiceAt, twiceOf}
 use Rattle.scheme.specs.Frame.{LaidOut}
 use Rattle.scheme.specs.Words.{sideOf}
 use Rattle.scheme.specs.Arcs.{ArcsPlaced}

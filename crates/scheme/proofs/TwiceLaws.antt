@@ -16,9 +16,12 @@ use Rattle.base.proofs.TestLaws.{and-right, or-cases, if-so, true-or-false}
 use Rattle.base.proofs.BelowLaws.{all-at, any-same, count-zero, count-single, count-some, count-same}
 use Rattle.base.proofs.FirstLaws.{least-at, least-none}
 use Rattle.base.proofs.FilledLaws.{list-same}
-use Rattle.model.specs.Scheme.{Side, left, right, nodesOf, placesOf, wordAt, arcByte, arcCount, touching, wordForm, placeCode, placedAt, inForm, schemeOf, arcs, arcPart}
+use Rattle.model.specs.Bytes.{nodesOf, placesOf, wordAt, arcByte, arcCount}
+use Rattle.model.specs.Arc.{touching}
+use Rattle.model.specs.Codes.{placeCode, placedAt}
+use Rattle.model.specs.Scheme.{Side, left, right, wordForm, inForm, schemeOf, arcs, arcPart}
 use Rattle.model.specs.Conditions.{arcsOfDim, reads}
-use Rattle.model.specs.Codes.{twiceAt, twiceOf}
+use Rattle.model.specs.Twice.{twiceAt, twiceOf}
 use Rattle.model.proofs.SchemeLaws.{small, places-few, form-word, value-word, value-arc, no-place, place-is}
 use Rattle.scheme.specs.Targets.{twiceTo}
 

@@ -21,7 +21,9 @@ use Rattle.base.proofs.BelowLaws.{all-at, all-of}
 use Rattle.base.proofs.FirstLaws.{least-none-of, least-same}
 use Rattle.base.proofs.ListLaws.{getD-list, length-list}
 use Rattle.base.proofs.FilledLaws.{filled-over, stored-filled}
-use Rattle.model.specs.Scheme.{Side, left, right, onSide, byte, placesOf, kindAt, wordAt, wordForm, wordEmpty, upTo, placeCode, placed}
+use Rattle.model.specs.Bytes.{onSide, byte, placesOf, kindAt, wordAt, upTo}
+use Rattle.model.specs.Codes.{placeCode, placed}
+use Rattle.model.specs.Scheme.{Side, left, right, wordForm, wordEmpty}
 use Rattle.scheme.specs.Words.{sideOf, wordPlace, row, freshAt, emptyAt, fitsAt}
 use Rattle.scheme.specs.Targets.{rowed}
 use Rattle.scheme.proofs.MarkLaws.{stands, length-rowed, rowed-else, rowed-at}

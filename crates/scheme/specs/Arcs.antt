@@ -9,7 +9,8 @@ use lib.ListN.{length, getD}
 use lib.Dec.{eqb, ltb, leb}
 use Rattle.base.specs.Test.{_and_, _⇒_}
 use Rattle.base.specs.Below.{allBelow}
-use Rattle.model.specs.Scheme.{nodesOf, arcsAt, arcCount, nodeForm, schemeOf}
+use Rattle.model.specs.Bytes.{nodesOf, arcsAt, arcCount}
+use Rattle.model.specs.Scheme.{nodeForm, schemeOf}
 use Rattle.scheme.specs.Frame.{LaidOut}
 use Rattle.scheme.specs.Words.{sideOf}
 use Rattle.scheme.specs.declared.frame.Layout.{Layout}

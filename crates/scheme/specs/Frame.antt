@@ -6,7 +6,8 @@ use mathlib.Core.Logic.{_⊎_}
 use mathlib.Core.Bool.{false}
 use mathlib.Core.List.{List}
 use lib.ListN.{length}
-use Rattle.model.specs.Scheme.{left, right, byte, placesOf, nodesOf, arcsAt, arcCount, endAt, inForm}
+use Rattle.model.specs.Bytes.{byte, placesOf, nodesOf, arcsAt, arcCount, endAt}
+use Rattle.model.specs.Scheme.{left, right, inForm}
 use Rattle.scheme.specs.declared.frame.Opening.{Opening}
 use Rattle.scheme.specs.declared.frame.Opening.the-variants.{Counts, Broken as Shut}
 use Rattle.scheme.specs.declared.frame.Layout.{Layout}

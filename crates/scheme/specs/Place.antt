@@ -6,7 +6,7 @@ use mathlib.Core.List.{List}
 use lib.ListN.{length}
 use lib.Dec.{ltb, leb}
 use Rattle.base.specs.Test.{_and_}
-use Rattle.model.specs.Scheme.{byte}
+use Rattle.model.specs.Bytes.{byte}
 use Rattle.scheme.specs.declared.cursor.Step.{Step}
 use Rattle.scheme.specs.declared.cursor.Step.the-variants.{Byte, End}
 use Rattle.scheme.specs.declared.cursor.Section.{Section}

@@ -6,7 +6,7 @@ use mathlib.Core.Bool.{Bool, true, false, cond}
 use mathlib.Core.List.{List}
 use lib.ListN.{replicate}
 use Rattle.model.specs.Scheme.{left, right, inForm, schemeOf}
-use Rattle.model.specs.Codes.{twiceOf}
+use Rattle.model.specs.Twice.{twiceOf}
 use Rattle.model.specs.declared.Scheme.{Scheme}
 use Rattle.scheme.specs.declared.frame.Form.{Form}
 use Rattle.scheme.specs.declared.frame.Form.the-variants.{Laid, Broken}

@@ -9,7 +9,8 @@ use lib.Dec.{eqb, ltb, leb}
 use Rattle.base.specs.Test.{_and_, _or_, bit}
 use Rattle.base.specs.Below.{anyBelow, countBelow}
 use Rattle.base.specs.Lists.{list}
-use Rattle.model.specs.Scheme.{byte, touching}
+use Rattle.model.specs.Bytes.{byte}
+use Rattle.model.specs.Arc.{touching}
 
 -- ---- implicit arcs
 

@@ -6,7 +6,8 @@ use mathlib.Core.List.{List}
 use lib.Dec.{eqb, leb}
 use Rattle.base.specs.Test.{_and_, _or_, _⇒_}
 use Rattle.base.specs.Below.{allBelow}
-use Rattle.model.specs.Scheme.{Side, left, right, byte, placesOf, nodeAt, wordAt, upTo}
+use Rattle.model.specs.Bytes.{byte, placesOf, nodeAt, wordAt, upTo}
+use Rattle.model.specs.Scheme.{Side, left, right}
 
 -- the side that has not the nodes of this kind
 abbrev pub sideOf : ℕ → Side

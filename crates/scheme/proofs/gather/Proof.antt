@@ -7,7 +7,8 @@ use borrow.Author.Tests.{not-true, not-false}
 use denote.Ref.{now}
 use borrow.Author.Needs.{needs}
 use Rattle.base.specs.Below.{allBelow}
-use Rattle.model.specs.Scheme.{left, right, nodesOf, nodeForm}
+use Rattle.model.specs.Bytes.{nodesOf}
+use Rattle.model.specs.Scheme.{left, right, nodeForm}
 use Rattle.scheme.specs.Frame.{LaidOut}
 use Rattle.scheme.specs.Reading.{blank}
 use Rattle.scheme.proofs.ReadLaws.{no-orbit, no-nodes, no-arcs, placed-side, all-formed, counts, holds, blank-twice}

@@ -5,7 +5,8 @@ use Prim.Native.Nat.{_+_}
 use native.Mathlib.Omega.{arith}
 use denote.Ref.{now}
 use borrow.Author.Needs.{needs}
-use Rattle.model.specs.Scheme.{left, right, arcsAt, arcCount}
+use Rattle.model.specs.Bytes.{arcsAt, arcCount}
+use Rattle.model.specs.Scheme.{left, right}
 use Rattle.scheme.specs.Place.{after}
 use Rattle.scheme.specs.Frame.{Headed}
 use Rattle.scheme.proofs.PlaceLaws.{Fitted, counted, uncounted}

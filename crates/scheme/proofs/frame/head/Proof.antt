@@ -7,7 +7,7 @@ use native.Mathlib.Omega.{arith}
 use denote.Ref.{now}
 use lib.ListN.{length}
 use borrow.Author.Needs.{needs}
-use Rattle.model.specs.Scheme.{byte, placesOf}
+use Rattle.model.specs.Bytes.{byte, placesOf}
 use Rattle.scheme.specs.Place.{after}
 use Rattle.scheme.proofs.PlaceLaws.{Fitted, stepped, ended, counted, uncounted}
 use Rattle.scheme.proofs.FrameLaws.{two-or-three, no-bytes, low-dimension, high-dimension, no-places, no-nodes}

@@ -9,7 +9,7 @@ use borrow.Author.Tests.{not-true, not-false}
 use denote.Ref.{now}
 use lib.ListN.{length}
 use borrow.Author.Needs.{needs}
-use Rattle.model.specs.Scheme.{byte, placesOf, kindAt}
+use Rattle.model.specs.Bytes.{byte, placesOf, kindAt}
 use Rattle.scheme.proofs.FrameLaws.{node-inside}
 use Rattle.scheme.proofs.NodeLaws.{node-low, node-high, node-left, node-right}
 use Rattle.scheme.proofs.nodes.read_node.Statement.{statement}

@@ -9,7 +9,7 @@ use borrow.Author.Tests.{not-true, not-false}
 use denote.Ref.{now}
 use lib.ListN.{length}
 use Rattle.base.proofs.BelowLaws.{all-stops, all-ends}
-use Rattle.model.specs.Scheme.{placesOf, nodesOf}
+use Rattle.model.specs.Bytes.{placesOf, nodesOf}
 use Rattle.scheme.specs.Frame.{LaidOut}
 use Rattle.scheme.proofs.FrameLaws.{node-inside}
 use Rattle.scheme.proofs.NodeLaws.{Passed, passed-none, passed-more, kinds-value, lwords-value, rwords-value, ltargets-value, rtargets-value}

@@ -7,7 +7,7 @@ use lib.ListN.{length}
 use native.Mathlib.Omega.{arith}
 use borrow.Author.Needs.{needs}
 use denote.Ref.{now}
-use Rattle.model.specs.Scheme.{byte, placesOf}
+use Rattle.model.specs.Bytes.{byte, placesOf}
 use Rattle.scheme.proofs.FrameLaws.{dimension-small, places-small, orbit-inside}
 use Rattle.scheme.proofs.OrbitLaws.{Risen, risen-none, risen-more, risen-low, risen-high, risen-form, risen-value}
 use Rattle.scheme.proofs.nodes.read_orbit.Statement.{statement}

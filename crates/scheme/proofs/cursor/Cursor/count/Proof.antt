@@ -7,7 +7,7 @@ use native.Mathlib.Nat.{mul-le-mul}
 use denote.Ref.{now}
 use lib.ListN.{length}
 use borrow.Author.Needs.{needs}
-use Rattle.model.specs.Scheme.{byte}
+use Rattle.model.specs.Bytes.{byte}
 use Rattle.scheme.specs.Place.{after}
 use Rattle.scheme.proofs.PlaceLaws.{stepped, ended, section-count, section-bad, below-least, above-most, beyond}
 use Rattle.scheme.proofs.cursor.Cursor.count.Statement.{statement}

@@ -1,0 +1,61 @@
+-- 'The scheme's bytes': where each of the five sections stands. Bytes past the end count as 0; `inForm` (Scheme.antt) tests the exact length.
+-- Assumes nothing.
+use Prim.Native.Nat.{ℕ, _+_, _*_}
+use mathlib.Core.Bool.{Bool, cond}
+use mathlib.Core.List.{List}
+use lib.ListN.{getD}
+use lib.Dec.{eqb, ltb}
+use Rattle.base.specs.Test.{_or_}
+
+pub data Side : Type 0 where
+  left right : Side
+
+-- Kinds: 1 deleted, 2 preserved, 3 added. The left side has the nodes of kinds 1 and 2, the right side those of kinds 2 and 3.
+abbrev pub onSide : Side → ℕ → Bool
+onSide left kind = eqb kind 1 or eqb kind 2
+onSide right kind = eqb kind 2 or eqb kind 3
+
+module _ (b : List ℕ) where
+  -- the byte at a place; byte 0 is n
+  abbrev pub byte : ℕ → ℕ
+  byte at = getD b at 0
+
+  -- k, the orbit type's count; its dimensions stand from byte 2 on
+  abbrev pub placesOf : ℕ
+  placesOf = byte 1
+
+  -- c, the node count
+  abbrev pub nodesOf : ℕ
+  nodesOf = byte (2 + placesOf)
+
+  -- node s: its kind, then its left word, then its right word, each of k bytes
+  abbrev pub nodeAt : ℕ → ℕ
+  nodeAt s = 3 + placesOf + s * (1 + 2 * placesOf)
+
+  abbrev pub kindAt : ℕ → ℕ
+  kindAt s = byte (nodeAt s)
+
+  -- byte p of the word of node s
+  abbrev pub wordAt : Side → ℕ → ℕ → ℕ
+  wordAt left s p = byte (nodeAt s + 1 + p)
+  wordAt right s p = byte (nodeAt s + 1 + placesOf + p)
+
+  -- a side's count of arcs stands at `arcsAt`, its arcs after it: the left arcs, then the right arcs
+  abbrev pub arcsAt : Side → ℕ
+  arcsAt left = nodeAt nodesOf
+  arcsAt right = nodeAt nodesOf + 1 + 3 * byte (nodeAt nodesOf)
+
+  abbrev pub arcCount : Side → ℕ
+  arcCount side = byte (arcsAt side)
+
+  -- arc a: its dimension (f = 0), smaller node (1) and larger node (2)
+  abbrev pub arcByte : Side → ℕ → ℕ → ℕ
+  arcByte side a f = byte (arcsAt side + 1 + 3 * a + f)
+
+  -- where the bytes end: nothing follows
+  abbrev pub endAt : ℕ
+  endAt = arcsAt right + 1 + 3 * arcCount right
+
+-- what stands at x where it is below the bound, else the filling
+abbrev pub upTo : ℕ → ℕ → ℕ → ℕ → ℕ
+upTo bound x v filling = cond (ltb x bound) v filling
