@@ -1,5 +1,5 @@
--- When a scheme in the form is accepted, rule by rule: hook, incidence, cycles.
--- The computed `schemeFault` finds no fault just in a scheme that has all of this (`accepted-iff` of proofs/AcceptedLaws.antt).
+-- 'When a scheme is accepted', rule by rule: hook, incidence, cycles. In a scheme in the form, the tests of Conditions.antt find no fault
+-- (`schemeFault`) just where all of this holds (`accepted-iff` of proofs/AcceptedLaws.antt).
 -- Assumes nothing.
 use Prim.Native.Nat.{ℕ, _+_, _≤_, _<_}
 use mathlib.Core.Path.{_≡_}
@@ -16,19 +16,20 @@ pub record SingleSide (S : Scheme) (side : Side) : Type 0 where
 
 pub record Accepted (S : Scheme) : Type 0 where
   pub shaped : Shaped S
-  -- hook: node 0 is on the left, its left word is the orbit type, and every left node is reached from it
+  -- hook: "Node 0 has kind 1 or 2 and its left word equals the orbit type. Every node of kind 1 or 2 can be reached from node 0 over left arcs."
   pub hookKind : has S left 0 ≡ true
   pub hookWord : (p : ℕ) → p < S .places → word S left 0 p ≡ orbitDim S p
   pub reach : (s : ℕ) → s < S .nodes → has S left s ≡ true → Reached S s
-  -- incidence: at most one arc of each dimension on a side; the same dimensions on both sides of a preserved node;
-  -- all dimensions on the left of a deleted node and on the right of an added one
+  -- incidence: "On each side a node has at most one arc of each dimension, explicit and implicit together. A preserved node has the same
+  -- dimensions left and right. A deleted node has all of 0 to n on the left, an added node all on the right."
   pub sides : (side : Side) → SingleSide S side
   pub same : (s i : ℕ) → s < S .nodes → i ≤ S .n → preserved S s ≡ true → arcsOfDim S left s i ≡ arcsOfDim S right s i
   pub allLeft : (s i : ℕ) → s < S .nodes → i ≤ S .n → deleted S s ≡ true → arcsOfDim S left s i ≡ 1
   pub allRight : (s i : ℕ) → s < S .nodes → i ≤ S .n → added S s ≡ true → arcsOfDim S right s i ≡ 1
-  -- cycles: an added node is on one on the right; a preserved node on one on the left is on one on the right, and
-  -- on none on the left it has the same arcs on both sides
+  -- cycles: "each added node is on an ij-cycle on the right; a preserved node on one on the left is on one on the right; a preserved node on none
+  -- on the left has the same i- and j-arcs on both sides"
   pub addedCycle : (s i j : ℕ) → s < S .nodes → i + 2 ≤ j → j ≤ S .n → added S s ≡ true → Cycle S right s i j
-  pub keptCycle : (s i j : ℕ) → s < S .nodes → i + 2 ≤ j → j ≤ S .n → preserved S s ≡ true → Cycle S left s i j → Cycle S right s i j
+  pub keptCycle : (s i j : ℕ) → s < S .nodes → i + 2 ≤ j → j ≤ S .n → preserved S s ≡ true
+      → Cycle S left s i j → Cycle S right s i j
   pub keptArcs : (s i j : ℕ) → s < S .nodes → i + 2 ≤ j → j ≤ S .n → preserved S s ≡ true → (Cycle S left s i j → ⊥)
       → (arcAt S left s i ≡ arcAt S right s i) × (arcAt S left s j ≡ arcAt S right s j)

@@ -1,4 +1,4 @@
--- A map, looked at through a view: the state, links and tag of each slot. All rules are over the view.
+-- 'The dart table': a map looked at through a view, the state, links and tag of each slot. All rules are over the view.
 -- The table's layout, six words a slot, stands in `view`, `tableSize` and `tableOf` alone.
 -- Assumes nothing.
 use Prim.Native.Nat.{ℕ, _+_, _*_}
@@ -36,6 +36,7 @@ recordOf m x = m .state x ∷ m .link 0 x ∷ m .link 1 x ∷ m .link 2 x ∷ m 
 unfoldable pub tableOf : Map → List ℕ
 tableOf m = joined (m .slots) (recordOf m)
 
+-- "State 1 is live and 0 unused."
 abbrev pub live : Map → ℕ → Bool
 live m x = eqb (m .state x) 1
 
