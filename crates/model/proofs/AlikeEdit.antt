@@ -3,7 +3,7 @@
 use Prim.Native.Nat.{ℕ, _*_, _≤_, _<_}
 use mathlib.Core.Path.{_≡_, refl, sym, ap, _∙_}
 use mathlib.Core.Logic.{_⊎_, ⊎-elim}
-use mathlib.Core.Bool.{Bool, true, false, cond, true≢false}
+use mathlib.Core.Bool.{Bool, true, false, true≢false}
 use mathlib.Core.Option.{Option, none, some}
 use lib.Dec.{eqb}
 use Rattle.base.specs.Test.{_and_}
@@ -16,7 +16,7 @@ use Rattle.model.specs.WellFormed.{WellFormed}
 use Rattle.model.specs.Scheme.{left, right, orbitDim, has, deleted, added}
 use Rattle.model.specs.Conditions.{Arc, absent, explicit, implicit, arcAt}
 use Rattle.model.specs.Match.{image, Assignment}
-use Rattle.model.specs.Edit.{Pair, orbitSize, addedDarts, deletedDarts, rank, dartOf, pairOf, newLink, newWord, edited}
+use Rattle.model.specs.Edit.{Pair, orbitSize, addedDarts, deletedDarts, rank, dartOf, pairOf, newLink, unnamedLink, newTag, newWord, edited}
 use Rattle.model.specs.Accepted.{Accepted}
 use Rattle.model.specs.Alike.{Alike}
 use Rattle.model.specs.declared.Scheme.{Scheme}
@@ -44,13 +44,21 @@ module _ (m m′ : Map) (a : Alike m m′) (S : Scheme) (O : ℕ → Bool) where
 
 -- ---- a word of the new map, by the pair of its slot
 
-new-word-same : (m m′ : Map) (S : Scheme) (O : ℕ → Bool) (o : Option Pair) (old old′ : ℕ) (f f′ : ℕ → ℕ → ℕ)
+new-word-same : (S : Scheme) (o : Option Pair) (old old′ : ℕ) (f f′ : ℕ → ℕ → ℕ)
     → (o ≡ none → old ≡ old′)
     → ((p : Pair) → o ≡ some p → deleted S (p .node) ≡ false → f (p .dart) (p .node) ≡ f′ (p .dart) (p .node))
-    → newWord m S O o old f ≡ newWord m′ S O o old′ f′
+    → newWord S o old f ≡ newWord S o old′ f′
 unfolding newWord
-new-word-same m m′ S O none old old′ f f′ stood new = stood refl
-new-word-same m m′ S O (some p) old old′ f f′ stood new = cond-same (deleted S (p .node)) _ _ _ _ (λ d. refl) (new p refl)
+new-word-same S none old old′ f f′ stood new = stood refl
+new-word-same S (some p) old old′ f f′ stood new = cond-same (deleted S (p .node)) _ _ _ _ (λ d. refl) (new p refl)
+
+unnamed-same : (m m′ : Map) (b : Bool) (i x : ℕ) → (b ≡ false → m .link i x ≡ m′ .link i x) → unnamedLink m b i x ≡ unnamedLink m′ b i x
+unnamed-same m m′ true i x kept = refl
+unnamed-same m m′ false i x kept = kept refl
+
+tag-same : (m m′ : Map) (b : Bool) (u x : ℕ) → (b ≡ true → m .tag u ≡ m′ .tag u) → (b ≡ false → m .tag x ≡ m′ .tag x) → newTag m b u x ≡ newTag m′ b u x
+tag-same m m′ true u x new kept = new refl
+tag-same m m′ false u x new kept = kept refl
 
 module _ (m m′ : Map) (S : Scheme) (O : ℕ → Bool) (a : Alike m m′) (w : WellFormed (S .n) m) (w′ : WellFormed (S .n) m′) (g : Accepted S)
     (o : GoodOrbit m S O) (A : Assignment m S O (image m S)) (room : addedDarts m S O ≤ countBelow (m .slots) (unused m)) where
@@ -81,8 +89,8 @@ module _ (m m′ : Map) (S : Scheme) (O : ℕ → Bool) (a : Alike m m′) (w : 
     new-state : edited m S O .state x ≡ edited m′ S O .state x
     unfolding edited
     new-state =
-        new-word-same m m′ S O (pairOf m S O x) _ _ _ _ (λ n. same-state m m′ a (S .n) w w′ x h) (λ p q d. refl)
-        ∙ ap (λ (z : Option Pair). newWord m′ S O z (m′ .state x) (λ u s. 1)) (same-pair x)
+        new-word-same S (pairOf m S O x) _ _ _ _ (λ n. same-state m m′ a (S .n) w w′ x h) (λ p q d. refl)
+        ∙ ap (λ (z : Option Pair). newWord S z (m′ .state x) (λ u s. 1)) (same-pair x)
 
     -- where no pair has the slot, it was live before
     stood-live : edited m S O .state x ≡ 1 → pairOf m S O x ≡ none → m .state x ≡ 1
@@ -93,9 +101,9 @@ module _ (m m′ : Map) (S : Scheme) (O : ℕ → Bool) (a : Alike m m′) (w : 
     pair-live u s e b d n = ap (m .state) (sym d) ∙ left-alive m S O (o .slot) kinds A room u s e b (left-of s b n)
 
     new-link-same : (i : ℕ) → i ≤ 3 → (u s : ℕ) → O u ≡ true → s < S .nodes → dartOf m S O u s ≡ x → (c : Arc) → arcAt S right s i ≡ c
-        → newLink m S O u s c (cond (added S s) x (m .link i x)) ≡ newLink m′ S O u s c (cond (added S s) x (m′ .link i x))
+        → newLink m S O u s c (unnamedLink m (added S s) i x) ≡ newLink m′ S O u s c (unnamedLink m′ (added S s) i x)
     unfolding newLink
-    new-link-same i k u s e b d absent q = cond-same (added S s) _ _ _ _ (λ n. refl) (λ n. a .link x h (pair-live u s e b d n) i k)
+    new-link-same i k u s e b d absent q = unnamed-same m m′ (added S s) i x (λ n. a .link x h (pair-live u s e b d n) i k)
     new-link-same i k u s e b d (explicit t) q = same-dart u t e (explicit-end S right (g .sides right) s i t q .0)
     new-link-same i k u s e b d (implicit p) q =
         let f = implicit-from S right s i p q in
@@ -105,22 +113,22 @@ module _ (m m′ : Map) (S : Scheme) (O : ℕ → Bool) (a : Alike m m′) (w : 
     new-link : edited m S O .state x ≡ 1 → (i : ℕ) → i ≤ 3 → edited m S O .link i x ≡ edited m′ S O .link i x
     unfolding edited
     new-link l i k =
-        new-word-same m m′ S O (pairOf m S O x) _ _ _ _
+        new-word-same S (pairOf m S O x) _ _ _ _
         (λ n. a .link x h (stood-live l n) i k)
         (λ p q d. let r = pair-at m S O (o .slot) kinds A room x p q in new-link-same i k _ _ (r .0) (r .1) (r .2) _ refl)
-        ∙ ap (λ (z : Option Pair). newWord m′ S O z (m′ .link i x) (λ u s. newLink m′ S O u s (arcAt S right s i) (cond (added S s) x (m′ .link i x)))) (same-pair x)
+        ∙ ap (λ (z : Option Pair). newWord S z (m′ .link i x) (λ u s. newLink m′ S O u s (arcAt S right s i) (unnamedLink m′ (added S s) i x))) (same-pair x)
 
     new-tag : edited m S O .state x ≡ 1 → edited m S O .tag x ≡ edited m′ S O .tag x
     unfolding edited
     new-tag l =
-        new-word-same m m′ S O (pairOf m S O x) _ _ _ _
+        new-word-same S (pairOf m S O x) _ _ _ _
         (λ n. a .tag x h (stood-live l n))
         (λ p q d.
         let r = pair-at m S O (o .slot) kinds A room x p q in
-        cond-same (added S (p .node)) _ _ _ _
+        tag-same m m′ (added S (p .node)) (p .dart) x
         (λ n. a .tag (p .dart) (o .slot _ (r .0)) (o .alive _ (r .0)))
         (λ n. a .tag x h (pair-live _ _ (r .0) (r .1) (r .2) n)))
-        ∙ ap (λ (z : Option Pair). newWord m′ S O z (m′ .tag x) (λ u s. cond (added S s) (m′ .tag u) (m′ .tag x))) (same-pair x)
+        ∙ ap (λ (z : Option Pair). newWord S z (m′ .tag x) (λ u s. newTag m′ (added S s) u x)) (same-pair x)
 
   pub edited-alike : Alike (edited m S O) (edited m′ S O)
   unfolding edited

@@ -16,7 +16,7 @@ use Rattle.model.specs.Map.{Map, unused}
 use Rattle.model.specs.Scheme.{left, right, orbitDim, has, added, deleted}
 use Rattle.model.specs.Conditions.{absent, explicit, implicit, arcAt}
 use Rattle.model.specs.Match.{image, Assignment}
-use Rattle.model.specs.Edit.{Pair, addedDarts, rank, freeSlot, dartOf, pairOf, newLink, newWord, edited}
+use Rattle.model.specs.Edit.{Pair, addedDarts, rank, freeSlot, dartOf, pairOf, newLink, unnamedLink, newWord, edited}
 use Rattle.model.specs.declared.Scheme.{Scheme}
 use Rattle.base.proofs.TestLaws.{and-left, and-right, and-of, true-or-false}
 use Rattle.base.proofs.FirstLaws.{when-at, first-at, first-only, first-none-of, nth-at, nth-found}
@@ -139,11 +139,11 @@ module _ (m : Map) (S : Scheme) (O : ℕ → Bool) (slot : (u : ℕ) → O u ≡
       state-pair = rw (pair-of u s e h, k) refl
 
       link-pair : (i : ℕ) → edited m S O .link i (dartOf m S O u s)
-          ≡ newLink m S O u s (arcAt S right s i) (cond (added S s) (dartOf m S O u s) (m .link i (dartOf m S O u s)))
+          ≡ newLink m S O u s (arcAt S right s i) (unnamedLink m (added S s) i (dartOf m S O u s))
       unfolding edited newWord
-      link-pair i = ap (λ (o : Option Pair). newWord m S O o (m .link i (dartOf m S O u s))
-          (λ v t. newLink m S O v t (arcAt S right t i) (cond (added S t) (dartOf m S O u s) (m .link i (dartOf m S O u s))))) (pair-of u s e h)
-          ∙ ap (λ (b : Bool). cond b 0 (newLink m S O u s (arcAt S right s i) (cond (added S s) (dartOf m S O u s) (m .link i (dartOf m S O u s))))) k
+      link-pair i = ap (λ (o : Option Pair). newWord S o (m .link i (dartOf m S O u s))
+          (λ v t. newLink m S O v t (arcAt S right t i) (unnamedLink m (added S t) i (dartOf m S O u s)))) (pair-of u s e h)
+          ∙ ap (λ (b : Bool). cond b 0 (newLink m S O u s (arcAt S right s i) (unnamedLink m (added S s) i (dartOf m S O u s)))) k
 
       -- by the right arc that the node has
       pub link-explicit : (i t : ℕ) → arcAt S right s i ≡ explicit t → edited m S O .link i (dartOf m S O u s) ≡ dartOf m S O u t

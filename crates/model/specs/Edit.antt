@@ -1,8 +1,9 @@
--- What an edit does: the dart of each pair, the pair of each slot, and the new map.
--- O is the orbit as it was before the edit, and m the map before the edit: nothing here reads a link that was rewritten.
+-- 'What an edit does': the dart of each pair, the pair of each slot, and the new map, slot by slot. Rewriting.antt says the same sentence by
+-- sentence, of the map before and the map after; `edited` is that rewriting (`rewriting` of proofs/RewritingLaws.antt).
+-- m and the orbit O are as they were before the edit: nothing here reads a link that was rewritten.
 -- Assumes nothing.
 use Prim.Native.Nat.{ℕ, _+_, _*_}
-use mathlib.Core.Bool.{Bool, cond}
+use mathlib.Core.Bool.{Bool, true, false, cond}
 use mathlib.Core.Option.{Option, none, some, Option·getD}
 use lib.Dec.{eqb}
 use Rattle.base.specs.Test.{_and_}
@@ -14,19 +15,23 @@ use Rattle.model.specs.Conditions.{Arc, absent, explicit, implicit, arcA
 use Rattle.model.specs.Match.{image}
 use Rattle.model.specs.declared.Scheme.{Scheme}
 
+-- an orbit dart u and a node s
 pub record Pair : Type 0 where
   pub dart : ℕ
   pub node : ℕ
 
--- the k-th lowest slot unused before the edit
+-- ---- the dart of a pair
+
+-- "the k-th takes the k-th lowest slot unused before the edit"
 unfoldable pub freeSlot : Map → ℕ → ℕ
 freeSlot m k = Option·getD (nthLowest (m .slots) (unused m) k) 0
 
--- the place of the added pair (u, s) in the order by u and then by s
+-- "The pairs (u, s), s added, are ordered by u and then by s": which of them (u, s) is, counted from 0
 unfoldable pub rank : Scheme → (ℕ → Bool) → ℕ → ℕ → ℕ
 rank S O u s = countBelow u O * countBelow (S .nodes) (added S) + countBelow s (added S)
 
 module _ (m : Map) (S : Scheme) (O : ℕ → Bool) where
+  -- "the size of O, darts added and darts deleted"
   unfoldable pub orbitSize : ℕ
   orbitSize = countBelow (m .slots) O
 
@@ -36,7 +41,7 @@ module _ (m : Map) (S : Scheme) (O : ℕ → Bool) where
   unfoldable pub deletedDarts : ℕ
   deletedDarts = orbitSize * countBelow (S .nodes) (deleted S)
 
-  -- the dart of the pair (u, s)
+  -- the dart of the pair (u, s): a slot that was unused where s is added, else m(u, s)
   unfoldable pub dartOf : ℕ → ℕ → ℕ
   dartOf u s = cond (added S s) (freeSlot m (rank S O u s)) (image m S u s)
 
@@ -44,21 +49,44 @@ module _ (m : Map) (S : Scheme) (O : ℕ → Bool) where
   unfoldable pub pairOf : ℕ → Option Pair
   pairOf x = first (m .slots) (λ u. first (S .nodes) (λ s. someIf (O u and eqb (dartOf u s) x) (record { dart = u; node = s })))
 
-  -- αi of the dart of (u, s): what its right side names, else as it stood
+-- ---- the words of a slot
+
+module _ (m : Map) where
+  -- αi of the dart x of an added (true) or a preserved (false) pair, where its right side names no i-arc
+  abbrev pub unnamedLink : Bool → ℕ → ℕ → ℕ
+  -- "α3 of a new dart is itself where n = 2": by incidence an added node's right side names α0 to αn, so no other link is unnamed
+  unnamedLink true i x = x
+  -- "A preserved dart keeps [..] every link its right side doesn't name."
+  unnamedLink false i x = m .link i x
+
+  -- the tag of the dart x of an added (true) or a preserved (false) pair of the orbit dart u
+  abbrev pub newTag : Bool → ℕ → ℕ → ℕ
+  -- "A new dart takes the tag of u."
+  newTag true u x = m .tag u
+  -- "A preserved dart keeps its tag"
+  newTag false u x = m .tag x
+
+-- a word of a slot by the pair, if any, whose dart it is
+unfoldable pub newWord : Scheme → Option Pair → ℕ → (ℕ → ℕ → ℕ) → ℕ
+-- "all other records stay as they stood"
+newWord S none old f = old
+-- "Deleted records become six zeros"; f gives the words of preserved and added pairs
+newWord S (some p) old f = cond (deleted S (p .node)) 0 (f (p .dart) (p .node))
+
+module _ (m : Map) (S : Scheme) (O : ℕ → Bool) where
+  -- αi of the dart of (u, s), by the i-arc that s has on the right; where it has none, what an unnamed link is
   unfoldable pub newLink : ℕ → ℕ → Arc → ℕ → ℕ
-  newLink u s absent old = old
-  newLink u s (explicit t) old = dartOf u t
-  newLink u s (implicit p) old = dartOf (m .link (orbitDim S p) u) s
+  newLink u s absent unnamed = unnamed
+  -- "an explicit right i-arc to t sets αi to the dart of (u, t)"
+  newLink u s (explicit t) unnamed = dartOf m S O u t
+  -- "an implicit one at position p sets it to the dart of (αq(u), s), with αq from before the edit"
+  newLink u s (implicit p) unnamed = dartOf m S O (m .link (orbitDim S p) u) s
 
-  -- a word of the slot x: as it stood where x is no pair's dart, 0 where the pair is deleted, else by the pair
-  unfoldable pub newWord : Option Pair → ℕ → (ℕ → ℕ → ℕ) → ℕ
-  newWord none old f = old
-  newWord (some p) old f = cond (deleted S (p .node)) 0 (f (p .dart) (p .node))
-
+  -- the map after the edit
   unfoldable pub edited : Map
   edited = record {
     slots = m .slots;
-    state = λ x. newWord (pairOf x) (m .state x) (λ u s. 1);
-    link = λ i x. newWord (pairOf x) (m .link i x) (λ u s. newLink u s (arcAt S right s i) (cond (added S s) x (m .link i x)));
-    tag = λ x. newWord (pairOf x) (m .tag x) (λ u s. cond (added S s) (m .tag u) (m .tag x));
+    state = λ x. newWord S (pairOf m S O x) (m .state x) (λ u s. 1);
+    link = λ i x. newWord S (pairOf m S O x) (m .link i x) (λ u s. newLink u s (arcAt S right s i) (unnamedLink m (added S s) i x));
+    tag = λ x. newWord S (pairOf m S O x) (m .tag x) (λ u s. newTag m (added S s) u x);
   }
