@@ -78,30 +78,30 @@ filled-more n N b k t t' F h u e = rw e (record {
 
 -- ---- all darts
 
+pub place-is : (b : List ℕ) (x : ℕ) → least (numberAt 2 b 3) (λ o. eqb (slotOf b o) x) ≡ placeOf b x
+unfolding placeOf slotOf
+place-is b x = ap (λ (f : ℕ → ℕ). least (f 3) (λ o. eqb (f (5 + 2 * o)) x)) (λ i at. two-at b at i)
+
+pub tag-is : (b : List ℕ) (k : ℕ) → numberAt 4 b (tagPlace b k) ≡ tagAt b k
+unfolding tagPlace
+tag-is b k = ap (λ (L : ℕ). numberAt 4 b (7 + 2 * L + 4 * k)) (two-at b 3) ∙ four-at b _
+
+module _ (n : ℕ) (b : List ℕ) (x k : ℕ) (e : slotOf b k ≡ x) where
+  pub link-is : (i : ℕ) → linkWord n b (linkPlace n b k) (slotOf b k) i ≡ cond (leb i n) (linkAt n b k i) x
+  unfolding linkWord linkPlace
+  link-is i =
+      let L = two-at b 3 in
+      let at : 9 + 6 * numberAt 2 b 3 + 2 * ((n + 1) * k) + 2 * i ≡ 9 + 6 * twoAt b 3 + 2 * ((n + 1) * k + i) = omega arith in
+      ap₂ (cond (leb i n)) (ap (numberAt 2 b) at ∙ two-at b _) e
+
 module _ (n N : ℕ) (b : List ℕ) where
-  pub place-is : (x : ℕ) → least (numberAt 2 b 3) (λ o. eqb (slotOf b o) x) ≡ placeOf n N b x
-  unfolding placeOf slotOf
-  place-is x = ap (λ (f : ℕ → ℕ). least (f 3) (λ o. eqb (f (5 + 2 * o)) x)) (λ i at. two-at n N b at i)
-
-  module _ (x k : ℕ) (e : slotOf b k ≡ x) where
-    pub link-is : (i : ℕ) → linkWord n b (linkPlace n b k) (slotOf b k) i ≡ cond (leb i n) (linkAt n N b k i) x
-    unfolding linkWord linkPlace
-    link-is i =
-        let L = two-at n N b 3 in
-        let at : 9 + 6 * numberAt 2 b 3 + 2 * ((n + 1) * k) + 2 * i ≡ 9 + 6 * twoAt b 3 + 2 * ((n + 1) * k + i) = omega arith in
-        ap₂ (cond (leb i n)) (ap (numberAt 2 b) at ∙ two-at n N b _) e
-
-    pub tag-is : numberAt 4 b (tagPlace b k) ≡ tagAt n N b k
-    unfolding tagPlace
-    tag-is = ap (λ (L : ℕ). numberAt 4 b (7 + 2 * L + 4 * k)) (two-at n N b 3) ∙ four-at n N b _
-
-  pub record-is : (x : ℕ) (o : Option ℕ) → placeOf n N b x ≡ o → ((k : ℕ) → o ≡ some k → slotOf b k ≡ x)
+  pub record-is : (x : ℕ) (o : Option ℕ) → placeOf b x ≡ o → ((k : ℕ) → o ≡ some k → slotOf b k ≡ x)
       → let w : ℕ → ℕ = λ c. atPlace o (λ j. rowOf n b j c) in recordOf (fileMap n N b) x ≡ w 0 ∷ w 1 ∷ w 2 ∷ w 3 ∷ w 4 ∷ w 5 ∷ []
   unfolding fileMap there rowOf
   record-is x none q f = rw q refl
   record-is x (some k) q f =
       let e = f k refl in
-      rw (q, ← link-is x k e 0, ← link-is x k e 1, ← link-is x k e 2, ← link-is x k e 3, ← tag-is x k e) refl
+      rw (q, ← link-is n b x k e 0, ← link-is n b x k e 1, ← link-is n b x k e 2, ← link-is n b x k e 3, ← tag-is b k) refl
 
   columns : (w : ℕ → ℕ) (c : ℕ) → c < 6 → w c ≡ getD (w 0 ∷ w 1 ∷ w 2 ∷ w 3 ∷ w 4 ∷ w 5 ∷ []) c 0
   columns w zero h = refl
@@ -116,7 +116,7 @@ module _ (n N : ℕ) (b : List ℕ) where
   unfolding wordOf
   word-is x c h =
       columns (λ j. wordOf n b (numberAt 2 b 3) x j) c h
-      ∙ ap (λ (l : List ℕ). getD l c 0) (sym (record-is x _ (sym (place-is x)) (λ k q. eqb-true _ _ (least-at _ _ k q .1))))
+      ∙ ap (λ (l : List ℕ). getD l c 0) (sym (record-is x _ (sym (place-is b x)) (λ k q. eqb-true _ _ (least-at _ _ k q .1))))
 
   pub filled-all : (k : ℕ) (t : List ℕ) → k ≡ numberAt 2 b 3 → Filled n N b k t → t ≡ tableOf (fileMap n N b)
   unfolding fileMap

@@ -117,7 +117,7 @@ module _ (b : List ℕ) where
 -- ---- the model's form
 
 -- the model's numbers are those of the general form
-module _ (n N : ℕ) (b : List ℕ) where
+module _ (b : List ℕ) where
   pub two-at : (at : ℕ) → numberAt 2 b at ≡ twoAt b at
   unfolding numberAt
   two-at at = omega arith
@@ -129,12 +129,13 @@ module _ (n N : ℕ) (b : List ℕ) where
   unfolding numberAt
   one-at = omega arith
 
+module _ (n N : ℕ) (b : List ℕ) where
   pub form-is : fileForm n N b ≡ (frameOk n N b and slotsOk N b (numberAt 2 b 3))
   unfolding fileForm frameOk headOk countsOk slotsOk slotOf
   form-is =
       ap₂ (λ (g : ℕ) (f : ℕ → ℕ). eqb g n and eqb (f 1) N and eqb (f (5 + 2 * f 3)) (f 3) and eqb (f (7 + 6 * f 3)) (f 3)
       and eqb (length b) (9 + f 3 * (6 + 2 * (n + 1))) and allBelow (f 3) (λ k. ltb (f (5 + 2 * k)) N and allBelow k (λ o. ltb (f (5 + 2 * o)) (f (5 + 2 * k)))))
-      (sym one-at) (λ i at. sym (two-at at) i)
+      (sym (one-at b)) (λ i at. sym (two-at b at) i)
       ∙ ap (λ (t : Bool). t and eqb (length b) (9 + numberAt 2 b 3 * (6 + 2 * (n + 1))) and slotsOk N b (numberAt 2 b 3)) (and-assoc _ _ _)
 
   module _ (t : (frameOk n N b and slotsOk N b (numberAt 2 b 3)) ≡ true) where

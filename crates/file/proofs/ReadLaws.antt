@@ -46,8 +46,8 @@ module _ (n N : ℕ) (b : List ℕ) (t : fileForm n N b ≡ true) where
   F = formed n N b tests
 
   -- a slot of the file stands at one place
-  placed : (k : ℕ) → k < L → placeOf n N b (slotOf b k) ≡ some k
-  placed k l = sym (place-is n N b (slotOf b k)) ∙ least-only L _ k l (eq-eqb (slotOf b k) (slotOf b k) refl) (λ j g q.
+  placed : (k : ℕ) → k < L → placeOf b (slotOf b k) ≡ some k
+  placed k l = sym (place-is b (slotOf b k)) ∙ least-only L _ k l (eq-eqb (slotOf b k) (slotOf b k) refl) (λ j g q.
       let same : slotOf b j ≡ slotOf b k = eqb-true _ _ q in
       ⊎-elim
       (λ (u : ltb j k ≡ true). let v : slotOf b j < slotOf b k = F .ascends j k (ltb-true j k u) l in absurd (omega arith))
@@ -57,9 +57,9 @@ module _ (n N : ℕ) (b : List ℕ) (t : fileForm n N b ≡ true) where
       (eq-or-lt-of-le (ltb-false j k u)))
       (true-or-false (ltb j k)))
 
-  live-is : (x : ℕ) → live m x ≡ there (placeOf n N b x)
+  live-is : (x : ℕ) → live m x ≡ there (placeOf b x)
   unfolding fileMap
-  live-is x = go (there (placeOf n N b x))
+  live-is x = go (there (placeOf b x))
     where
       go : (c : Bool) → eqb (bit c) 1 ≡ c
       go true = refl
@@ -72,8 +72,8 @@ module _ (n N : ℕ) (b : List ℕ) (t : fileForm n N b ≡ true) where
     has = λ i h. live-is (slotOf b i) ∙ rw (placed i h) refl;
     up = F .ascends;
     each = λ x h e.
-        let k = there-at (placeOf n N b x) (sym (live-is x) ∙ e) in
-        let r = least-at L (λ o. eqb (slotOf b o) x) (k .0) (place-is n N b x ∙ k .1) in
+        let k = there-at (placeOf b x) (sym (live-is x) ∙ e) in
+        let r = least-at L (λ o. eqb (slotOf b o) x) (k .0) (place-is b x ∙ k .1) in
         (k .0, r .0, eqb-true _ _ (r .1));
   }
 
@@ -90,11 +90,11 @@ module _ (n N : ℕ) (b : List ℕ) (t : fileForm n N b ≡ true) where
 
   tag-of : (k : ℕ) → k < L → m .tag (slotOf b k) ≡ numberAt 4 b (tagPlace b k)
   unfolding fileMap
-  tag-of k l = rw (placed k l) (sym (tag-is n N b (slotOf b k) k refl))
+  tag-of k l = rw (placed k l) (sym (tag-is b k))
 
   link-of : (k : ℕ) → k < L → (i : ℕ) → i ≤ n → m .link i (slotOf b k) ≡ numberAt 2 b (linkPlace n b k + 2 * i)
   unfolding fileMap linkWord
-  link-of k l i g = rw (placed k l) (sym (link-is n N b (slotOf b k) k refl i) ∙ rw (le-leb i n g) refl)
+  link-of k l i g = rw (placed k l) (sym (link-is n b (slotOf b k) k refl i) ∙ rw (le-leb i n g) refl)
 
   module _ (bytes : (i : ℕ) → getD b i 0 < 256) where
     size : length b ≡ 9 + 6 * L + 2 * ((n + 1) * L)

@@ -82,14 +82,14 @@ module _ (n : ℕ) (m : Map) (h : n < 256) (few : m .slots ≤ 1024) where
       (all-of (liveDarts m) _ (λ k l. let d = dart-at k l in and-of
       (lt-ltb (slotOf b k) (m .slots) (rw (d .4) (d .1))) (all-of k _ (λ o g. lt-ltb (slotOf b o) (slotOf b k) (ordered o k g l))))))
 
-  place-live : (x : ℕ) → x < m .slots → m .state x ≡ 1 → placeOf n (m .slots) b x ≡ some (countBelow x (live m))
+  place-live : (x : ℕ) → x < m .slots → m .state x ≡ 1 → placeOf b x ≡ some (countBelow x (live m))
   unfolding liveDarts
-  place-live x g e = sym (place-is n (m .slots) b x) ∙ rw darts-read
+  place-live x g e = sym (place-is b x) ∙ rw darts-read
       (least-only (liveDarts m) _ (countBelow x (live m)) (count-lt (live m) x (m .slots) g (eq-eqb _ _ e)) (eq-eqb _ _ (slot-back n m h x g e (omega arith)))
       (λ j l t. let d = dart-at j l in sym (d .3) ∙ ap (λ (y : ℕ). countBelow y (live m)) (sym (d .4) ∙ eqb-true _ _ t)))
 
-  place-unused : (x : ℕ) → live m x ≡ false → placeOf n (m .slots) b x ≡ none
-  place-unused x e = sym (place-is n (m .slots) b x) ∙ rw darts-read (least-none-of (liveDarts m) _ (λ k l.
+  place-unused : (x : ℕ) → live m x ≡ false → placeOf b x ≡ none
+  place-unused x e = sym (place-is b x) ∙ rw darts-read (least-none-of (liveDarts m) _ (λ k l.
       let d = dart-at k l in
       ne-eqb (slotOf b k) x (λ q. true≢false (sym (d .2) ∙ ap (live m) (sym (d .4) ∙ q) ∙ e))))
 

@@ -146,8 +146,8 @@ module _ (n : ℕ) (m : Map) (h : n < 256) where
   file-parts =
       let e : n % 256 ≡ n = omega arith in
       let tags : _≡_ {A = ℕ → List ℕ} (λ x. fourBytes (m .tag x)) (λ x. bytesOf 4 (m .tag x)) = λ i x. four-bytes (m .tag x) i in
-      ap₂ (λ (a : ℕ) (f : ℕ → List ℕ). a ∷ twoBytes (m .slots) ++ section n m twoBytes ++ section n m f
-      ++ section n m (λ x. joined (suc n) (λ i. twoBytes (m .link i x)))) (sym e) tags
+      ap₂ (λ (a : ℕ) (f : ℕ → List ℕ). a ∷ twoBytes (m .slots) ++ section m twoBytes ++ section m f
+      ++ section m (λ x. joined (suc n) (λ i. twoBytes (m .link i x)))) (sym e) tags
 
   -- the length of a map file
   pub length-file : length (file n m) ≡ 9 + liveDarts m * (6 + 2 * (n + 1))

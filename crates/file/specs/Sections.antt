@@ -29,7 +29,7 @@ unfoldable pub dartsBytes : ℕ → Map → Part → ℕ → List ℕ
 dartsBytes n m part x = joined x (λ y. cond (live m y) (partBytes n m part y) [])
 
 unfoldable pub sectionBytes : ℕ → Map → Part → List ℕ
-sectionBytes n m part = section n m (partBytes n m part)
+sectionBytes n m part = section m (partBytes n m part)
 
 -- what stands before the sections
 unfoldable pub headBytes : ℕ → ℕ → List ℕ

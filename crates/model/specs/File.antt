@@ -1,4 +1,4 @@
--- The map file: what is written for a map, and what is read.
+-- 'The map file': the bytes that are written for a map, when bytes are a map file, and the map that is read from them.
 -- Assumes nothing.
 use Prim.Native.Nat.{ℕ, suc, _+_, _*_, _/_, _%_}
 use mathlib.Core.Bool.{Bool, cond}
@@ -14,27 +14,27 @@ use Rattle.model.specs.Map.{Map, live}
 
 -- ---- written
 
--- little-endian, in two and in four bytes
+-- "Numbers are little-endian": in two and in four bytes
 abbrev pub twoBytes : ℕ → List ℕ
 twoBytes w = w % 256 ∷ w / 256 % 256 ∷ []
 
 abbrev pub fourBytes : ℕ → List ℕ
 fourBytes w = w % 256 ∷ w / 256 % 256 ∷ w / 65536 % 256 ∷ w / 16777216 % 256 ∷ []
 
--- L
+-- "the number L of live darts"
 unfoldable pub liveDarts : Map → ℕ
 liveDarts m = countBelow (m .slots) (live m)
 
-module _ (n : ℕ) (m : Map) where
-  -- a section: its count, then f x for each live x
-  unfoldable pub section : (ℕ → List ℕ) → List ℕ
-  section f = twoBytes (liveDarts m) ++ joined (m .slots) (λ x. cond (live m x) (f x) [])
+-- a section: its count, then f x for each live x, ascending
+unfoldable pub section : Map → (ℕ → List ℕ) → List ℕ
+section m f = twoBytes (liveDarts m) ++ joined (m .slots) (λ x. cond (live m x) (f x) [])
 
-  unfoldable pub file : List ℕ
-  file = n ∷ twoBytes (m .slots)
-      ++ section twoBytes
-      ++ section (λ x. fourBytes (m .tag x))
-      ++ section (λ x. joined (suc n) (λ i. twoBytes (m .link i x)))
+-- "One byte n; two bytes N; then three sections": slots, tags, links α0 to αn
+unfoldable pub file : ℕ → Map → List ℕ
+file n m = n ∷ twoBytes (m .slots)
+    ++ section m twoBytes
+    ++ section m (λ x. fourBytes (m .tag x))
+    ++ section m (λ x. joined (suc n) (λ i. twoBytes (m .link i x)))
 
 -- ---- read
 
@@ -43,42 +43,46 @@ abbrev pub atPlace : Option ℕ → (ℕ → ℕ) → ℕ
 atPlace none f = 0
 atPlace (some k) f = f k
 
--- the number of two or of four bytes at a place
 module _ (b : List ℕ) where
+  -- the number of two or of four bytes at a place
   abbrev pub twoAt : ℕ → ℕ
   twoAt at = getD b at 0 + 256 * getD b (at + 1) 0
 
   abbrev pub fourAt : ℕ → ℕ
   fourAt at = twoAt at + 65536 * twoAt (at + 2)
 
-module _ (n N : ℕ) (b : List ℕ) where
-  -- L, and the slot, tag and links of the k-th dart of the file
+  -- L, and the slot and the tag of the k-th dart of the file
   abbrev pub darts : ℕ
-  darts = twoAt b 3
+  darts = twoAt 3
 
   abbrev pub slotAt : ℕ → ℕ
-  slotAt k = twoAt b (5 + 2 * k)
+  slotAt k = twoAt (5 + 2 * k)
 
   abbrev pub tagAt : ℕ → ℕ
-  tagAt k = fourAt b (7 + 2 * darts + 4 * k)
-
-  abbrev pub linkAt : ℕ → ℕ → ℕ
-  linkAt k i = twoAt b (9 + 6 * darts + 2 * ((n + 1) * k + i))
-
-  unfoldable pub fileForm : Bool
-  fileForm = eqb (getD b 0 0) n and eqb (twoAt b 1) N
-      and eqb (twoAt b (5 + 2 * darts)) darts and eqb (twoAt b (7 + 6 * darts)) darts
-      and eqb (length b) (9 + darts * (6 + 2 * (n + 1)))
-      and allBelow darts (λ k. ltb (slotAt k) N and allBelow k (λ o. ltb (slotAt o) (slotAt k)))
+  tagAt k = fourAt (7 + 2 * darts + 4 * k)
 
   -- where slot x stands in the file
   unfoldable pub placeOf : ℕ → Option ℕ
   placeOf x = least darts (λ k. eqb (slotAt k) x)
 
+-- αi of the k-th dart of the file, which has n + 1 links for each
+abbrev pub linkAt : ℕ → List ℕ → ℕ → ℕ → ℕ
+linkAt n b k i = twoAt b (9 + 6 * darts b + 2 * ((n + 1) * k + i))
+
+module _ (n N : ℕ) (b : List ℕ) where
+  -- refusal 11 is given where this is false: "n or N isn't the caller's", a count that is not L, a length that is not exact, a slot of N or more or
+  -- out of order
+  unfoldable pub fileForm : Bool
+  fileForm = eqb (getD b 0 0) n and eqb (twoAt b 1) N
+      and eqb (twoAt b (5 + 2 * darts b)) (darts b) and eqb (twoAt b (7 + 6 * darts b)) (darts b)
+      and eqb (length b) (9 + darts b * (6 + 2 * (n + 1)))
+      and allBelow (darts b) (λ k. ltb (slotAt b k) N and allBelow k (λ o. ltb (slotAt b o) (slotAt b k)))
+
+  -- "Unused records read as zeros; with n = 2 a live α3 reads as its own slot."
   unfoldable pub fileMap : Map
   fileMap = record {
     slots = N;
-    state = λ x. bit (there (placeOf x));
-    link = λ i x. atPlace (placeOf x) (λ k. cond (leb i n) (linkAt k i) x);
-    tag = λ x. atPlace (placeOf x) tagAt;
+    state = λ x. bit (there (placeOf b x));
+    link = λ i x. atPlace (placeOf b x) (λ k. cond (leb i n) (linkAt n b k i) x);
+    tag = λ x. atPlace (placeOf b x) (tagAt b);
   }
