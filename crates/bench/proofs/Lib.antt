@@ -5,3 +5,4 @@ pub mod ShortLaws
 pub mod FramingLaws
 pub mod SessionLaws
 pub mod PrintedLaws
+pub mod OneOutcome

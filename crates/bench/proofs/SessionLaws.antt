@@ -22,7 +22,7 @@ use Rattle.model.specs.declared.Answer.{Answer}
 use Rattle.model.proofs.AnswerLaws.{answers-same}
 use Rattle.file.specs.Places.{Put}
 use Rattle.file.proofs.PlaceLaws.{put-then}
-use Rattle.kernel.specs.Promises.{MapEdited, FileRead}
+use Rattle.demands.specs.Promises.{MapEdited, FileRead}
 use Rattle.bench.specs.Input.{countAt, Laid}
 use Rattle.bench.specs.Session.{Asked, Stands, dartLines}
 use Rattle.bench.specs.declared.framing.Layout.{Layout}

@@ -22,7 +22,7 @@ use Rattle.model.specs.declared.Answer.{Answer}
 use Rattle.model.specs.declared.Answer.the-variants.{Done, Edited, Written, BadCall, BadForm, BadHook, BadIncidence, BadCycle, OtherDimension, BadTable, NoDart, NoMatch, NoRoom, BadFile, ShortOutput}
 use Rattle.model.proofs.CallLaws.{granted}
 use Rattle.model.proofs.SchemeLaws.{nodes-few}
-use Rattle.kernel.proofs.RefusalLaws.{refuses-edit}
+use Rattle.demands.proofs.RefusalLaws.{edit-within}
 use Rattle.bench.proofs.DecimalLaws.{decimal-short}
 use Rattle.bench.proofs.LineLaws.{digits, dart-length, last-length, refused-length}
 
@@ -87,7 +87,7 @@ module _ (n N : ℕ) (t store b : List ℕ) (d : ℕ) where
       go : (o : Option Answer) → editFault n N t store b d ≡ o → length (dartLine d (Option·getD (editFault n N t store b d) (Edited (orbitSize (view N t) (schemeOf b) (orbitOf N t b d))
           (addedDarts (view N t) (schemeOf b) (orbitOf N t b d)) (deletedDarts (view N t) (schemeOf b) (orbitOf N t b d))))) ≤ 23
       go none q = rw q (granted-short q)
-      go (some a) q = rw q (refused-short d a h (refuses-edit n N t store b d a q))
+      go (some a) q = rw q (refused-short d a h (λ e. omega (arith, edit-within n N t store b d .least a q)))
 
 -- ---- the other lines
 

@@ -12,7 +12,7 @@ use lib.Dec.{ltb}
 use borrow.Author.Tests.{lt-ltb, le-ltb}
 use Rattle.model.proofs.AnswerLaws.{answers-of}
 use Rattle.model.specs.declared.Answer.{Answer}
-use Rattle.kernel.specs.Promises.{FileRead, FileWritten}
+use Rattle.demands.specs.Promises.{FileRead, FileWritten}
 use Rattle.base.specs.Below.{countBelow}
 use Rattle.base.specs.First.{someIf, there, _orElse_}
 use Rattle.base.proofs.TestLaws.{true-or-false}

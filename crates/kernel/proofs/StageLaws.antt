@@ -38,9 +38,9 @@ use Rattle.scheme.specs.declared.Reading.{Reading}
 use Rattle.conditions.specs.Verdict.{Judging}
 use Rattle.edit.specs.Apply.{At, Applied, rewritten}
 use Rattle.table.specs.Words.{Sized}
-use Rattle.kernel.specs.Promises.{MapEdited}
+use Rattle.demands.specs.Promises.{MapEdited}
 use Rattle.kernel.specs.Stages.{siteFault, siteDone, siteTable, AppliedAt, Staged}
-use Rattle.kernel.proofs.RefusalLaws.{refuses-bytes}
+use Rattle.demands.proofs.RefusalLaws.{bytes-within}
 
 -- ---- the scheme's bytes
 
@@ -118,7 +118,7 @@ module _ (b : List ℕ) (r : Answer) (j : r ≡ judged b) where
     where
       go : (o : Option Answer) → bytesFault b ≡ o → bytesFault b ≡ none
       go none q = q
-      go (some a) q = absurd (refuses-bytes b a q (ap number (ap (λ (o : Option Answer). Option·getD o Done) (sym q) ∙ sym j ∙ e)))
+      go (some a) q = let zero : number a ≡ 0 = ap number (ap (λ (o : Option Answer). Option·getD o Done) (sym q) ∙ sym j ∙ e) in absurd (omega (arith, bytes-within b .least a q))
 
   pub its-fault : (r ≡ Done → ⊥) → bytesFault b ≡ some r
   unfolding judged

@@ -1,122 +1,36 @@
--- The customer's three demands hold of the five calls.
+-- The file calls of demand 2: what is written, read again, and written back.
 -- Assumes nothing.
 use Prim.Native.Nat.{ℕ, zero, suc, _≤_, _<_}
 use mathlib.Core.Path.{_≡_, refl, sym, ap, _∙_, subst}
-use mathlib.Core.Logic.{_⊎_, ⊎-elim, inl, inr}
-use mathlib.Core.Bool.{Bool, true, false, not, cond}
+use mathlib.Core.Logic.{⊎-elim, inl, inr}
+use mathlib.Core.Bool.{true, false, cond}
 use mathlib.Core.Option.{Option, none, Option·getD}
-use mathlib.Core.List.{List, [], _∷_}
+use mathlib.Core.List.{List, [], _∷_, _++_}
 use native.Mathlib.Omega.{arith}
-use lib.ListN.{length, getD, take, replicate}
+use lib.ListN.{length, getD, take, drop, replicate}
 use lib.Dec.{ltb}
-use borrow.Author.Tests.{eqb-true, eqb-false, eq-eqb, ne-eqb, le-ltb, leb-true}
+use borrow.Author.Tests.{eqb-true, eqb-false, eq-eqb, ne-eqb, le-ltb}
 use Rattle.base.specs.First.{someIf, there, _orElse_}
-use Rattle.base.proofs.TestLaws.{true-or-false, and-left, and-right, or-cases}
+use Rattle.base.proofs.TestLaws.{true-or-false}
 use Rattle.base.proofs.FirstLaws.{or-else-none, when-none}
 use Rattle.model.specs.Map.{Map, view, tableOf, live, recordOf}
 use Rattle.model.specs.Alike.{Alike}
 use Rattle.model.specs.File.{file, fileForm, fileMap}
-use Rattle.model.specs.WellFormed.{WellFormed, wellFormed}
-use Rattle.model.specs.Scheme.{inForm, schemeOf}
-use Rattle.model.specs.Conditions.{schemeFault}
-use Rattle.model.specs.Accepted.{Accepted}
-use Rattle.model.specs.Edit.{orbitSize, addedDarts, deletedDarts, dartOf, edited}
+use Rattle.model.specs.WellFormed.{WellFormed}
 use Rattle.model.specs.Answer.{number, values}
-use Rattle.model.specs.Rewriting.{Rewriting}
-use Rattle.model.specs.Calls.{sizesOk, orbitOf, checkTable, bytesFault, checkScheme, editFault, editAnswer, readFault, readAnswer, readTable, writeFault, writeAnswer}
-use Rattle.model.specs.Sequence.{Holds, AlikeTables, outcomeOf, writtenFile}
+use Rattle.model.specs.Calls.{sizesOk, checkTable, readFault, readAnswer, readTable, writeFault, writeAnswer, writeOut}
+use Rattle.model.specs.Sequence.{Holds, AlikeTables}
 use Rattle.model.specs.declared.Answer.{Answer}
-use Rattle.model.specs.declared.Answer.the-variants.{Done, Edited, Written}
-use Rattle.model.proofs.AnswerLaws.{answers-same}
-use Rattle.model.proofs.SchemeLaws.{shaped}
-use Rattle.model.proofs.AcceptedLaws.{accepted-iff}
+use Rattle.model.specs.declared.Answer.the-variants.{Done, Written}
+use Rattle.model.proofs.SizeLaws.{sizes-iff}
 use Rattle.model.proofs.WellFormedLaws.{wellFormed-iff}
-use Rattle.model.proofs.MatchLaws.{match-assigns}
-use Rattle.model.proofs.MatchIff.{good-orbit}
-use Rattle.model.proofs.RewritingLaws.{rewriting}
-use Rattle.model.proofs.CallLaws.{passed, granted, edit-table}
-use Rattle.model.proofs.HoldsLaws.{holds-free, holds-iff, sizes-too, edit-holds, read-holds, written-file, dimension-small}
+use Rattle.model.proofs.CallLaws.{passed}
+use Rattle.model.proofs.HoldsLaws.{holds-free, holds-iff, sizes-too, read-holds, writtenFile, written-file, dimension-small}
 use Rattle.model.proofs.FileLaws.{same-file}
 use Rattle.model.proofs.AlikeLaws.{alike-sym, alike-trans, words-alike, well-alike}
 use Rattle.file.proofs.RoundTrip.{written-form, read-back, written-back}
-use Rattle.model.proofs.SequenceLaws.{alike-throughout}
-use Rattle.kernel.specs.Promises.{MapEdited, FileRead, FileWritten}
-use Rattle.kernel.specs.Demands.{Demand1, EditDone, Demand2, Demand3}
-use Rattle.kernel.proofs.RefusalLaws.{table-order, scheme-order, edit-order, read-order, write-order, refused-keeps, after-one, after-others, cond-true, cond-false, done-none, refuses-bytes, refuses-edit, refuses-read, refuses-write}
-
--- ---- demand 1
-
-pub demand1 : Demand1
-demand1 = record {
-  tableOrder = λ n N t r p. p .answer .sameNumber ∙ table-order n N t;
-  schemeOrder = λ b r p. p .answer .sameNumber ∙ scheme-order b;
-  editOrder = λ n N t store b d r t′ store′ p. p .answer .sameNumber ∙ edit-order n N t store b d;
-  readOrder = λ n N t b r t′ p. p .answer .sameNumber ∙ read-order n N t b;
-  writeOrder = λ n N t out r out′ p. p .answer .sameNumber ∙ write-order n N t out;
-  refusedEdit = λ n N t store b d r t′ store′ p h. p .table ∙ refused-keeps n N t store b d (λ e. h (p .answer .sameNumber ∙ e));
-  afterOne = λ n N t store b d r t′ store′ p e.
-      let kept = after-one n N t store b d (sym (p .answer .sameNumber) ∙ e) in (p .table ∙ kept .0, p .cleared ∙ kept .1);
-  afterOthers = λ n N t store b d r t′ store′ p h. p .cleared ∙ after-others n N t store b d (λ e. h (p .answer .sameNumber ∙ e));
-}
-
--- ---- demand 2
-
--- ---- a scheme
-
-module _ (b : List ℕ) where
-  bytes-free : inForm b ≡ true → schemeFault (schemeOf b) ≡ none → bytesFault b ≡ none
-  unfolding bytesFault someIf _orElse_
-  bytes-free f q = rw (f, q) refl
-
-  scheme-accepted : number (checkScheme b) ≡ 0 → (inForm b ≡ true) × Accepted (schemeOf b)
-  unfolding checkScheme bytesFault
-  scheme-accepted e =
-      let parts = or-else-none _ _ (done-none (bytesFault b) Done (refuses-bytes b) e) in
-      let form = passed _ _ (parts .0) in
-      (form, accepted-iff (schemeOf b) (shaped b form) .0 (parts .1))
-
-  accepted-scheme : (inForm b ≡ true) × Accepted (schemeOf b) → number (checkScheme b) ≡ 0
-  unfolding checkScheme
-  accepted-scheme p = ap (λ (o : Option Answer). number (Option·getD o Done))
-      (bytes-free (p .0) (accepted-iff (schemeOf b) (p .1 .shaped) .1 (p .1)))
-
--- ---- an edit that is done
-
-module _ (n N : ℕ) (t store b : List ℕ) (d : ℕ) (e : number (editAnswer n N t store b d) ≡ 0) where
-  unrefused : editFault n N t store b d ≡ none
-  unfolding editAnswer
-  unrefused = done-none _ _ (refuses-edit n N t store b d) e
-
-  abbrev O : ℕ → Bool
-  O = orbitOf N t b d
-
-  published : Rewriting (view N t) (edited (view N t) (schemeOf b) O) (schemeOf b) O (dartOf (view N t) (schemeOf b) O)
-  unfolding orbitOf
-  published =
-      let g = granted n N t store b d unrefused in
-      let m = view N t in
-      let good = accepted-iff (schemeOf b) (shaped b (g .form)) .0 (g .accepted) in
-      let rules = wellFormed-iff (schemeOf b .n) m .0 (ap (λ (k : ℕ). wellFormed k m) (g .dimension) ∙ g .well) in
-      let orb = good-orbit m (schemeOf b) d good rules (g .slot) (g .alive) in
-      rewriting m (schemeOf b) _ good orb (match-assigns m (schemeOf b) good _ orb rules (g .match)) (g .room)
-
-  counted : values (editAnswer n N t store b d) ≡ orbitSize (view N t) (schemeOf b) O ∷ addedDarts (view N t) (schemeOf b) O
-      ∷ deletedDarts (view N t) (schemeOf b) O ∷ []
-  unfolding editAnswer
-  counted = ap (λ (o : Option Answer). values (Option·getD o (Edited (orbitSize (view N t) (schemeOf b) O)
-      (addedDarts (view N t) (schemeOf b) O) (deletedDarts (view N t) (schemeOf b) O)))) unrefused
-
-  edit-done : (r : Answer) (t′ store′ : List ℕ) → MapEdited n N t store b d r t′ store′ → EditDone n N t store b d r t′
-  edit-done r t′ store′ p = record {
-    new = edited (view N t) (schemeOf b) O;
-    dart = dartOf (view N t) (schemeOf b) O;
-    table = p .table ∙ edit-table n N t store b d unrefused;
-    rewriting = published;
-    counts = p .answer .sameValues ∙ counted;
-    well = subst (Holds n N) (sym (p .table)) (edit-holds n N t store b d unrefused);
-  }
-
--- ---- files
+use Rattle.demands.specs.Promises.{FileRead, FileWritten}
+use Rattle.demands.proofs.RefusalLaws.{cond-true, cond-false, done-none, read-within, write-within}
 
 -- what a record of a map holds, word by word
 same-record : (m k : Map) (x : ℕ) → recordOf m x ≡ recordOf k x
@@ -135,12 +49,6 @@ same-record m k x e = (
     upTo3 P a b c d (suc (suc (suc zero))) h = d
     upTo3 P a b c d (suc (suc (suc (suc i)))) h = absurd (omega arith)
 
-dimension-of : (n N : ℕ) (t : List ℕ) → sizesOk n N t ≡ true → (n ≡ 2) ⊎ (n ≡ 3)
-dimension-of n N t s = ⊎-elim (λ e. inl (eqb-true n 2 e)) (λ e. inr (eqb-true n 3 e)) (or-cases _ _ (and-left _ _ (and-left _ _ (and-left _ _ s))))
-
-few-slots : (n N : ℕ) (t : List ℕ) → sizesOk n N t ≡ true → N ≤ 1024
-few-slots n N t s = leb-true _ _ (and-right _ _ (and-left _ _ s))
-
 -- the map in the file of a well-formed map is like it
 module _ (n N : ℕ) (t : List ℕ) (h : Holds n N t) (small : (i : ℕ) → getD t i 0 < 4294967296) where
   abbrev m : Map
@@ -150,7 +58,7 @@ module _ (n N : ℕ) (t : List ℕ) (h : Holds n N t) (small : (i : ℕ) → get
   k = fileMap n N (file n m)
 
   back : (x : ℕ) → x < N → recordOf k x ≡ cond (live m x) (recordOf m x) (replicate 6 0)
-  back = read-back n m (omega (arith, dimension-small n N t (h .sizes))) (few-slots n N t (h .sizes)) (dimension-of n N t (h .sizes)) (h .well)
+  back = read-back n m (omega (arith, dimension-small n N t (h .sizes))) (sizes-iff n N t .0 (h .sizes) .few) (sizes-iff n N t .0 (h .sizes) .dimension) (h .well)
       (λ x g l. small _)
 
   back-live : (x : ℕ) → x < N → m .state x ≡ 1 → recordOf m x ≡ recordOf k x
@@ -185,7 +93,7 @@ module _ (n N : ℕ) (t : List ℕ) (h : Holds n N t) (small : (i : ℕ) → get
   read-free : (u : List ℕ) → sizesOk n N u ≡ true → readFault n N u (file n m) ≡ none
   unfolding readFault _orElse_ someIf
   read-free u s =
-      let form = written-form n m (omega (arith, dimension-small n N t (h .sizes))) (few-slots n N t (h .sizes)) in
+      let form = written-form n m (omega (arith, dimension-small n N t (h .sizes))) (sizes-iff n N t .0 (h .sizes) .few) in
       let well = wellFormed-iff n k .1 file-well in
       rw (s, form, well) refl
 
@@ -216,19 +124,26 @@ module _ (n N : ℕ) (t out : List ℕ) where
   write-leaves : Holds n N t → ltb (length out) (length (file n (view N t))) ≡ false → writtenFile n N t out ≡ file n (view N t)
   write-leaves h room = written-file n N t out h ∙ cond-false _ _ _ room
 
+-- a well-formed map with room for its file is written
+pub write-done : (n N : ℕ) (t out : List ℕ) → Holds n N t → length (file n (view N t)) ≤ length out
+    → (writeAnswer n N t out ≡ Written (length (file n (view N t)))) × (writeOut n N t out ≡ file n (view N t) ++ drop (length (file n (view N t))) out)
+unfolding writeAnswer writeOut there
+write-done n N t out h room =
+    let free : writeFault n N t out ≡ none = write-free n N t out h (le-ltb (length out) (length (file n (view N t))) room) in
+    (rw free refl, rw free refl)
+
 -- what a promised write leaves in the output, by the count that it answers
 promised-file : (n N : ℕ) (t out : List ℕ) (r : Answer) (out′ : List ℕ) → FileWritten n N t out r out′
     → take (getD (values r) 0 0) out′ ≡ writtenFile n N t out
-unfolding writtenFile
 promised-file n N t out r out′ p i = take (getD (p .answer .sameValues i) 0 0) (p .output i)
 
-written-read : (n N : ℕ) (t out : List ℕ) (r : Answer) (out′ : List ℕ) → FileWritten n N t out r out′ → number r ≡ 0
+pub written-read : (n N : ℕ) (t out : List ℕ) (r : Answer) (out′ : List ℕ) → FileWritten n N t out r out′ → number r ≡ 0
     → ((i : ℕ) → getD t i 0 < 4294967296)
     → (u : List ℕ) (r₂ : Answer) (u′ : List ℕ) → length u ≡ length t → FileRead n N u (take (getD (values r) 0 0) out′) r₂ u′
     → (number r₂ ≡ 0) × AlikeTables n N t u′
 unfolding writeAnswer readAnswer
 written-read n N t out r out′ p e small u r₂ u′ len q =
-    let free : writeFault n N t out ≡ none = done-none _ _ (refuses-write n N t out) (sym (p .answer .sameNumber) ∙ e) in
+    let free : writeFault n N t out ≡ none = done-none _ _ (write-within n N t out) (omega arith) (sym (p .answer .sameNumber) ∙ e) in
     let h = write-holds n N t out free in
     let b : List ℕ = file n (view N t) in
     let taken : take (getD (values r) 0 0) out′ ≡ b = promised-file n N t out r out′ p ∙ write-leaves n N t out h (write-room n N t out free) in
@@ -244,13 +159,13 @@ written-read n N t out r out′ p e small u r₂ u′ len q =
       },
     )
 
-read-written : (n N : ℕ) (t b : List ℕ) (r : Answer) (t′ : List ℕ) → FileRead n N t b r t′ → number r ≡ 0
+pub read-written : (n N : ℕ) (t b : List ℕ) (r : Answer) (t′ : List ℕ) → FileRead n N t b r t′ → number r ≡ 0
     → ((i : ℕ) → getD b i 0 < 256)
     → (out : List ℕ) (r₂ : Answer) (out′ : List ℕ) → length b ≤ length out → FileWritten n N t′ out r₂ out′
     → (number r₂ ≡ 0) × (take (getD (values r₂) 0 0) out′ ≡ b)
 unfolding readAnswer readFault writeAnswer
 read-written n N t b r t′ p e bytes out r₂ out′ len q =
-    let free : readFault n N t b ≡ none = done-none _ _ (refuses-read n N t b) (sym (p .answer .sameNumber) ∙ e) in
+    let free : readFault n N t b ≡ none = done-none _ _ (read-within n N t b) (omega arith) (sym (p .answer .sameNumber) ∙ e) in
     let parts = or-else-none _ _ free in
     let sized : sizesOk n N t ≡ true = passed _ _ (parts .0) in
     let form : fileForm n N b ≡ true = passed _ _ (or-else-none _ _ (parts .1) .0) in
@@ -261,27 +176,3 @@ read-written n N t b r t′ p e bytes out r₂ out′ len q =
       q .answer .sameNumber ∙ ap (λ (o : Option Answer). number (Option·getD o (Written (length (file n (view N t′)))))) (write-free n N t′ out h room),
       promised-file n N t′ out r₂ out′ q ∙ write-leaves n N t′ out h room ∙ same,
     )
-
-pub demand2 : Demand2
-demand2 = record {
-  accepted = λ b r p. (
-    λ e. scheme-accepted b (sym (p .answer .sameNumber) ∙ e),
-    λ a. p .answer .sameNumber ∙ accepted-scheme b a,
-  );
-  edits = λ n N t store b d r t′ store′ p e. edit-done n N t store b d (sym (p .answer .sameNumber) ∙ e) r t′ store′ p;
-  writtenRead = written-read;
-  readWritten = read-written;
-}
-
--- ---- demand 3
-
-pub demand3 : Demand3
-unfolding outcomeOf
-demand3 = record {
-  throughout = alike-throughout;
-  tableOutcome = λ n N t l r p. answers-same (p .answer);
-  schemeOutcome = λ n N t l b r p. answers-same (p .answer);
-  editOutcome = λ n N t store b d r t′ store′ p. (answers-same (p .answer), p .table);
-  readOutcome = λ n N t l b r t′ p. (answers-same (p .answer), p .table);
-  writeOutcome = λ n N t out r out′ p. (answers-same (p .answer), promised-file n N t out r out′ p);
-}

@@ -6,7 +6,7 @@ use mathlib.Core.List.{List}
 use Rattle.model.specs.Answer.{Answers}
 use Rattle.model.specs.declared.Answer.{Answer}
 use Rattle.model.proofs.AnswerLaws.{answers-same}
-use Rattle.kernel.specs.Promises.{TableChecked, SchemeChecked, MapEdited, FileRead, FileWritten}
+use Rattle.demands.specs.Promises.{TableChecked, SchemeChecked, MapEdited, FileRead, FileWritten}
 
 one-answer : {r r₂ a : Answer} → Answers r a → Answers r₂ a → r ≡ r₂
 one-answer p q = answers-same p ∙ sym (answers-same q)

@@ -1,0 +1,118 @@
+-- The customer's three demands hold of our kernel.
+-- Assumes nothing.
+use Prim.Native.Nat.{ℕ}
+use mathlib.Core.Path.{_≡_, refl, sym, ap, _∙_, subst}
+use mathlib.Core.Logic.{_↔_}
+use mathlib.Core.Bool.{true}
+use mathlib.Core.Option.{Option, none, Option·getD}
+use mathlib.Core.List.{List, [], _∷_, Forall₂, Forall₂·nil, Forall₂·cons}
+use native.Mathlib.Omega.{arith}
+use Rattle.base.specs.First.{someIf, _orElse_}
+use Rattle.base.proofs.FirstLaws.{or-else-none}
+use Rattle.model.specs.Scheme.{inForm, schemeOf}
+use Rattle.model.specs.Conditions.{schemeFault}
+use Rattle.model.specs.Accepted.{Accepted}
+use Rattle.model.specs.Answer.{number, values, Answers}
+use Rattle.model.specs.Calls.{bytesFault, checkScheme}
+use Rattle.model.specs.Sequence.{AlikeTables, Request, tableCheck, schemeCheck, edit, read, write, Call, SameCall, Outcome, outcomeOf, outcome, Event, AlikeEvents}
+use Rattle.model.specs.declared.Answer.{Answer}
+use Rattle.model.specs.declared.Answer.the-variants.{Done}
+use Rattle.model.proofs.AnswerLaws.{answers-same}
+use Rattle.model.proofs.SchemeLaws.{shaped}
+use Rattle.model.proofs.AcceptedLaws.{accepted-iff}
+use Rattle.model.proofs.CallLaws.{passed}
+use Rattle.model.proofs.SequenceLaws.{eventOf, call-alike}
+use Rattle.demands.specs.Refusals.{Refusal, FirstOf}
+use Rattle.demands.specs.Ours.{ours}
+use Rattle.demands.specs.Runs.{Allowed, Run, end, next, AlikeRuns}
+use Rattle.demands.specs.Demands.{Demand1, Demand2, Demand3}
+use Rattle.demands.proofs.OrderLaws.{table-order, scheme-order, edit-order, read-order, write-order}
+use Rattle.demands.proofs.RefusalLaws.{done-none, bytes-within, refused-edit, edit-one, edit-others, read-one, refused-read, refused-write}
+use Rattle.demands.proofs.AdmitLaws.{no-match, nine-is, free-applicable, edit-done}
+use Rattle.demands.proofs.FileDemandLaws.{write-done, written-read, read-written}
+
+-- ---- demand 1
+
+-- what holds of the computed answer holds of the promised one
+order-of : (l : List Refusal) (D : List ℕ → Type 0) {r a : Answer} → Answers r a → FirstOf l D a → FirstOf l D r
+order-of l D p o = subst (FirstOf l D) (sym (answers-same p)) o
+
+pub demand1 : Demand1 ours
+demand1 = record {
+  tableOrder = λ n N t r p. order-of _ _ (p .answer) (table-order n N t);
+  schemeOrder = λ b r p. order-of _ _ (p .answer) (scheme-order b);
+  editOrder = λ n N t store b d r t′ store′ p. order-of _ _ (p .answer) (edit-order n N t store b d);
+  readOrder = λ n N t b r t′ p. order-of _ _ (p .answer) (read-order n N t b);
+  writeOrder = λ n N t out r out′ p. order-of _ _ (p .answer) (write-order n N t out);
+  refusedEdit = λ n N t store b d r t′ store′ p h. p .table ∙ refused-edit n N t store b d (λ e. h (p .answer .sameNumber ∙ e));
+  editAfterOne = λ n N t store b d r t′ store′ p e. p .cleared ∙ edit-one n N t store b d (sym (p .answer .sameNumber) ∙ e);
+  editAfterOthers = λ n N t store b d r t′ store′ p h. p .cleared ∙ edit-others n N t store b d (λ e. h (p .answer .sameNumber ∙ e));
+  readAfterOne = λ n N t b r t′ p e. p .table ∙ read-one n N t b (sym (p .answer .sameNumber) ∙ e);
+  refusedRead = λ n N t b r t′ p h one. p .table ∙ refused-read n N t b (λ e. h (p .answer .sameNumber ∙ e)) (λ e. one (p .answer .sameNumber ∙ e));
+  refusedWrite = λ n N t out r out′ p h. p .output ∙ refused-write n N t out (λ e. h (p .answer .sameNumber ∙ e));
+}
+
+-- ---- demand 2
+
+module _ (b : List ℕ) where
+  scheme-free : (inForm b ≡ true) × Accepted (schemeOf b) → bytesFault b ≡ none
+  unfolding bytesFault someIf _orElse_
+  scheme-free p = rw (p .0, accepted-iff (schemeOf b) (p .1 .shaped) .1 (p .1)) refl
+
+  scheme-iff : (number (checkScheme b) ≡ 0) ↔ ((inForm b ≡ true) × Accepted (schemeOf b))
+  unfolding checkScheme bytesFault
+  scheme-iff = (
+    (λ e.
+        let parts = or-else-none _ _ (done-none (bytesFault b) Done (bytes-within b) (omega arith) e) in
+        let form = passed _ _ (parts .0) in
+        (form, accepted-iff (schemeOf b) (shaped b form) .0 (parts .1))),
+    (λ p. ap (λ (o : Option Answer). number (Option·getD o Done)) (scheme-free p)),
+  )
+
+pub demand2 : Demand2 ours
+demand2 = record {
+  accepted = λ b r p. ((λ e. scheme-iff b .0 (sym (p .answer .sameNumber) ∙ e)), (λ a. p .answer .sameNumber ∙ scheme-iff b .1 a));
+  noMatch = λ n N t store b d r t′ store′ p. (
+    (λ e. nine-is n N t store b d (sym (p .answer .sameNumber) ∙ e)),
+    (λ a. p .answer .sameNumber ∙ no-match n N t store b d (a .0) (a .1)),
+  );
+  edits = λ n N t store b d r t′ store′ p a. edit-done n N t store b d a r t′ store′ p;
+  onlyThen = λ n N t store b d r t′ store′ p e. free-applicable n N t store b d (sym (p .answer .sameNumber) ∙ e);
+  written = λ n N t out r out′ p h room.
+      let w = write-done n N t out h room in
+      (p .answer .sameNumber ∙ ap number (w .0), p .answer .sameValues ∙ ap values (w .0), p .output ∙ w .1);
+  writtenRead = written-read;
+  readWritten = read-written;
+}
+
+-- ---- demand 3
+
+-- a promised outcome is the one that the definitions give
+outcome-is : (n N : ℕ) (t : List ℕ) (q : Request) (l : List ℕ) (o : Outcome) → Allowed ours n N t q l o → o ≡ outcomeOf n N t q l
+unfolding outcomeOf
+outcome-is n N t tableCheck l o p = λ i. record { answer = answers-same (p .0 .answer) i; table = p .1 i; lent = p .2 i }
+outcome-is n N t (schemeCheck b) l o p = λ i. record { answer = answers-same (p .0 .answer) i; table = p .1 i; lent = p .2 i }
+outcome-is n N t (edit b d) l o p = λ i. record { answer = answers-same (p .answer) i; table = p .table i; lent = p .cleared i }
+outcome-is n N t (read b) l o p = λ i. record { answer = answers-same (p .0 .answer) i; table = p .0 .table i; lent = p .1 i }
+outcome-is n N t write l o p = λ i. record { answer = answers-same (p .0 .answer) i; table = p .1 i; lent = p .0 .output i }
+
+-- so one call of alike maps leaves alike maps
+event-alike : (n N : ℕ) (t t′ : List ℕ) → AlikeTables n N t t′ → (e e′ : Event) → SameCall (e .call) (e′ .call)
+    → Allowed ours n N t (e .call .request) (e .call .lent) (e .outcome) → Allowed ours n N t′ (e′ .call .request) (e′ .call .lent) (e′ .outcome)
+    → AlikeEvents n N e e′
+unfolding outcome
+event-alike n N t t′ a e e′ same p p′ =
+    let is : e .outcome ≡ outcome n N t (e .call) = outcome-is n N t (e .call .request) (e .call .lent) (e .outcome) p in
+    let is′ : e′ .outcome ≡ outcome n N t′ (e′ .call) = outcome-is n N t′ (e′ .call .request) (e′ .call .lent) (e′ .outcome) p′ in
+    subst (λ (o : Outcome). AlikeEvents n N (record { call = e .call; outcome = o }) e′) (sym is)
+    (subst (λ (o : Outcome). AlikeEvents n N (eventOf n N t (e .call)) (record { call = e′ .call; outcome = o })) (sym is′)
+    (call-alike n N t t′ a (e .call) (e′ .call) same))
+
+alike-runs : AlikeRuns ours
+alike-runs n N t t′ a s s′ end end Forall₂·nil = Forall₂·nil
+alike-runs n N t t′ a s s′ (next {e = e} {s = r} p q) (next {e = e′} {s = r′} p′ q′) (Forall₂·cons same rest) =
+    let now : AlikeEvents n N e e′ = event-alike n N t t′ a e e′ same p p′ in
+    Forall₂·cons now (alike-runs n N _ _ (now .tables) r r′ q q′ rest)
+
+pub demand3 : Demand3 ours
+demand3 = record { edits = demand2; throughout = alike-runs }

@@ -1,0 +1,174 @@
+-- What the searches of refusals 3 to 5 and the test of refusal 9 find is what the rules of specs/Refusals.antt say.
+-- Assumes nothing.
+use Prim.Native.Nat.{ℕ, suc, _+_, _≤_, _<_}
+use mathlib.Core.Path.{_≡_, refl, sym, ap, _∙_, subst}
+use mathlib.Core.Logic.{_⊎_, inl, inr, ⊎-elim, _↔_}
+use mathlib.Core.Bool.{Bool, true, false, not, true≢false}
+use mathlib.Core.Option.{Option, none, some}
+use mathlib.Core.List.{List}
+use native.Mathlib.Omega.{arith}
+use lib.Dec.{leb}
+use borrow.Author.Tests.{eqb-true, eq-eqb, leb-true, le-leb, not-false}
+use Rattle.base.specs.Test.{_and_}
+use Rattle.base.specs.First.{someIf, there, first, least}
+use Rattle.base.proofs.TestLaws.{and-left, and-right, and-of, true-or-false}
+use Rattle.base.proofs.BelowLaws.{all-at, all-of, le-or-lt}
+use Rattle.base.proofs.FirstLaws.{when-at, when-none, or-else-cases, or-else-none, first-at, first-none, least-at, least-none}
+use Rattle.model.specs.Map.{view}
+use Rattle.model.specs.WellFormed.{WellFormed}
+use Rattle.model.specs.Scheme.{left, has, orbitDim, schemeOf}
+use Rattle.model.specs.Shaped.{Shaped}
+use Rattle.model.specs.Accepted.{Accepted}
+use Rattle.model.specs.Conditions.{Reached, pathTo, hookRight, hookFault, incidenceOk, incidenceFault, cycleOk, cycleFault}
+use Rattle.model.specs.Orbit.{orbit, IsOrbit}
+use Rattle.model.specs.Match.{matches, Assignment}
+use Rattle.model.specs.Calls.{orbitOf}
+use Rattle.model.specs.declared.Scheme.{Scheme}
+use Rattle.model.specs.declared.Answer.{Answer}
+use Rattle.model.specs.declared.Answer.the-variants.{BadCycle}
+use Rattle.model.proofs.HookLaws.{found-reached, reached-found}
+use Rattle.model.proofs.OrbitLaws.{orbit-is, orbit-only}
+use Rattle.model.proofs.MatchIff.{match-iff}
+use Rattle.demands.specs.Refusals.{LeastNode, HookRight, Unreached, HookFault, Offends, FirstPair, Orbit, Matched}
+
+-- ---- tests
+
+pub not-true : (b : Bool) → not b ≡ true → b ≡ false
+not-true true e = absurd (true≢false (sym e))
+not-true false e = refl
+
+pub not-iff : (b : Bool) → (not b ≡ true) ↔ (b ≡ false)
+not-iff b = (not-true b, λ e. ap not e)
+
+-- ---- the least node that has a property
+
+module _ (c : ℕ) (p : ℕ → Bool) (P : ℕ → Type 0) (is : (s : ℕ) → s < c → (p s ≡ true) ↔ P s) where
+  pub least-found : (s : ℕ) → least c p ≡ some s → LeastNode c P s
+  least-found s e =
+      let l = least-at c p s e in
+      record {
+        below = l .0;
+        has = is s (l .0) .0 (l .1);
+        least = λ o h q. true≢false (sym (is o (omega (arith, l .0)) .1 q) ∙ l .2 o h);
+      }
+
+  pub least-nowhere : least c p ≡ none → (s : ℕ) → LeastNode c P s → ⊥
+  least-nowhere e s l = true≢false (sym (is s (l .below) .1 (l .has)) ∙ least-none c p e s (l .below))
+
+-- ---- hook
+
+module _ (S : Scheme) (f : Shaped S) where
+  hook-iff : (hookRight S ≡ true) ↔ HookRight S
+  unfolding hookRight
+  hook-iff = (
+    (λ e. record { kind = and-left _ _ e; word = λ p h. eqb-true _ _ (all-at _ _ (and-right _ _ e) p h) }),
+    (λ h. and-of (h .kind) (all-of (S .places) _ (λ p l. eq-eqb _ _ (h .word p l)))),
+  )
+
+  unreached-iff : (s : ℕ) → s < S .nodes → ((has S left s and not (there (pathTo S s))) ≡ true) ↔ Unreached S s
+  unreached-iff s h = (
+    (λ e. record { onLeft = and-left _ _ e; cut = λ r. true≢false (sym (reached-found S f r) ∙ not-true _ (and-right _ _ e)) }),
+    (λ u. and-of (u .onLeft) (⊎-elim (λ t. absurd (u .cut (found-reached S f s h t))) (λ t. ap not t) (true-or-false (there (pathTo S s))))),
+  )
+
+  pub hook-found : (s : ℕ) → hookFault S ≡ some s → HookFault S s
+  unfolding hookFault
+  hook-found s e = ⊎-elim
+      (λ w. let q = when-at _ w in inl ((λ h. true≢false (sym (hook-iff .1 h) ∙ not-true _ (q .0))), sym (q .1)))
+      (λ w. inr (hook-iff .0 (not-false _ (when-none _ 0 (w .0))), least-found (S .nodes) _ (Unreached S) unreached-iff s (w .1)))
+      (or-else-cases _ _ s e)
+
+  pub hook-nowhere : hookFault S ≡ none → (s : ℕ) → HookFault S s → ⊥
+  unfolding hookFault
+  hook-nowhere e s h =
+      let w = or-else-none _ _ e in
+      ⊎-elim (λ q. q .0 (hook-iff .0 (not-false _ (when-none _ 0 (w .0))))) (λ q. least-nowhere (S .nodes) _ (Unreached S) unreached-iff (w .1) s (q .1)) h
+
+-- ---- incidence
+
+module _ (S : Scheme) where
+  pub incidence-found : (s : ℕ) → incidenceFault S ≡ some s → LeastNode (S .nodes) (λ u. incidenceOk S u ≡ false) s
+  unfolding incidenceFault
+  incidence-found = least-found (S .nodes) _ _ (λ s h. not-iff (incidenceOk S s))
+
+  pub incidence-nowhere : incidenceFault S ≡ none → (s : ℕ) → LeastNode (S .nodes) (λ u. incidenceOk S u ≡ false) s → ⊥
+  unfolding incidenceFault
+  incidence-nowhere = least-nowhere (S .nodes) _ _ (λ s h. not-iff (incidenceOk S s))
+
+  -- ---- cycles
+
+  offends-iff : (s i j : ℕ) → j < suc (S .n) → ((leb (i + 2) j and not (cycleOk S s i j)) ≡ true) ↔ Offends S s i j
+  offends-iff s i j h = (
+    (λ e. record { apart = leb-true _ _ (and-left _ _ e); within = omega arith; wrong = not-true _ (and-right _ _ e) }),
+    (λ o. and-of (le-leb _ _ (o .apart)) (ap not (o .wrong))),
+  )
+
+  -- what is looked for at a node and i, and at a node
+  at-pair : ℕ → ℕ → ℕ → Option Answer
+  at-pair s i j = someIf (leb (i + 2) j and not (cycleOk S s i j)) (BadCycle s i j)
+
+  no-pair : (s i j : ℕ) → at-pair s i j ≡ none → Offends S s i j → ⊥
+  unfolding at-pair
+  no-pair s i j e o = true≢false (sym (offends-iff s i j (omega (arith, o .within)) .1 o) ∙ when-none _ _ e)
+
+  no-row : (s i : ℕ) → first (suc (S .n)) (at-pair s i) ≡ none → (j : ℕ) → Offends S s i j → ⊥
+  no-row s i e j o = no-pair s i j (first-none _ _ e j (omega (arith, o .within))) o
+
+  no-node : (s : ℕ) → first (suc (S .n)) (λ i. first (suc (S .n)) (at-pair s i)) ≡ none → (i j : ℕ) → Offends S s i j → ⊥
+  no-node s e i j o = no-row s i (first-none _ _ e i (omega (arith, o .within, o .apart))) j o
+
+  pub cycle-found : (a : Answer) → cycleFault S ≡ some a → (s i j : ℕ) × FirstPair S s i j × (a ≡ BadCycle s i j)
+  unfolding cycleFault at-pair
+  cycle-found a e =
+      let node = first-at (S .nodes) _ a e in
+      let row = first-at (suc (S .n)) _ a (node .2) in
+      let pair = first-at (suc (S .n)) _ a (row .2) in
+      let w = when-at _ (pair .2) in
+      let s = node .0 in
+      let i = row .0 in
+      let j = pair .0 in
+      let here : Offends S s i j = offends-iff s i j (pair .1) .0 (w .0) in (
+        s,
+        i,
+        j,
+        record {
+          node = record { below = node .1; has = (i, j, here); least = λ o h q. no-node o (node .3 o h) (q .0) (q .1) (q .2) };
+          offends = here;
+          first = λ k l o. ⊎-elim
+              (λ (ge : i ≤ k). ⊎-elim (λ (le : k ≤ i). inr (after s i j k l (omega arith) o (pair .3))) (λ more. inl more) (le-or-lt k i))
+              (λ less. absurd (no-row s k (row .3 k less) l o))
+              (le-or-lt i k);
+        },
+        sym (w .1),
+      )
+    where
+      after : (s i j k l : ℕ) → i ≡ k → Offends S s k l → ((o : ℕ) → o < j → at-pair s i o ≡ none) → (i ≡ k) × (j ≤ l)
+      after s i j k l e o none-before = (
+        e,
+        ⊎-elim (λ ge. ge) (λ less. absurd (no-pair s i l (none-before l less) (subst (λ (z : ℕ). Offends S s z l) (sym e) o))) (le-or-lt j l),
+      )
+
+  pub cycle-nowhere : cycleFault S ≡ none → (s i j : ℕ) → FirstPair S s i j → ⊥
+  unfolding cycleFault at-pair
+  cycle-nowhere e s i j p = no-node s (first-none _ _ e s (p .node .below)) i j (p .offends)
+
+-- ---- the match
+
+module _ (N : ℕ) (t b : List ℕ) (d : ℕ) (a : Accepted (schemeOf b)) (w : WellFormed (schemeOf b .n) (view N t)) (h : d < N) (l : view N t .state d ≡ 1) where
+  -- the computed orbit is the orbit
+  pub orbit-of : Orbit N t b d (orbitOf N t b d)
+  unfolding orbitOf
+  orbit-of = orbit-is (view N t) (schemeOf b .places) (orbitDim (schemeOf b)) d (schemeOf b .n) w (a .shaped .orbitDims) h l
+
+  pub orbit-one : {O : ℕ → Bool} → Orbit N t b d O → O ≡ orbitOf N t b d
+  orbit-one o = orbit-only (view N t) (schemeOf b .places) (orbitDim (schemeOf b)) d o orbit-of
+
+  found-iff : (matches (view N t) (schemeOf b) (orbitOf N t b d) ≡ true) ↔ ((f : ℕ → ℕ → ℕ) × Assignment (view N t) (schemeOf b) (orbitOf N t b d) f)
+  unfolding orbitOf
+  found-iff = match-iff (view N t) (schemeOf b) d a w h l
+
+  pub matched-iff : (matches (view N t) (schemeOf b) (orbitOf N t b d) ≡ true) ↔ Matched N t b d
+  matched-iff = (
+    (λ q. let f = found-iff .0 q in record { orbit = orbitOf N t b d; isOrbit = orbit-of; dart = f .0; assigned = f .1 }),
+    (λ m. found-iff .1 (m .dart, subst (λ (O : ℕ → Bool). Assignment (view N t) (schemeOf b) O (m .dart)) (orbit-one (m .isOrbit)) (m .assigned))),
+  )

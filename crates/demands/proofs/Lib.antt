@@ -1,0 +1,9 @@
+pub mod FaultLaws
+pub mod OrderLaws
+pub mod RefusalLaws
+pub mod AdmitLaws
+pub mod FileDemandLaws
+pub mod OneOutcome
+pub mod RefineLaws
+pub mod Demands
+pub mod WrongKernels

@@ -1,0 +1,191 @@
+-- Demand 1: each call answers with the first refusal of its list that applies, number and values, and is done where none does.
+-- Assumes nothing.
+use Prim.Native.Nat.{ℕ, _*_, _<_}
+use mathlib.Core.Path.{_≡_, refl, sym, ap, _∙_, subst}
+use mathlib.Core.Logic.{inl, inr, _↔_}
+use mathlib.Core.Bool.{Bool, true, false, not, true≢false}
+use mathlib.Core.Option.{Option, none, some, Option·getD}
+use mathlib.Core.List.{List, [], _∷_}
+use lib.ListN.{length}
+use lib.Dec.{eqb, ltb}
+use borrow.Author.Tests.{eqb-true, eq-eqb, ltb-true, lt-ltb}
+use Rattle.base.specs.Test.{_and_}
+use Rattle.base.specs.Below.{countBelow}
+use Rattle.base.specs.First.{someIf, _orElse_}
+use Rattle.base.proofs.TestLaws.{and-left, and-right, and-of}
+use Rattle.base.proofs.FirstLaws.{some-not-none, or-else-last}
+use Rattle.model.specs.Map.{view, unused, live}
+use Rattle.model.specs.WellFormed.{WellFormed}
+use Rattle.model.specs.Scheme.{inForm, schemeOf}
+use Rattle.model.specs.Accepted.{Accepted}
+use Rattle.model.specs.Conditions.{hookFault, incidenceFault, cycleFault, schemeFault, noted}
+use Rattle.model.specs.Edit.{addedDarts}
+use Rattle.model.specs.File.{file, fileForm, fileMap}
+use Rattle.model.specs.Answer.{number, values}
+use Rattle.model.specs.Calls.{Sizes, sizesOk, tableFault, checkTable, bytesFault, checkScheme, fitFault, orbitOf, editFault, editAnswer, readFault, readAnswer, writeFault, writeAnswer}
+use Rattle.model.specs.declared.Answer.{Answer}
+use Rattle.model.specs.declared.Answer.the-variants.{Done, BadHook, BadIncidence, BadTable}
+use Rattle.model.proofs.WellFormedLaws.{wellFormed-iff}
+use Rattle.model.proofs.SizeLaws.{sizes-iff}
+use Rattle.model.proofs.SchemeLaws.{shaped}
+use Rattle.model.proofs.AcceptedLaws.{accepted}
+use Rattle.demands.specs.Refusals.{Refusal, bare, FirstOf, Nothing, hookRefusal, incidenceRefusal, cycleRefusal, schemeRefusals, Matched, Crowded, Dart, tableRefusals, editRefusals, readRefusals, writeRefusals}
+use Rattle.demands.specs.Demands.{counts, Counted}
+use Rattle.demands.proofs.FaultLaws.{hook-found, hook-nowhere, incidence-found, incidence-nowhere, cycle-found, cycle-nowhere, orbit-of, orbit-one, matched-iff}
+
+-- ---- one refusal of a chain
+
+-- c gives the answer of the refusal f where it applies, and r is what comes of the rest
+module _ (f : Refusal) (l : List Refusal) (D : List ℕ → Type 0) where
+  pub order-step : (c o : Option Answer) (done : Answer) → ((a : Answer) → c ≡ some a → (number a ≡ f .number) × f .Given (values a))
+      → (c ≡ none → (v : List ℕ) → f .Given v → ⊥) → (c ≡ none → FirstOf l D (Option·getD o done))
+      → FirstOf (f ∷ l) D (Option·getD (c orElse o) done)
+  unfolding FirstOf _orElse_
+  order-step none o done g n r = inr (n refl, r refl)
+  order-step (some a) o done g n r = inl (g a refl)
+
+-- a bare refusal, given where P does not hold
+module _ (k : ℕ) {P : Type 0} (l : List Refusal) (D : List ℕ → Type 0) where
+  pub order-test : (t : Bool) → (t ≡ true) ↔ P → (a : Answer) (o : Option Answer) (done : Answer) → number a ≡ k → values a ≡ []
+      → (P → FirstOf l D (Option·getD o done)) → FirstOf (bare k (P → ⊥) ∷ l) D (Option·getD (someIf (not t) a orElse o) done)
+  unfolding FirstOf someIf _orElse_
+  order-test true i a o done e z r = inr ((λ v g. g .0 (i .0 refl)), r (i .0 refl))
+  order-test false i a o done e z r = inl (e, ((λ p. true≢false (sym (i .1 p))), z))
+
+-- the same where the test is at the end of the chain
+module _ (k : ℕ) {P : Type 0} (D : List ℕ → Type 0) where
+  pub order-end : (t : Bool) → (t ≡ true) ↔ P → (a done : Answer) → number a ≡ k → values a ≡ []
+      → (P → (number done ≡ 0) × D (values done)) → FirstOf (bare k (P → ⊥) ∷ []) D (Option·getD (someIf (not t) a) done)
+  unfolding FirstOf someIf
+  order-end true i a done e z r = inr ((λ v g. g .0 (i .0 refl)), r (i .0 refl))
+  order-end false i a done e z r = inl (e, ((λ p. true≢false (sym (i .1 p))), z))
+
+  -- a bare refusal that is given where P holds
+  pub order-found : (t : Bool) → (t ≡ true) ↔ P → (a done : Answer) → number a ≡ k → values a ≡ []
+      → ((P → ⊥) → (number done ≡ 0) × D (values done)) → FirstOf (bare k P ∷ []) D (Option·getD (someIf t a) done)
+  unfolding FirstOf someIf
+  order-found true i a done e z r = inl (e, (i .0 refl, z))
+  order-found false i a done e z r = let no : P → ⊥ = λ p. true≢false (sym (i .1 p)) in inr ((λ v g. no (g .0)), r no)
+
+regroup : (a b c : Option Answer) → (a orElse b) orElse c ≡ a orElse (b orElse c)
+unfolding _orElse_
+regroup none b c = refl
+regroup (some x) b c = refl
+
+-- a part of a chain that names a node
+noted-at : (f : ℕ → Answer) (o : Option ℕ) (a : Answer) → noted f o ≡ some a → (s : ℕ) × (o ≡ some s) × (f s ≡ a)
+noted-at f none a e = absurd (some-not-none e refl)
+noted-at f (some s) a e = (s, refl, cc)
+
+noted-none : (f : ℕ → Answer) (o : Option ℕ) → noted f o ≡ none → o ≡ none
+noted-none f none e = refl
+noted-none f (some s) e = absurd (some-not-none {o = some (f s)} {a = f s} refl e)
+
+-- a test is what it says
+itself : (b : Bool) → (b ≡ true) ↔ (b ≡ true)
+itself b = ((λ e. e), λ e. e)
+
+-- ---- refusals 2 to 5, before any others
+
+module _ (b : List ℕ) (l : List Refusal) (D : List ℕ → Type 0) (o : Option Answer) (done : Answer) where
+  conditions-order : inForm b ≡ true → (schemeFault (schemeOf b) ≡ none → FirstOf l D (Option·getD o done))
+      → FirstOf (hookRefusal (schemeOf b) ∷ incidenceRefusal (schemeOf b) ∷ cycleRefusal (schemeOf b) ∷ l) D
+      (Option·getD (schemeFault (schemeOf b) orElse o) done)
+  unfolding schemeFault _orElse_
+  conditions-order form r =
+      let S = schemeOf b in
+      subst (λ (c : Option Answer). FirstOf (hookRefusal S ∷ incidenceRefusal S ∷ cycleRefusal S ∷ l) D (Option·getD c done))
+      (sym (regroup (noted BadHook (hookFault S)) (noted BadIncidence (incidenceFault S) orElse cycleFault S) o
+      ∙ ap (λ (c : Option Answer). noted BadHook (hookFault S) orElse c) (regroup (noted BadIncidence (incidenceFault S)) (cycleFault S) o)))
+      (order-step (hookRefusal S) _ D (noted BadHook (hookFault S)) _ done
+      (λ a e. let q = noted-at BadHook _ a e in (ap number (sym (q .2)), (q .0, hook-found S (shaped b form) (q .0) (q .1), ap values (sym (q .2)))))
+      (λ e v g. hook-nowhere S (shaped b form) (noted-none BadHook _ e) (g .0) (g .1))
+      (λ noHook. order-step (incidenceRefusal S) _ D (noted BadIncidence (incidenceFault S)) _ done
+      (λ a e. let q = noted-at BadIncidence _ a e in (ap number (sym (q .2)), (q .0, incidence-found S (q .0) (q .1), ap values (sym (q .2)))))
+      (λ e v g. incidence-nowhere S (noted-none BadIncidence _ e) (g .0) (g .1))
+      (λ noIncidence. order-step (cycleRefusal S) l D (cycleFault S) o done
+      (λ a e. let q = cycle-found S a e in (ap number (q .4), (q .0, q .1, q .2, q .3, ap values (q .4))))
+      (λ e v g. cycle-nowhere S e (g .0) (g .1) (g .2) (g .3))
+      (λ noCycle. r (rw (noHook, noIncidence) noCycle)))))
+
+  pub bytes-order : (inForm b ≡ true → Accepted (schemeOf b) → FirstOf l D (Option·getD o done))
+      → FirstOf (schemeRefusals b l) D (Option·getD (bytesFault b orElse o) done)
+  unfolding bytesFault
+  bytes-order r =
+      subst (λ (c : Option Answer). FirstOf (schemeRefusals b l) D (Option·getD c done)) (sym (regroup _ (schemeFault (schemeOf b)) o))
+      (order-test 2 _ D (inForm b) (itself (inForm b)) _ _ done refl refl
+      (λ form. conditions-order form (λ e. r form (accepted (schemeOf b) (shaped b form) e))))
+
+-- ---- the calls
+
+module _ (n N : ℕ) (t : List ℕ) where
+  -- refusals 1 and 7, before any others
+  table-chain : (l : List Refusal) (D : List ℕ → Type 0) (o : Option Answer) (done : Answer)
+      → (Sizes n N t → WellFormed n (view N t) → FirstOf l D (Option·getD o done)) → FirstOf (tableRefusals n N t l) D (Option·getD (tableFault n N t orElse o) done)
+  unfolding tableFault
+  table-chain l D o done r =
+      subst (λ (c : Option Answer). FirstOf (tableRefusals n N t l) D (Option·getD c done)) (sym (regroup _ _ o))
+      (order-test 1 _ D (sizesOk n N t) (sizes-iff n N t) _ _ done refl refl
+      (λ s. order-test 7 l D _ (wellFormed-iff n (view N t)) _ o done refl refl (r s)))
+
+  pub table-order : FirstOf (tableRefusals n N t []) Nothing (checkTable n N t)
+  unfolding checkTable FirstOf
+  table-order = subst (λ (c : Option Answer). FirstOf (tableRefusals n N t []) Nothing (Option·getD c Done)) (or-else-last (tableFault n N t))
+      (table-chain [] Nothing none Done (λ s w. (refl, refl)))
+
+pub scheme-order : (b : List ℕ) → FirstOf (schemeRefusals b []) Nothing (checkScheme b)
+unfolding checkScheme FirstOf
+scheme-order b = subst (λ (c : Option Answer). FirstOf (schemeRefusals b []) Nothing (Option·getD c Done)) (or-else-last (bytesFault b))
+    (bytes-order b [] Nothing none Done (λ f a. (refl, refl)))
+
+module _ (n N : ℕ) (t b : List ℕ) where
+  pub read-order : FirstOf (readRefusals n N t b) Nothing (readAnswer n N t b)
+  unfolding readAnswer readFault
+  read-order = order-test 1 _ Nothing (sizesOk n N t) (sizes-iff n N t) _ _ Done refl refl
+      (λ s. order-test 11 _ Nothing (fileForm n N b) (itself (fileForm n N b)) _ _ Done refl refl
+      (λ f. order-end 7 Nothing _ (wellFormed-iff n (fileMap n N b)) _ Done refl refl (λ w. (refl, refl))))
+
+module _ (n N : ℕ) (t out : List ℕ) where
+  pub write-order : FirstOf (writeRefusals n N t out) (λ v. v ≡ length (file n (view N t)) ∷ []) (writeAnswer n N t out)
+  unfolding writeAnswer writeFault
+  write-order = table-chain n N t _ _ _ _ (λ s w. order-found 12 _ (ltb (length out) (length (file n (view N t))))
+      ((λ e. ltb-true _ _ e), (λ e. lt-ltb _ _ e)) _ _ refl refl (λ no. (refl, refl)))
+
+module _ (n N : ℕ) (t store b : List ℕ) (d : ℕ) where
+  sizes-store : ((sizesOk n N t and eqb (length store) (16 * N)) ≡ true) ↔ (Sizes n N t × (length store ≡ 16 * N))
+  sizes-store = (
+    (λ e. (sizes-iff n N t .0 (and-left _ _ e), eqb-true _ _ (and-right _ _ e))),
+    (λ p. and-of (sizes-iff n N t .1 (p .0)) (eq-eqb _ _ (p .1))),
+  )
+
+  dart-iff : ((ltb d N and live (view N t) d) ≡ true) ↔ Dart N t d
+  dart-iff = (
+    (λ e. record { slot = ltb-true _ _ (and-left _ _ e); live = eqb-true _ _ (and-right _ _ e) }),
+    (λ p. and-of (lt-ltb _ _ (p .slot)) (eq-eqb _ _ (p .live))),
+  )
+
+  dimension-iff : (eqb (schemeOf b .n) n ≡ true) ↔ (schemeOf b .n ≡ n)
+  dimension-iff = (eqb-true _ _, eq-eqb _ _)
+
+  -- refusals 9 and 10
+  fit-order : Accepted (schemeOf b) → WellFormed (schemeOf b .n) (view N t) → Dart N t d → (done : Answer) → number done ≡ 0 → values done ≡ counts N t b (orbitOf N t b d)
+      → FirstOf (bare 9 (Matched N t b d → ⊥) ∷ bare 10 (Crowded N t b d) ∷ []) (Counted N t b d)
+      (Option·getD (fitFault (view N t) (schemeOf b) (orbitOf N t b d)) done)
+  unfolding fitFault
+  fit-order a w p done z v =
+      let o = orbit-of N t b d a w (p .slot) (p .live) in
+      order-test 9 _ (Counted N t b d) _ (matched-iff N t b d a w (p .slot) (p .live)) _ _ done refl refl
+      (λ m. order-found 10 (Counted N t b d) (ltb (countBelow N (unused (view N t))) (addedDarts (view N t) (schemeOf b) (orbitOf N t b d))) (
+        (λ e. record { orbit = orbitOf N t b d; isOrbit = o; few = ltb-true _ _ e }),
+        (λ c. lt-ltb _ _ (subst (λ (O : ℕ → Bool). countBelow N (unused (view N t)) < addedDarts (view N t) (schemeOf b) O)
+            (orbit-one N t b d a w (p .slot) (p .live) (c .isOrbit)) (c .few))),
+      ) _ done refl refl (λ no. (z, (orbitOf N t b d, o, v))))
+
+  pub edit-order : FirstOf (editRefusals n N t store b d) (Counted N t b d) (editAnswer n N t store b d)
+  unfolding editAnswer editFault
+  edit-order = order-test 1 _ (Counted N t b d) _ sizes-store _ _ _ refl refl
+      (λ s. bytes-order b _ (Counted N t b d) _ _
+      (λ form a. order-test 6 _ (Counted N t b d) _ dimension-iff _ _ _ refl refl
+      (λ same. order-test 7 _ (Counted N t b d) _ (wellFormed-iff n (view N t)) _ _ _ refl refl
+      (λ w. order-test 8 _ (Counted N t b d) _ dart-iff _ _ _ refl refl
+      (λ p. fit-order a (subst (λ (k : ℕ). WellFormed k (view N t)) (sym same) w) p _ refl refl)))))

@@ -1,0 +1,195 @@
+-- What the numbers of a chain's refusals say: which of its tests were passed, and what table, store and output hold then.
+-- Assumes nothing.
+use Prim.Native.Nat.{ℕ, _*_, _≤_, _<_}
+use mathlib.Core.Path.{_≡_, refl, sym, ap, _∙_}
+use mathlib.Core.Logic.{_⊎_, inl, inr, ⊎-elim}
+use mathlib.Core.Bool.{Bool, true, false, not, cond}
+use mathlib.Core.Option.{Option, none, some, Option·getD}
+use mathlib.Core.List.{List}
+use native.Mathlib.Omega.{arith}
+use lib.ListN.{length}
+use lib.Dec.{eqb, ltb}
+use Rattle.base.specs.Test.{_and_}
+use Rattle.base.specs.First.{someIf, _orElse_, there}
+use Rattle.base.proofs.FirstLaws.{first-at, when-at, some-not-none}
+use Rattle.model.specs.Map.{view, tableOf, live}
+use Rattle.model.specs.WellFormed.{wellFormed}
+use Rattle.model.specs.Answer.{number}
+use Rattle.model.specs.Scheme.{schemeOf}
+use Rattle.model.specs.Conditions.{hookFault, incidenceFault, cycleFault, schemeFault, noted}
+use Rattle.model.specs.Edit.{edited}
+use Rattle.model.specs.File.{file, fileForm, fileMap}
+use Rattle.model.specs.Calls.{zeros, sizesOk, tableFault, bytesFault, fitFault, orbitOf, editFault, editAnswer, editTable, editStore, readFault, readAnswer, readTable, writeFault, writeAnswer, writeOut}
+use Rattle.model.specs.declared.Scheme.{Scheme}
+use Rattle.model.specs.declared.Answer.{Answer}
+use Rattle.model.specs.declared.Answer.the-variants.{BadCall, BadForm, BadHook, BadIncidence, OtherDimension, BadTable, NoDart, BadFile}
+
+pub cond-true : {A : Type 0} (s : Bool) (a b : A) → s ≡ true → cond s a b ≡ a
+cond-true s a b e = rw e
+
+pub cond-false : {A : Type 0} (s : Bool) (a b : A) → s ≡ false → cond s a b ≡ b
+cond-false s a b e = rw e
+
+-- ---- the numbers that a chain can give
+
+-- whatever o gives has a number from j to k
+pub record Within (j k : ℕ) (o : Option Answer) : Type 0 where
+  pub least : (a : Answer) → o ≡ some a → j ≤ number a
+  pub most : (a : Answer) → o ≡ some a → number a ≤ k
+
+module _ (j k : ℕ) where
+  pub within-test : (t : Bool) (a : Answer) → j ≤ number a → number a ≤ k → Within j k (someIf t a)
+  within-test t a g h = record {
+    least = λ b e. let same = ap number (when-at t e .1) in omega arith;
+    most = λ b e. let same = ap number (when-at t e .1) in omega arith;
+  }
+
+  pub within-or : (o p : Option Answer) → Within j k o → Within j k p → Within j k (o orElse p)
+  unfolding _orElse_
+  within-or none p f g = g
+  within-or (some x) p f g = f
+
+  within-noted : (f : ℕ → Answer) (s : Option ℕ) → ((v : ℕ) → (j ≤ number (f v)) × (number (f v) ≤ k)) → Within j k (noted f s)
+  within-noted f none h = record { least = λ a e. absurd (some-not-none e refl); most = λ a e. absurd (some-not-none e refl) }
+  within-noted f (some v) h = record {
+    least = λ a e. let same : f v ≡ a = cc in let n = ap number same in omega (arith, h v .0);
+    most = λ a e. let same : f v ≡ a = cc in let n = ap number same in omega (arith, h v .1);
+  }
+
+  pub within-more : {i l : ℕ} {o : Option Answer} → i ≤ j → k ≤ l → Within j k o → Within i l o
+  within-more g h w = record { least = λ a e. omega (arith, w .least a e); most = λ a e. omega (arith, w .most a e) }
+
+cycle-number : (S : Scheme) (a : Answer) → cycleFault S ≡ some a → number a ≡ 5
+unfolding cycleFault
+cycle-number S a e =
+    let at-node = first-at _ _ a e in
+    let at-i = first-at _ _ a (at-node .2) in
+    let at-j = first-at _ _ a (at-i .2) in
+    ap number (sym (when-at _ (at-j .2) .1))
+
+pub bytes-within : (b : List ℕ) → Within 2 5 (bytesFault b)
+unfolding bytesFault schemeFault
+bytes-within b = within-or 2 5 _ _ (within-test 2 5 _ BadForm (omega arith) (omega arith)) (within-or 2 5 _ _
+    (within-noted 2 5 BadHook (hookFault (schemeOf b)) (λ v. (omega arith, omega arith))) (within-or 2 5 _ _
+    (within-noted 2 5 BadIncidence (incidenceFault (schemeOf b)) (λ v. (omega arith, omega arith)))
+    (record {
+      least = λ a e. let five = cycle-number (schemeOf b) a e in omega arith;
+      most = λ a e. let five = cycle-number (schemeOf b) a e in omega arith;
+    })))
+
+pub fit-within : (N : ℕ) (t b : List ℕ) (d : ℕ) → Within 9 10 (fitFault (view N t) (schemeOf b) (orbitOf N t b d))
+unfolding fitFault
+fit-within N t b d = within-or 9 10 _ _ (within-test 9 10 _ _ (omega arith) (omega arith)) (within-test 9 10 _ _ (omega arith) (omega arith))
+
+-- ---- what an answer's number says of the chain that gave it
+
+-- an answer 0 comes of no refusal
+pub done-none : {j k : ℕ} (o : Option Answer) (done : Answer) → Within j k o → 0 < j → number (Option·getD o done) ≡ 0 → o ≡ none
+done-none none done w h e = refl
+done-none (some a) done w h e = absurd (omega (arith, w .least a refl))
+
+-- any other answer than 0 comes of a refusal
+pub refused-there : (o : Option Answer) (done : Answer) → number done ≡ 0 → (number (Option·getD o done) ≡ 0 → ⊥) → there o ≡ true
+unfolding there
+refused-there none done z h = absurd (h z)
+refused-there (some a) done z h = refl
+
+-- a part of the chain that cannot have given the answer gave nothing
+pub past : {j k : ℕ} (i : ℕ) (c o : Option Answer) (done : Answer) → Within j k c → (i < j) ⊎ (k < i) → number (Option·getD (c orElse o) done) ≡ i
+    → (c ≡ none) × (number (Option·getD o done) ≡ i)
+unfolding _orElse_
+past i none o done w h e = (refl, e)
+past i (some a) o done w h e = absurd (⊎-elim (λ l. omega (arith, w .least a refl)) (λ l. omega (arith, w .most a refl)) h)
+
+-- refusal 1, the first of a chain, says that a size is wrong, and any other answer that all are right
+module _ (s : Bool) (rest : Option Answer) (done : Answer) (k : ℕ) (w : Within 2 k rest) (z : number done ≡ 0) where
+  pub one-wrong : number (Option·getD (someIf (not s) BadCall orElse rest) done) ≡ 1 → s ≡ false
+  unfolding someIf _orElse_
+  one-wrong e = go s e
+    where
+      other : (o : Option Answer) → Within 2 k o → number (Option·getD o done) ≡ 1 → ⊥
+      other none w e = omega arith
+      other (some a) w e = omega (arith, w .least a refl)
+
+      go : (s : Bool) → number (Option·getD (someIf (not s) BadCall orElse rest) done) ≡ 1 → s ≡ false
+      go true e = absurd (other rest w e)
+      go false e = refl
+
+  pub other-right : (number (Option·getD (someIf (not s) BadCall orElse rest) done) ≡ 1 → ⊥) → s ≡ true
+  unfolding someIf _orElse_
+  other-right h = go s h
+    where
+      go : (s : Bool) → (number (Option·getD (someIf (not s) BadCall orElse rest) done) ≡ 1 → ⊥) → s ≡ true
+      go true h = refl
+      go false h = absurd (h refl)
+
+-- ---- an edit
+
+module _ (n N : ℕ) (t store b : List ℕ) (d : ℕ) where
+  sized : Bool
+  sized = sizesOk n N t and eqb (length store) (16 * N)
+
+  -- the refusals behind the first
+  pub editRest : Option Answer
+  editRest = bytesFault b orElse someIf (not (eqb (schemeOf b .n) n)) OtherDimension orElse someIf (not (wellFormed n (view N t))) BadTable
+      orElse someIf (not (ltb d N and live (view N t) d)) NoDart orElse fitFault (view N t) (schemeOf b) (orbitOf N t b d)
+
+  edit-rest : Within 2 10 editRest
+  unfolding editRest
+  edit-rest = within-or 2 10 _ _ (within-more 2 5 (omega arith) (omega arith) (bytes-within b))
+      (within-or 2 10 _ _ (within-test 2 10 _ _ (omega arith) (omega arith)) (within-or 2 10 _ _ (within-test 2 10 _ _ (omega arith) (omega arith))
+      (within-or 2 10 _ _ (within-test 2 10 _ _ (omega arith) (omega arith)) (within-more 9 10 (omega arith) (omega arith) (fit-within N t b d)))))
+
+  pub edit-within : Within 1 10 (editFault n N t store b d)
+  unfolding editFault editRest
+  edit-within = within-or 1 10 _ _ (within-test 1 10 _ _ (omega arith) (omega arith)) (within-more 2 10 (omega arith) (omega arith) edit-rest)
+
+  pub refused-edit : (number (editAnswer n N t store b d) ≡ 0 → ⊥) → editTable n N t store b d ≡ t
+  unfolding editAnswer editTable
+  refused-edit h = cond-true _ t (tableOf (edited (view N t) (schemeOf b) (orbitOf N t b d))) (refused-there (editFault n N t store b d) _ refl h)
+
+  pub edit-one : number (editAnswer n N t store b d) ≡ 1 → editStore n N t store b d ≡ store
+  unfolding editAnswer editStore editFault editRest sized
+  edit-one e = cond-false sized (zeros store) store (one-wrong sized editRest _ 10 edit-rest refl e)
+
+  pub edit-others : (number (editAnswer n N t store b d) ≡ 1 → ⊥) → editStore n N t store b d ≡ zeros store
+  unfolding editAnswer editStore editFault editRest sized
+  edit-others h = cond-true sized (zeros store) store (other-right sized editRest _ 10 edit-rest refl h)
+
+-- ---- a read
+
+module _ (n N : ℕ) (t b : List ℕ) where
+  readRest : Option Answer
+  readRest = someIf (not (fileForm n N b)) BadFile orElse someIf (not (wellFormed n (fileMap n N b))) BadTable
+
+  read-rest : Within 2 11 readRest
+  unfolding readRest
+  read-rest = within-or 2 11 _ _ (within-test 2 11 _ _ (omega arith) (omega arith)) (within-test 2 11 _ _ (omega arith) (omega arith))
+
+  pub read-within : Within 1 11 (readFault n N t b)
+  unfolding readFault readRest
+  read-within = within-or 1 11 _ _ (within-test 1 11 _ _ (omega arith) (omega arith)) (within-more 2 11 (omega arith) (omega arith) read-rest)
+
+  pub read-one : number (readAnswer n N t b) ≡ 1 → readTable n N t b ≡ t
+  unfolding readAnswer readTable readFault readRest
+  read-one e = cond-false (sizesOk n N t) _ t (one-wrong (sizesOk n N t) readRest _ 11 read-rest refl e)
+
+  pub refused-read : (number (readAnswer n N t b) ≡ 0 → ⊥) → (number (readAnswer n N t b) ≡ 1 → ⊥) → readTable n N t b ≡ zeros t
+  unfolding readAnswer readTable readFault readRest
+  refused-read h one = cond-true (sizesOk n N t) _ t (other-right (sizesOk n N t) readRest _ 11 read-rest refl one)
+      ∙ cond-true _ (zeros t) (tableOf (fileMap n N b)) (refused-there (readFault n N t b) _ refl h)
+
+-- ---- a table check and a write
+
+pub table-within : (n N : ℕ) (t : List ℕ) → Within 1 7 (tableFault n N t)
+unfolding tableFault
+table-within n N t = within-or 1 7 _ _ (within-test 1 7 _ _ (omega arith) (omega arith)) (within-test 1 7 _ _ (omega arith) (omega arith))
+
+module _ (n N : ℕ) (t out : List ℕ) where
+  pub write-within : Within 1 12 (writeFault n N t out)
+  unfolding writeFault
+  write-within = within-or 1 12 _ _ (within-more 1 7 (omega arith) (omega arith) (table-within n N t)) (within-test 1 12 _ _ (omega arith) (omega arith))
+
+  pub refused-write : (number (writeAnswer n N t out) ≡ 0 → ⊥) → writeOut n N t out ≡ out
+  unfolding writeAnswer writeOut
+  refused-write h = cond-true _ out _ (refused-there (writeFault n N t out) _ refl h)

@@ -1,0 +1,122 @@
+-- The customer's three demands, as predicates on a kernel. Ours, whose relations are the calls' `ensures`, meets them (proofs/Demands.antt), and
+-- so does what a program in C sees of it (proofs/Exports.antt); kernels that demand 2 shuts out are in proofs/WrongKernels.antt.
+-- That no call faults or runs on is no statement here: it is part of what proving a function means.
+-- Assumes nothing.
+use Prim.Native.Nat.{ℕ, _*_, _≤_, _<_}
+use mathlib.Core.Path.{_≡_}
+use mathlib.Core.Logic.{_↔_}
+use mathlib.Core.Bool.{Bool, true}
+use mathlib.Core.List.{List, [], _∷_, _++_}
+use lib.ListN.{length, getD, take, drop, replicate}
+use Rattle.base.specs.Below.{countBelow}
+use Rattle.model.specs.Map.{Map, view, tableOf, unused}
+use Rattle.model.specs.WellFormed.{WellFormed}
+use Rattle.model.specs.Scheme.{inForm, schemeOf}
+use Rattle.model.specs.Accepted.{Accepted}
+use Rattle.model.specs.Match.{Assignment}
+use Rattle.model.specs.Edit.{orbitSize, addedDarts, deletedDarts}
+use Rattle.model.specs.Rewriting.{Rewriting}
+use Rattle.model.specs.File.{file}
+use Rattle.model.specs.Answer.{number, values}
+use Rattle.model.specs.Calls.{Sizes}
+use Rattle.model.specs.Sequence.{Holds, AlikeTables}
+use Rattle.model.specs.declared.Answer.{Answer}
+use Rattle.demands.specs.Kernel.{Kernel}
+use Rattle.demands.specs.Runs.{AlikeRuns}
+use Rattle.demands.specs.Refusals.{FirstOf, Nothing, tableRefusals, schemeRefusals, editRefusals, readRefusals, writeRefusals, Orbit, Matched, Dart}
+
+-- ---- demand 1
+
+-- the size of O, darts added and darts deleted
+abbrev pub counts : ℕ → List ℕ → List ℕ → (ℕ → Bool) → List ℕ
+counts N t b O = orbitSize (view N t) (schemeOf b) O ∷ addedDarts (view N t) (schemeOf b) O ∷ deletedDarts (view N t) (schemeOf b) O ∷ []
+
+-- what an edit that is done returns
+abbrev pub Counted : ℕ → List ℕ → List ℕ → ℕ → List ℕ → Type 0
+Counted N t b d v = (O : ℕ → Bool) × Orbit N t b d O × (v ≡ counts N t b O)
+
+pub record Demand1 (K : Kernel) : Type 0 where
+  -- every call answers with the refusal that document 01's order puts first, with its values, and is done where none applies
+  pub tableOrder : (n N : ℕ) (t : List ℕ) (r : Answer) → K .TableCheck n N t r → FirstOf (tableRefusals n N t []) Nothing r
+  pub schemeOrder : (b : List ℕ) (r : Answer) → K .SchemeCheck b r → FirstOf (schemeRefusals b []) Nothing r
+  pub editOrder : (n N : ℕ) (t store b : List ℕ) (d : ℕ) (r : Answer) (t′ store′ : List ℕ) → K .Edit n N t store b d r t′ store′
+      → FirstOf (editRefusals n N t store b d) (Counted N t b d) r
+  pub readOrder : (n N : ℕ) (t b : List ℕ) (r : Answer) (t′ : List ℕ) → K .Read n N t b r t′ → FirstOf (readRefusals n N t b) Nothing r
+  pub writeOrder : (n N : ℕ) (t out : List ℕ) (r : Answer) (out′ : List ℕ) → K .Write n N t out r out′
+      → FirstOf (writeRefusals n N t out) (λ v. v ≡ length (file n (view N t)) ∷ []) r
+  -- a refused edit changes no record; the store comes back zero, but after refusal 1 nothing at all is written
+  pub refusedEdit : (n N : ℕ) (t store b : List ℕ) (d : ℕ) (r : Answer) (t′ store′ : List ℕ) → K .Edit n N t store b d r t′ store′
+      → (number r ≡ 0 → ⊥) → t′ ≡ t
+  pub editAfterOne : (n N : ℕ) (t store b : List ℕ) (d : ℕ) (r : Answer) (t′ store′ : List ℕ) → K .Edit n N t store b d r t′ store′
+      → number r ≡ 1 → store′ ≡ store
+  pub editAfterOthers : (n N : ℕ) (t store b : List ℕ) (d : ℕ) (r : Answer) (t′ store′ : List ℕ) → K .Edit n N t store b d r t′ store′
+      → (number r ≡ 1 → ⊥) → store′ ≡ replicate (length store) 0
+  -- a read refused with 1 leaves the table as it was, one refused with 11 or 7 leaves it all zero
+  pub readAfterOne : (n N : ℕ) (t b : List ℕ) (r : Answer) (t′ : List ℕ) → K .Read n N t b r t′ → number r ≡ 1 → t′ ≡ t
+  pub refusedRead : (n N : ℕ) (t b : List ℕ) (r : Answer) (t′ : List ℕ) → K .Read n N t b r t′
+      → (number r ≡ 0 → ⊥) → (number r ≡ 1 → ⊥) → t′ ≡ replicate (length t) 0
+  -- a refused write leaves the output as it was
+  pub refusedWrite : (n N : ℕ) (t out : List ℕ) (r : Answer) (out′ : List ℕ) → K .Write n N t out r out′ → (number r ≡ 0 → ⊥) → out′ ≡ out
+
+-- ---- demand 2
+
+-- none of the refusals 1 to 8 of an edit applies
+pub record Admitted (n N : ℕ) (t store b : List ℕ) (d : ℕ) : Type 0 where
+  pub sizes : Sizes n N t
+  pub stored : length store ≡ 16 * N
+  pub form : inForm b ≡ true
+  pub accepted : Accepted (schemeOf b)
+  pub dimension : schemeOf b .n ≡ n
+  pub well : WellFormed n (view N t)
+  pub dart : Dart N t d
+
+-- none of 1 to 10 applies
+pub record Applicable (n N : ℕ) (t store b : List ℕ) (d : ℕ) : Type 0 where
+  pub admitted : Admitted n N t store b d
+  pub match : Matched N t b d
+  pub room : addedDarts (view N t) (schemeOf b) (match .orbit) ≤ countBelow N (unused (view N t))
+
+-- what an edit that is done comes to: the new table is that of a map that is the published rewriting of the old one, and no other rewriting has
+-- another table (`rewriting-once` of crates/model/proofs/RewritingOnce.antt); the answer counts the orbit, the added and the deleted darts
+pub record EditDone (n N : ℕ) (t b : List ℕ) (d : ℕ) (r : Answer) (t′ : List ℕ) : Type 0 where
+  pub orbit : ℕ → Bool
+  pub isOrbit : Orbit N t b d orbit
+  pub new : Map
+  pub dart : ℕ → ℕ → ℕ
+  pub rewriting : Rewriting (view N t) new (schemeOf b) orbit dart
+  pub table : t′ ≡ tableOf new
+  pub done : number r ≡ 0
+  pub counted : values r ≡ counts N t b orbit
+  pub well : Holds n N t′
+
+pub record Demand2 (K : Kernel) : Type 0 where
+  -- a scheme is accepted exactly when it has the byte form and meets the conditions
+  pub accepted : (b : List ℕ) (r : Answer) → K .SchemeCheck b r → (number r ≡ 0) ↔ ((inForm b ≡ true) × Accepted (schemeOf b))
+  -- refusal 9 is given exactly when none of 1 to 8 applies and no assignment exists
+  pub noMatch : (n N : ℕ) (t store b : List ℕ) (d : ℕ) (r : Answer) (t′ store′ : List ℕ) → K .Edit n N t store b d r t′ store′
+      → (number r ≡ 9) ↔ (Admitted n N t store b d × (Matched N t b d → ⊥))
+  -- where no refusal applies, and only there, an edit is done, and it is the published rewriting
+  pub edits : (n N : ℕ) (t store b : List ℕ) (d : ℕ) (r : Answer) (t′ store′ : List ℕ) → K .Edit n N t store b d r t′ store′
+      → Applicable n N t store b d → EditDone n N t b d r t′
+  pub onlyThen : (n N : ℕ) (t store b : List ℕ) (d : ℕ) (r : Answer) (t′ store′ : List ℕ) → K .Edit n N t store b d r t′ store′
+      → number r ≡ 0 → Applicable n N t store b d
+  -- a well-formed map with room for its file is written; output beyond the file stays as it was
+  pub written : (n N : ℕ) (t out : List ℕ) (r : Answer) (out′ : List ℕ) → K .Write n N t out r out′ → Holds n N t → length (file n (view N t)) ≤ length out
+      → (number r ≡ 0) × (values r ≡ length (file n (view N t)) ∷ []) × (out′ ≡ file n (view N t) ++ drop (length (file n (view N t))) out)
+  -- it has the same live records when it is read again; words of a table are below 2³², and the second table has as many words
+  pub writtenRead : (n N : ℕ) (t out : List ℕ) (r : Answer) (out′ : List ℕ) → K .Write n N t out r out′ → number r ≡ 0
+      → ((i : ℕ) → getD t i 0 < 4294967296)
+      → (u : List ℕ) (r₂ : Answer) (u′ : List ℕ) → length u ≡ length t → K .Read n N u (take (getD (values r) 0 0) out′) r₂ u′
+      → (number r₂ ≡ 0) × AlikeTables n N t u′
+  -- an accepted file is written back byte for byte; bytes are below 256
+  pub readWritten : (n N : ℕ) (t b : List ℕ) (r : Answer) (t′ : List ℕ) → K .Read n N t b r t′ → number r ≡ 0
+      → ((i : ℕ) → getD b i 0 < 256)
+      → (out : List ℕ) (r₂ : Answer) (out′ : List ℕ) → length b ≤ length out → K .Write n N t′ out r₂ out′
+      → (number r₂ ≡ 0) × (take (getD (values r₂) 0 0) out′ ≡ b)
+
+-- ---- demand 3
+
+-- it speaks of demand 2's edits, so that a kernel whose answers are all alike cannot carry it
+pub record Demand3 (K : Kernel) : Type 0 where
+  pub edits : Demand2 K
+  pub throughout : AlikeRuns K

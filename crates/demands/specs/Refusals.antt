@@ -1,0 +1,130 @@
+-- Document 01's refusals: for each call those that it can give, in their order, each with what it is given for and what is returned beside it.
+-- What they are given for is said by rules, and not by the tests and searches that find it (Calls.antt of crates/model/specs).
+-- Assumes nothing.
+use Prim.Native.Nat.{ℕ, _+_, _*_, _≤_, _<_}
+use mathlib.Core.Path.{_≡_}
+use mathlib.Core.Logic.{_⊎_}
+use mathlib.Core.Bool.{Bool, true, false}
+use mathlib.Core.List.{List, [], _∷_}
+use lib.ListN.{length}
+use Rattle.base.specs.Below.{countBelow}
+use Rattle.model.specs.Map.{view, unused}
+use Rattle.model.specs.WellFormed.{WellFormed}
+use Rattle.model.specs.Scheme.{left, orbitDim, word, has, added, inForm, schemeOf}
+use Rattle.model.specs.Conditions.{Reached, incidenceOk, cycleOk}
+use Rattle.model.specs.Orbit.{IsOrbit}
+use Rattle.model.specs.Match.{Assignment}
+use Rattle.model.specs.Edit.{addedDarts}
+use Rattle.model.specs.File.{file, fileForm, fileMap}
+use Rattle.model.specs.Answer.{number, values}
+use Rattle.model.specs.Calls.{Sizes}
+use Rattle.model.specs.declared.Scheme.{Scheme}
+use Rattle.model.specs.declared.Answer.{Answer}
+
+-- ---- the first that applies
+
+-- a refusal: its number, and with which values it is given
+pub record Refusal : Type 1 where
+  pub number : ℕ
+  pub Given : List ℕ → Type 0
+
+-- one that returns nothing beside it, given where P
+abbrev pub bare : ℕ → Type 0 → Refusal
+bare k P = record { number = k; Given = λ v. P × (v ≡ []) }
+
+-- r is the first of the refusals that applies, with its number and values; where none does it is done, with the values that are asked then
+unfoldable pub FirstOf : List Refusal → (List ℕ → Type 0) → Answer → Type 0
+FirstOf [] Done r = (number r ≡ 0) × Done (values r)
+FirstOf (f ∷ l) Done r = ((number r ≡ f .number) × f .Given (values r)) ⊎ (((v : List ℕ) → f .Given v → ⊥) × FirstOf l Done r)
+
+abbrev pub Nothing : List ℕ → Type 0
+Nothing v = v ≡ []
+
+-- ---- 3 to 5: a scheme in the form
+
+-- s is the least of c nodes that has P
+pub record LeastNode (c : ℕ) (P : ℕ → Type 0) (s : ℕ) : Type 0 where
+  pub below : s < c
+  pub has : P s
+  pub least : (o : ℕ) → o < s → P o → ⊥
+
+module _ (S : Scheme) where
+  -- node 0 has kind 1 or 2 and its left word equals the orbit type
+  pub record HookRight : Type 0 where
+    pub kind : has S left 0 ≡ true
+    pub word : (p : ℕ) → p < S .places → word S left 0 p ≡ orbitDim S p
+
+  -- a node of kind 1 or 2 that cannot be reached from node 0 over left arcs
+  pub record Unreached (s : ℕ) : Type 0 where
+    pub onLeft : has S left s ≡ true
+    pub cut : Reached S s → ⊥
+
+  -- 0 if node 0 is wrong, else the least unreached node
+  abbrev pub HookFault : ℕ → Type 0
+  HookFault s = ((HookRight → ⊥) × (s ≡ 0)) ⊎ (HookRight × LeastNode (S .nodes) Unreached s)
+
+  -- a node and a pair of dimensions that are not as the cycles ask
+  pub record Offends (s i j : ℕ) : Type 0 where
+    pub apart : i + 2 ≤ j
+    pub within : j ≤ S .n
+    pub wrong : cycleOk S s i j ≡ false
+
+  -- the least such node, and at it the first such pair
+  pub record FirstPair (s i j : ℕ) : Type 0 where
+    pub node : LeastNode (S .nodes) (λ u. (k : ℕ) × (l : ℕ) × Offends u k l) s
+    pub offends : Offends s i j
+    pub first : (k l : ℕ) → Offends s k l → (i < k) ⊎ ((i ≡ k) × (j ≤ l))
+
+  abbrev pub hookRefusal : Refusal
+  hookRefusal = record { number = 3; Given = λ v. (s : ℕ) × HookFault s × (v ≡ s ∷ []) }
+
+  abbrev pub incidenceRefusal : Refusal
+  incidenceRefusal = record { number = 4; Given = λ v. (s : ℕ) × LeastNode (S .nodes) (λ u. incidenceOk S u ≡ false) s × (v ≡ s ∷ []) }
+
+  abbrev pub cycleRefusal : Refusal
+  cycleRefusal = record { number = 5; Given = λ v. (s : ℕ) × (i : ℕ) × (j : ℕ) × FirstPair s i j × (v ≡ s ∷ i ∷ j ∷ []) }
+
+-- 2 to 5
+abbrev pub schemeRefusals : List ℕ → List Refusal → List Refusal
+schemeRefusals b l = bare 2 (inForm b ≡ true → ⊥) ∷ hookRefusal (schemeOf b) ∷ incidenceRefusal (schemeOf b) ∷ cycleRefusal (schemeOf b) ∷ l
+
+-- ---- 9 and 10: an accepted scheme at a live dart of a well-formed map
+
+module _ (N : ℕ) (t b : List ℕ) (d : ℕ) where
+  -- O is the set of darts reached from d by links of the orbit type
+  abbrev pub Orbit : (ℕ → Bool) → Type 0
+  Orbit = IsOrbit (view N t) (schemeOf b .places) (orbitDim (schemeOf b)) d
+
+  -- an assignment over O
+  pub record Matched : Type 0 where
+    pub orbit : ℕ → Bool
+    pub isOrbit : Orbit orbit
+    pub dart : ℕ → ℕ → ℕ
+    pub assigned : Assignment (view N t) (schemeOf b) orbit dart
+
+  -- size of O × added nodes exceeds the unused slots before the edit
+  pub record Crowded : Type 0 where
+    pub orbit : ℕ → Bool
+    pub isOrbit : Orbit orbit
+    pub few : countBelow N (unused (view N t)) < addedDarts (view N t) (schemeOf b) orbit
+
+-- ---- the calls
+
+-- a live slot
+pub record Dart (N : ℕ) (t : List ℕ) (d : ℕ) : Type 0 where
+  pub slot : d < N
+  pub live : view N t .state d ≡ 1
+
+abbrev pub tableRefusals : ℕ → ℕ → List ℕ → List Refusal → List Refusal
+tableRefusals n N t l = bare 1 (Sizes n N t → ⊥) ∷ bare 7 (WellFormed n (view N t) → ⊥) ∷ l
+
+abbrev pub editRefusals : ℕ → ℕ → List ℕ → List ℕ → List ℕ → ℕ → List Refusal
+editRefusals n N t store b d = bare 1 (Sizes n N t × (length store ≡ 16 * N) → ⊥)
+    ∷ schemeRefusals b (bare 6 (schemeOf b .n ≡ n → ⊥) ∷ bare 7 (WellFormed n (view N t) → ⊥) ∷ bare 8 (Dart N t d → ⊥)
+    ∷ bare 9 (Matched N t b d → ⊥) ∷ bare 10 (Crowded N t b d) ∷ [])
+
+abbrev pub readRefusals : ℕ → ℕ → List ℕ → List ℕ → List Refusal
+readRefusals n N t b = bare 1 (Sizes n N t → ⊥) ∷ bare 11 (fileForm n N b ≡ true → ⊥) ∷ bare 7 (WellFormed n (fileMap n N b) → ⊥) ∷ []
+
+abbrev pub writeRefusals : ℕ → ℕ → List ℕ → List ℕ → List Refusal
+writeRefusals n N t out = tableRefusals n N t (bare 12 (length out < length (file n (view N t))) ∷ [])

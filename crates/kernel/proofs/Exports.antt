@@ -1,0 +1,149 @@
+-- What a program in C sees of the kernel meets the demands: each call's number and values come back from its word.
+-- Assumes nothing.
+use Prim.Native.Nat.{ℕ, _<_}
+use mathlib.Core.Path.{_≡_, refl, sym, ap, _∙_}
+use mathlib.Core.Option.{Option, none, some, Option·getD}
+use mathlib.Core.List.{List}
+use native.Mathlib.Omega.{arith}
+use lib.ListN.{length}
+use Rattle.model.specs.Answer.{number, values, Answers}
+use Rattle.model.specs.Calls.{tableFault, checkTable, bytesFault, checkScheme, editFault, editAnswer, editTable, editStore, readFault, readAnswer, readTable, writeFault, writeAnswer, writeOut}
+use Rattle.model.specs.declared.Answer.{Answer}
+use Rattle.model.specs.declared.Answer.the-variants.{Done}
+use Rattle.demands.specs.Kernel.{Kernel, Refines}
+use Rattle.demands.specs.Ours.{ours}
+use Rattle.demands.specs.Demands.{Demand1, Demand2, Demand3}
+use Rattle.demands.proofs.RefusalLaws.{Within, table-within, bytes-within, edit-within, read-within, write-within}
+use Rattle.demands.proofs.RefineLaws.{refined1, refined2, refined3}
+use Rattle.demands.proofs.Demands.{demand1, demand2, demand3}
+use Rattle.kernel.specs.Word.{packed, Small, wordNumber, wordValues, PackedEdit, PackedRead, PackedWrite}
+use Rattle.kernel.specs.Exports.{Unpacked, SeenTableCheck, SeenSchemeCheck, SeenEdit, SeenRead, SeenWrite}
+use Rattle.kernel.proofs.WordLaws.{number-back, values-back}
+use Rattle.kernel.proofs.CallLaws.{check-small}
+use Rattle.kernel.proofs.SmallLaws.{scheme-small, edit-small}
+use Rattle.kernel.proofs.FileCallLaws.{read-small, write-small}
+
+-- ---- one outcome
+
+pub one-packed-edit : {n N : ℕ} {t store b : List ℕ} {d w w₂ : ℕ} {t′ t₂ store′ store₂ : List ℕ}
+    → PackedEdit n N t store b d w t′ store′ → PackedEdit n N t store b d w₂ t₂ store₂ → (w ≡ w₂) × (t′ ≡ t₂) × (store′ ≡ store₂)
+one-packed-edit p q = (p .word ∙ sym (q .word), p .table ∙ sym (q .table), p .cleared ∙ sym (q .cleared))
+
+pub one-packed-read : {n N : ℕ} {t b : List ℕ} {w w₂ : ℕ} {t′ t₂ : List ℕ} → PackedRead n N t b w t′ → PackedRead n N t b w₂ t₂ → (w ≡ w₂) × (t′ ≡ t₂)
+one-packed-read p q = (p .word ∙ sym (q .word), p .table ∙ sym (q .table))
+
+pub one-packed-write : {n N : ℕ} {t out : List ℕ} {w w₂ : ℕ} {out′ out₂ : List ℕ}
+    → PackedWrite n N t out w out′ → PackedWrite n N t out w₂ out₂ → (w ≡ w₂) × (out′ ≡ out₂)
+one-packed-write p q = (p .word ∙ sym (q .word), p .output ∙ sym (q .output))
+
+-- the exports of the two checks change nothing, and their promise is the word itself
+pub one-packed-check : (a : Answer) {w w₂ : ℕ} → w ≡ packed a → w₂ ≡ packed a → w ≡ w₂
+one-packed-check a p q = p ∙ sym q
+
+-- ---- the way back
+
+-- a call that is done returns as many values as its own answer for that has
+done-length : {j k : ℕ} (o : Option Answer) (done : Answer) → Within j k o → 0 < j → number (Option·getD o done) ≡ 0
+    → length (values (Option·getD o done)) ≡ length (values done)
+done-length none done w h e = refl
+done-length (some a) done w h e = absurd (omega (arith, w .least a refl))
+
+pub table-length : (n N : ℕ) (t : List ℕ) → number (checkTable n N t) ≡ 0 → length (values (checkTable n N t)) ≡ 0
+unfolding checkTable
+table-length n N t = done-length (tableFault n N t) _ (table-within n N t) (omega arith)
+
+pub scheme-length : (b : List ℕ) → number (checkScheme b) ≡ 0 → length (values (checkScheme b)) ≡ 0
+unfolding checkScheme
+scheme-length b = done-length (bytesFault b) _ (bytes-within b) (omega arith)
+
+pub edit-length : (n N : ℕ) (t store b : List ℕ) (d : ℕ) → number (editAnswer n N t store b d) ≡ 0 → length (values (editAnswer n N t store b d)) ≡ 3
+unfolding editAnswer
+edit-length n N t store b d = done-length (editFault n N t store b d) _ (edit-within n N t store b d) (omega arith)
+
+pub read-length : (n N : ℕ) (t b : List ℕ) → number (readAnswer n N t b) ≡ 0 → length (values (readAnswer n N t b)) ≡ 0
+unfolding readAnswer
+read-length n N t b = done-length (readFault n N t b) _ (read-within n N t b) (omega arith)
+
+pub write-length : (n N : ℕ) (t out : List ℕ) → number (writeAnswer n N t out) ≡ 0 → length (values (writeAnswer n N t out)) ≡ 1
+unfolding writeAnswer
+write-length n N t out = done-length (writeFault n N t out) _ (write-within n N t out) (omega arith)
+
+-- what the word of an answer holds is that answer
+module _ (k : ℕ) (a : Answer) (small : Small a) (long : number a ≡ 0 → length (values a) ≡ k) where
+  back : {w : ℕ} {r : Answer} → w ≡ packed a → Unpacked k w r → Answers r a
+  back e u = record {
+    sameNumber = u .sameNumber ∙ ap wordNumber e ∙ number-back a small;
+    sameValues = u .sameValues ∙ ap (wordValues k) e ∙ values-back a k small long;
+  }
+
+  pub unpacks : Unpacked k (packed a) a
+  unpacks = record { sameNumber = sym (number-back a small); sameValues = sym (values-back a k small long) }
+
+-- ---- the kernel that C sees
+
+abbrev pub exported : Kernel
+exported = record {
+  TableCheck = SeenTableCheck;
+  SchemeCheck = SeenSchemeCheck;
+  Edit = SeenEdit;
+  Read = SeenRead;
+  Write = SeenWrite;
+  checksTable = λ n N t. (checkTable n N t, record { word = packed (checkTable n N t); promised = refl; answer = unpacks 0 _ (check-small n N t) (table-length n N t) });
+  checksScheme = λ b. (checkScheme b, record { word = packed (checkScheme b); promised = refl; answer = unpacks 0 _ (scheme-small b) (scheme-length b) });
+  edits = λ n N t store b d. (
+    editAnswer n N t store b d,
+    editTable n N t store b d,
+    editStore n N t store b d,
+    record {
+      word = packed (editAnswer n N t store b d);
+      promised = record { word = refl; table = refl; cleared = refl };
+      answer = unpacks 3 _ (edit-small n N t store b d) (edit-length n N t store b d);
+    },
+  );
+  reads = λ n N t b. (
+    readAnswer n N t b,
+    readTable n N t b,
+    record {
+      word = packed (readAnswer n N t b);
+      promised = record { word = refl; table = refl };
+      answer = unpacks 0 _ (read-small n N t b) (read-length n N t b);
+    },
+  );
+  writes = λ n N t out. (
+    writeAnswer n N t out,
+    writeOut n N t out,
+    record {
+      word = packed (writeAnswer n N t out);
+      promised = record { word = refl; output = refl };
+      answer = unpacks 1 _ (write-small n N t out) (write-length n N t out);
+    },
+  );
+}
+
+exported-ours : Refines exported ours
+exported-ours = record {
+  tableCheck = λ n N t r s. record { answer = back 0 _ (check-small n N t) (table-length n N t) (s .promised) (s .answer) };
+  schemeCheck = λ b r s. record { answer = back 0 _ (scheme-small b) (scheme-length b) (s .promised) (s .answer) };
+  edit = λ n N t store b d r t′ store′ s. record {
+    answer = back 3 _ (edit-small n N t store b d) (edit-length n N t store b d) (s .promised .word) (s .answer);
+    table = s .promised .table;
+    cleared = s .promised .cleared;
+  };
+  read = λ n N t b r t′ s. record {
+    answer = back 0 _ (read-small n N t b) (read-length n N t b) (s .promised .word) (s .answer);
+    table = s .promised .table;
+  };
+  write = λ n N t out r out′ s. record {
+    answer = back 1 _ (write-small n N t out) (write-length n N t out) (s .promised .word) (s .answer);
+    output = s .promised .output;
+  };
+}
+
+pub exported1 : Demand1 exported
+exported1 = refined1 exported ours exported-ours demand1
+
+pub exported2 : Demand2 exported
+exported2 = refined2 exported ours exported-ours demand2
+
+pub exported3 : Demand3 exported
+exported3 = refined3 exported ours exported-ours demand3

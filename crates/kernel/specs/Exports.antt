@@ -1,0 +1,39 @@
+-- What a program in C sees of the kernel: the word that each export returns, taken apart, and the buffers that it leaves.
+-- Assumes nothing.
+use Prim.Native.Nat.{ℕ}
+use mathlib.Core.Path.{_≡_}
+use mathlib.Core.List.{List}
+use Rattle.model.specs.Answer.{number, values}
+use Rattle.model.specs.Calls.{checkTable, checkScheme}
+use Rattle.model.specs.declared.Answer.{Answer}
+use Rattle.kernel.specs.Word.{packed, wordNumber, wordValues, PackedEdit, PackedRead, PackedWrite}
+
+-- r is the answer that the word w holds, of a call that returns k values where it is done
+pub record Unpacked (k w : ℕ) (r : Answer) : Type 0 where
+  pub sameNumber : number r ≡ wordNumber w
+  pub sameValues : values r ≡ wordValues k w
+
+pub record SeenTableCheck (n N : ℕ) (t : List ℕ) (r : Answer) : Type 0 where
+  pub word : ℕ
+  pub promised : word ≡ packed (checkTable n N t)
+  pub answer : Unpacked 0 word r
+
+pub record SeenSchemeCheck (b : List ℕ) (r : Answer) : Type 0 where
+  pub word : ℕ
+  pub promised : word ≡ packed (checkScheme b)
+  pub answer : Unpacked 0 word r
+
+pub record SeenEdit (n N : ℕ) (t store b : List ℕ) (d : ℕ) (r : Answer) (t′ store′ : List ℕ) : Type 0 where
+  pub word : ℕ
+  pub promised : PackedEdit n N t store b d word t′ store′
+  pub answer : Unpacked 3 word r
+
+pub record SeenRead (n N : ℕ) (t b : List ℕ) (r : Answer) (t′ : List ℕ) : Type 0 where
+  pub word : ℕ
+  pub promised : PackedRead n N t b word t′
+  pub answer : Unpacked 0 word r
+
+pub record SeenWrite (n N : ℕ) (t out : List ℕ) (r : Answer) (out′ : List ℕ) : Type 0 where
+  pub word : ℕ
+  pub promised : PackedWrite n N t out word out′
+  pub answer : Unpacked 1 word r
