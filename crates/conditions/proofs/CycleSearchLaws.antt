@@ -4,7 +4,7 @@ use Prim.Native.Nat.{ℕ, zero, suc, _+_, _*_, _≤_, _<_}
 use mathlib.Core.Path.{_≡_, sym, ap, _∙_}
 use mathlib.Core.Bool.{Bool, true, false, not}
 use mathlib.Core.Option.{none, some}
-use mathlib.Core.List.{List}
+use mathlib.Core.List.{List, [], _∷_}
 use native.Mathlib.Omega.{arith}
 use lib.ListN.{getD}
 use Rattle.base.specs.First.{first, someIf}
@@ -13,12 +13,23 @@ use Rattle.model.specs.declared.Answer.{Answer}
 use Rattle.model.specs.declared.Answer.the-variants.{Done, BadCycle}
 use Rattle.conditions.specs.Cycles.{pairBy, pairs, pairCount, atPair, atNode, cycleAnswer}
 
+-- a list of three pairs of numbers up to 3, in any order
+module _ {a b c d e f : ℕ} (s : (a < 4) × (b < 4) × (c < 4) × (d < 4) × (e < 4) × (f < 4)) where
+  pub first-small : (k : ℕ) → k < 3 → getD (a ∷ b ∷ c ∷ d ∷ e ∷ f ∷ []) (2 * k) 0 < 4
+  first-small zero h = omega (arith, s)
+  first-small (suc zero) h = omega (arith, s)
+  first-small (suc (suc zero)) h = omega (arith, s)
+  first-small (suc (suc (suc k))) h = absurd (omega arith)
+
+  pub second-small : (k : ℕ) → k < 3 → getD (a ∷ b ∷ c ∷ d ∷ e ∷ f ∷ []) (2 * k + 1) 0 < 4
+  second-small zero h = omega (arith, s)
+  second-small (suc zero) h = omega (arith, s)
+  second-small (suc (suc zero)) h = omega (arith, s)
+  second-small (suc (suc (suc k))) h = absurd (omega arith)
+
 -- a pair of the list has dimensions up to 3
 pub pair-small : (k : ℕ) → k < 3 → (getD pairs (2 * k) 0 < 4) × (getD pairs (2 * k + 1) 0 < 4)
-pair-small zero h = (omega arith, omega arith)
-pair-small (suc zero) h = (omega arith, omega arith)
-pair-small (suc (suc zero)) h = (omega arith, omega arith)
-pair-small (suc (suc (suc k))) h = absurd (omega arith)
+pair-small k h = (first-small (omega arith) k h, second-small (omega arith) k h)
 
 module _ (orbit kinds lefts rights : List ℕ) (s : ℕ) where
   module _ (k : ℕ) (b : Bool) (e : b ≡ pairBy (getD kinds s 0) orbit lefts rights s (getD pairs (2 * k) 0) (getD pairs (2 * k + 1) 0)) where

@@ -34,8 +34,8 @@ module _ (n : ℕ) (m : Map) where
       alive = λ x h e i l. eqb-true _ _ (and-right _ _ (and-left _ _ (linked x h e i l)));
       back = λ x h e i l. eqb-true _ _ (and-right _ _ (linked x h e i l));
       flat = λ two x h e. eqb-true _ _ (if-so (eqb n 2) (and-right _ _ (and-left _ _ (dart x h e))) (eq-eqb n 2 two));
-      square = λ x h e i j ij jn. eqb-true _ _ (if-so (leb (i + 2) j)
-          (all-at (suc n) _ (all-at (suc n) _ (and-right _ _ (dart x h e)) i (omega arith)) j (omega arith)) (le-leb (i + 2) j ij));
+      square = λ x h e i j ij jn. eqb-true _ _ (if-so _
+          (all-at (suc n) _ (all-at (suc n) _ (and-right _ _ (dart x h e)) i (omega arith)) j (omega arith)) (omega (arith, ij, le-leb)));
     }
 
   module _ (w : WellFormed n m) where
@@ -47,7 +47,7 @@ module _ (n : ℕ) (m : Map) where
     unfolding dartOk squareOk allPairs
     dartGood x h e = and-of
         (and-of (all-of (suc n) _ (λ i l. linkGood x h e i (omega arith))) (if-of (eqb n 2) (λ two. eq-eqb _ _ (w .flat (eqb-true _ _ two) x h e))))
-        (all-of (suc n) _ (λ i l. all-of (suc n) _ (λ j k. if-of (leb (i + 2) j) (λ ij. eq-eqb _ _ (w .square x h e i j (leb-true _ _ ij) (omega arith))))))
+        (all-of (suc n) _ (λ i l. all-of (suc n) _ (λ j k. if-of _ (λ ij. eq-eqb _ _ (w .square x h e i j (omega (arith, leb-true)) (omega arith))))))
 
     pub computesTo : wellFormed n m ≡ true
     unfolding wellFormed

@@ -51,7 +51,7 @@ two-requires : tie.Need-two-requires
 two-requires c κs = omega (arith, laid (c .before .before .before) .size, c .if1 .left)
 
 refused-line-requires-3 : tie.Need-refused-line-requires-3
-refused-line-requires-3 c κs = let s = c .before .before .before .before .before .before .before .before .before .before .before in refused-room (now (s .args .input)) (now (s .args .out)) 1 (omega arith) (s .pre)
+refused-line-requires-3 c κs = let s = c .before .before .before .before .before .before .before .before .before .before .before in refused-room (now (s .args .input)) (now (s .args .out)) _ (omega arith) (s .pre)
 
 same-length-3 : tie.Need-same-length-3
 same-length-3 c = search needs

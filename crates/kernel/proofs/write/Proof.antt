@@ -57,7 +57,7 @@ add-size-3 c = omega (arith, few (c .before))
 returns-2 : tie.Need-returns-2
 returns-2 c =
     let f = surveyed (c .before .before) in
-    write-kept (write-12 _ _ _ _ (sized (c .before .before .before .before .before)) _ (f .1) (f .0) (c .if2 .taken))
+    write-kept (write-12 _ _ _ _ (sized (c .before .before .before .before .before)) _ (f .1) (f .0) (omega (arith, c .if2 .taken)))
 
 write-requires : tie.Need-write-requires
 write-requires c κs =
@@ -65,7 +65,7 @@ write-requires c κs =
     let s = sized (c .before .before .before .before .before .before) in
     let l = surveyed (c .before .before .before) .1 in
     let r = sizes-read (a .n) (a .slots) (now (a .table)) s in
-    (r .0, (r .1, (write-live (a .n) (a .slots) (now (a .table)) (now (a .out)) s _ l, write-fits (a .n) (a .slots) (now (a .table)) (now (a .out)) s _ l (c .before .if2 .left))))
+    (r .0, (r .1, (write-live (a .n) (a .slots) (now (a .table)) (now (a .out)) s _ l, write-fits (a .n) (a .slots) (now (a .table)) (now (a .out)) s _ l (omega (arith, c .before .if2 .left)))))
 
 cast-t21 : tie.Need-cast-t21
 cast-t21 c = omega (arith, few (c .before .before .before .before .before .before))

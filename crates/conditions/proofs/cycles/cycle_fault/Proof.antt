@@ -1,15 +1,17 @@
 -- `conditions::cycles::cycle_fault` meets its contract. Both invariants: nothing is found at what the loop has passed.
 -- Assumes nothing.
-use Prim.Native.Nat.{_≤_, _-_}
+use Prim.Native.Nat.{ℕ, _≤_, _<_, _-_}
 use mathlib.Core.Path.{_≡_, refl, _∙_}
 use mathlib.Core.Option.{none}
 use native.Mathlib.Omega.{arith}
+use mir.Syntax.{w32}
+use mir.Val.{Fits}
 use borrow.Author.Needs.{needs}
 use Rattle.base.specs.First.{first}
 use Rattle.base.proofs.FirstLaws.{first-more}
 use Rattle.model.specs.declared.Answer.the-variants.{Done}
 use Rattle.conditions.specs.Cycles.{atPair, atNode}
-use Rattle.conditions.proofs.CycleSearchLaws.{pair-small, pair-fine, pair-bad, node-fine, found-pair, found-no-pair}
+use Rattle.conditions.proofs.CycleSearchLaws.{first-small, second-small, pair-fine, pair-bad, node-fine, found-pair, found-no-pair}
 use Rattle.conditions.proofs.cycles.cycle_fault.Statement.{statement}
 use Rattle.conditions.proofs.cycles.cycle_fault.Tie as tie
 
@@ -66,18 +68,23 @@ pair-ok-requires : tie.Need-pair-ok-requires Inv-loop μ-loop Inv-nodes μ-nodes
 pair-ok-requires c κs =
     let l = c .before .before in
     let n = l .before in
-    let p = n .before .before .before .pre in
-    let small = pair-small (l .loop .k) (omega arith) in
-    ((omega arith, small .0, small .1), ((λ i h. p .1 .0 .small _ i (n .nodes-test .taken) h), λ i h. p .1 .1 .small _ i (n .nodes-test .taken) h))
+    let p = n .before .before .before .pre in (
+      (omega arith, first-small (omega arith) (l .loop .k) (omega arith), second-small (omega arith) (l .loop .k) (omega arith)),
+      ((λ i h. p .1 .0 .small _ i (n .nodes-test .taken) h), λ i h. p .1 .1 .small _ i (n .nodes-test .taken) h),
+    )
+
+-- a dimension fits a word of 32 bits
+word-of : (x : ℕ) → x < 4 → Fits w32 x
+word-of x h = omega (arith, h)
 
 cast-t29 : tie.Need-cast-t29 Inv-loop μ-loop Inv-nodes μ-nodes
 cast-t29 c = omega arith
 
 cast-t30 : tie.Need-cast-t30 Inv-loop μ-loop Inv-nodes μ-nodes
-cast-t30 c = let l = c .before .before .before .before in omega (arith, pair-small (l .loop .k) (omega arith) .0)
+cast-t30 c = let l = c .before .before .before .before in word-of _ (first-small (omega arith) (l .loop .k) (omega arith))
 
 cast-t31 : tie.Need-cast-t31 Inv-loop μ-loop Inv-nodes μ-nodes
-cast-t31 c = let l = c .before .before .before .before in omega (arith, pair-small (l .loop .k) (omega arith) .1)
+cast-t31 c = let l = c .before .before .before .before in word-of _ (second-small (omega arith) (l .loop .k) (omega arith))
 
 add-k : tie.Need-add-k Inv-loop μ-loop Inv-nodes μ-nodes
 add-k c = omega arith

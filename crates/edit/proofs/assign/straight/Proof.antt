@@ -30,7 +30,7 @@ word-requires c κs = search needs
 link-requires : tie.Need-link-requires Inv-loop μ-loop
 link-requires c κs =
     let a = c .before .before .before .before .before in
-    (a .pre .sized, (dart-read _ _ _ _ _ _ (a .pre .slots) (c .before .loop-test .taken) (c .word .ensures), omega arith))
+    (a .pre .sized, (dart-read _ _ _ _ _ _ (a .pre .slots) (omega (arith, c .before .loop-test .taken)) (c .word .ensures), omega arith))
 
 add-word-2 : tie.Need-add-word-2 Inv-loop μ-loop
 add-word-2 c = search needs
@@ -41,7 +41,7 @@ word-requires-2 c κs = search needs
 returns : tie.Need-returns Inv-loop μ-loop
 returns c =
     let w = c .before .before .before in
-    follows-stop _ _ _ _ _ _ _ _ _ _ (w .word .ensures) (c .before .before .link .ensures) (c .before .word2 .ensures) _ (w .before .loop-test .taken) (ne-eqb _ _ (c .if1 .taken))
+    follows-stop _ _ _ _ _ _ _ _ _ _ (w .word .ensures) (c .before .before .link .ensures) (c .before .word2 .ensures) _ (omega (arith, w .before .loop-test .taken)) (ne-eqb _ _ (c .if1 .taken))
 
 add-r : tie.Need-add-r Inv-loop μ-loop
 add-r c = search needs

@@ -1,6 +1,7 @@
 -- `edit::links::blank` meets its contract. The loop's invariant: the first c words of the record are zero.
 -- Assumes nothing.
 use Prim.Native.Nat.{_-_}
+use native.Mathlib.Omega.{arith}
 use borrow.Author.Needs.{needs}
 use Rattle.table.specs.Words.{put}
 use Rattle.edit.specs.Links.{zeroed}
@@ -18,7 +19,7 @@ loop-holds : tie.Need-loop-holds Inv-loop μ-loop
 loop-holds c = stage-none (c .before .pre .0)
 
 put-requires : tie.Need-put-requires Inv-loop μ-loop
-put-requires c κs = let l = c .before .before in (l .loop .inv .sized, (l .before .before .pre .1, c .before .loop-test .taken))
+put-requires c κs = let l = c .before .before in (l .loop .inv .sized, (l .before .before .pre .1, omega (arith, c .before .loop-test .taken)))
 
 add-c : tie.Need-add-c Inv-loop μ-loop
 add-c c = search needs
@@ -29,14 +30,14 @@ loop-less c = search needs
 loop-again : tie.Need-loop-again Inv-loop μ-loop
 loop-again c =
     let w = c .before .before .before .before in
-    stage-more (w .before .loop .inv) (w .loop-test .taken) (c .before .before .put .kept .1 .0) (c .before .before .put .ensures)
+    stage-more (w .before .loop .inv) (omega (arith, w .loop-test .taken)) (c .before .before .put .kept .1 .0) (c .before .before .put .ensures)
 
 same-length : tie.Need-same-length Inv-loop μ-loop
 same-length c = stage-length (c .before .loop .inv) (c .before .before .before .pre .0)
 
 returns : tie.Need-returns Inv-loop μ-loop
 unfolding zeroed
-returns c = stage-done (c .before .loop .inv) (c .loop-test .left)
+returns c = stage-done (c .before .loop .inv) (omega (arith, c .loop-test .left))
 
 pub blank-spec : {M : Type 1} → statement M
 blank-spec =

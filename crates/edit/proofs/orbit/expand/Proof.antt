@@ -14,7 +14,7 @@ use Rattle.edit.proofs.orbit.expand.Tie as tie
 
 abbrev Inv-loop : tie.InvT-loop
 Inv-loop slots table dims k store₀ head tail x at end₀ p₀ store end p =
-    (p ≤ k) × Expanded (view slots table) p (λ q. getD dims q 0) head store₀ tail store end
+    Expanded (view slots table) p (λ q. getD dims q 0) head store₀ tail store end × (p ≤ k)
 
 abbrev μ-loop : tie.MeasureT-loop
 μ-loop slots table dims k store₀ head tail x at end₀ p₀ store end p = k - p
@@ -59,7 +59,7 @@ add-at : tie.Need-add-at Inv-loop μ-loop
 add-at c = omega arith
 
 loop-holds : tie.Need-loop-holds Inv-loop μ-loop
-loop-holds c = (omega arith, expanded-none _ _ _ _ _ (start c .pre .1 .0))
+loop-holds c = (expanded-none _ _ _ _ _ (start c .pre .1 .0), omega arith)
 
 element-copy-out-i : tie.Need-element-copy-out-i Inv-loop μ-loop
 element-copy-out-i c = omega arith
@@ -79,7 +79,7 @@ follow-requires : tie.Need-follow-requires Inv-loop μ-loop
 follow-requires c κs =
     let l = c .before .before .before in
     let b = start (l .before .before) in
-    (b .pre .0 .sized .few, (l .before .loop .inv .1 .grown .taken, (omega (arith, y-slot l, c .before .link .ensures), omega arith, omega arith)))
+    (b .pre .0 .sized .few, (l .before .loop .inv .0 .grown .taken, (omega (arith, y-slot l, c .before .link .ensures), omega arith, omega arith)))
 
 add-p : tie.Need-add-p Inv-loop μ-loop
 add-p c = omega arith
@@ -91,13 +91,13 @@ loop-again : tie.Need-loop-again Inv-loop μ-loop
 loop-again c =
     let k = c .before .before .before .before in
     let l = k .before .before in
-    (omega arith, expanded-more _ _ _ _ _ _ _ _ _ _ _ _ (omega arith) (x-is (l .before .before)) (k .link .ensures) (l .before .loop .inv .1) (c .before .before .follow .ensures))
+    (expanded-more _ _ _ _ _ _ _ _ _ _ _ _ (omega arith) (x-is (l .before .before)) (k .link .ensures) (l .before .loop .inv .0) (c .before .before .follow .ensures), omega arith)
 
 same-length : tie.Need-same-length Inv-loop μ-loop
 same-length c = omega arith
 
 returns : tie.Need-returns Inv-loop μ-loop
-returns c = let e : c .before .loop .p ≡ start (c .before .before) .args .k = omega arith in rw (← e) (c .before .loop .inv .1)
+returns c = let e : c .before .loop .p ≡ start (c .before .before) .args .k = omega arith in rw (← e) (c .before .loop .inv .0)
 
 pub expand-spec : {M : Type 1} → statement M
 expand-spec =
