@@ -9,7 +9,7 @@ use native.Mathlib.Omega.{arith}
 use lib.ListN.{getD, replicate}
 use lib.Dec.{eqb, ltb, leb}
 use borrow.Author.Tests.{eq-eqb, eqb-true, lt-ltb, ltb-true, ltb-false, le-leb, leb-true, leb-false}
-use Rattle.base.specs.Test.{_and_, _or_, _⇒_}
+use Rattle.base.specs.Test.{_⇒_}
 use Rattle.base.specs.Below.{allBelow}
 use Rattle.base.specs.Filled.{stored}
 use Rattle.base.specs.Lists.{list}
@@ -18,13 +18,15 @@ use Rattle.base.proofs.BelowLaws.{all-at, all-of, all-none, all-more, all-ends}
 use Rattle.base.proofs.ListLaws.{getD-list}
 use Rattle.base.proofs.FilledLaws.{filled-none, filled-all, stored-filled, same-ltb}
 use Rattle.base.proofs.AscentLaws.{above, above-step, ascends, descends}
-use Rattle.model.specs.Bytes.{onSide, byte, nodesOf, kindAt, arcCount, arcByte}
+use Rattle.model.specs.Bytes.{onSide, byte, nodesOf, kindAt, arcsAt, arcCount, arcByte}
 use Rattle.model.specs.Arc.{farEnd}
 use Rattle.model.specs.Codes.{placedAt, targetsOf}
 use Rattle.model.specs.Scheme.{Side, before, nodeForm, arcForm, arcsForm, arcsOf, schemeOf}
+use Rattle.scheme.specs.Place.{ArcAt}
 use Rattle.scheme.specs.Words.{sideOf}
-use Rattle.scheme.specs.Arcs.{ArcsPlaced, keyOf, arcTest}
+use Rattle.scheme.specs.Arcs.{ArcsPlaced, ArcsRead, keyOf, arcTest}
 use Rattle.scheme.specs.Targets.{Linked, twiceTo}
+use Rattle.scheme.specs.declared.cursor.Arc.{Arc}
 use Rattle.scheme.specs.declared.frame.Layout.{Layout}
 use Rattle.scheme.proofs.FrameLaws.{dimension-small}
 use Rattle.scheme.proofs.WordLaws.{on-side}
@@ -63,19 +65,22 @@ before-key i s t j u v hs ht hu hv = same-test _ _
     (true-or-false (ltb s u)))))
     (true-or-false (ltb i j)))
 
+-- ---- what holds once some arcs are read
+
 module _ (b : List ℕ) (other : ℕ) where
   abbrev keyAt : ℕ → ℕ
   keyAt a = keyOf (arcByte b (sideOf other) a 0) (arcByte b (sideOf other) a 1) (arcByte b (sideOf other) a 2)
 
-  -- what holds once the first a arcs are read; `low` is the least key that may come next
-  pub record Joined (a low : ℕ) (targets : List ℕ) (twice : List Bool) : Type 0 where
+  -- what holds once the first a arcs are read, up to the place `at`; `low` is the least key that may come next
+  pub record Joined (a at low : ℕ) (targets : List ℕ) (twice : List Bool) : Type 0 where
     pub formed : allBelow a (arcForm b (sideOf other)) ≡ true
+    pub placeIs : at ≡ arcsAt b (sideOf other) + 1 + 3 * a
     pub next : low ≡ above keyAt a
     pub held : Shown (placedAt b (sideOf other)) (farEnd (arcByte b (sideOf other)) a) (touches (placedAt b (sideOf other)) (arcByte b (sideOf other)) a) targets twice
 
 -- ---- one arc
 
-module _ (b : List ℕ) (l : Layout) (kinds : List ℕ) (other from count : ℕ) (placed : ArcsPlaced b l kinds other from count) where
+module _ (b : List ℕ) (l : Layout) (kinds : List ℕ) (other from : ℕ) (placed : ArcsPlaced b l kinds other from) where
   abbrev side : Side
   side = sideOf other
 
@@ -166,17 +171,19 @@ module _ (b : List ℕ) (l : Layout) (kinds : List ℕ) (other from count : ℕ)
       f : (o : ℕ) → o < a → arcForm b side o ≡ true
       f o h = all-at a _ up o h
 
-  -- the bytes of arc a as they are read
+  -- the bytes of arc a
   pub record Read (a d s t : ℕ) : Type 0 where
     pub dIs : d ≡ part a 0
     pub sIs : s ≡ part a 1
     pub tIs : t ≡ part a 2
 
-  pub reads : (a : ℕ) → Read a (byte b (from + 3 * a)) (byte b (from + 3 * a + 1)) (byte b (from + 3 * a + 2))
-  reads a = record {
-    dIs = ap (byte b) (omega (arith, placed .fromIs));
-    sIs = ap (λ (x : ℕ). byte b (x + 3 * a + 1)) (placed .fromIs);
-    tIs = ap (λ (x : ℕ). byte b (x + 3 * a + 2)) (placed .fromIs);
+  -- the arc that is read after the first a
+  pub reads : {a at low : ℕ} {targets : List ℕ} {twice : List Bool} {r : Arc} → Joined b other a at low targets twice → ArcAt b at r
+      → Read a (r .dim) (r .near) (r .far)
+  reads {a} j e = record {
+    dIs = e .dimIs ∙ ap (byte b) (omega (arith, j .placeIs));
+    sIs = e .nearIs ∙ ap (λ (x : ℕ). byte b (x + 1)) (j .placeIs);
+    tIs = e .farIs ∙ ap (λ (x : ℕ). byte b (x + 2)) (j .placeIs);
   }
 
   pub read-small : (a d s t : ℕ) → Read a d s t → arcForm b side a ≡ true → (d < 4) × (s < 16) × (t < 16)
@@ -188,58 +195,69 @@ module _ (b : List ℕ) (l : Layout) (kinds : List ℕ) (other from count : ℕ)
   -- ---- the first a arcs
 
   -- before the first arc
-  pub joined-none : {targets : List ℕ} {twice : List Bool} → targets ≡ list 64 (placedAt b side) → twice ≡ replicate 16 false → Joined b other 0 0 targets twice
+  pub joined-none : {at : ℕ} {targets : List ℕ} {twice : List Bool} → at ≡ from + 1 → targets ≡ list 64 (placedAt b side) → twice ≡ replicate 16 false
+      → Joined b other 0 at 0 targets twice
   unfolding above
-  joined-none f g = record { formed = all-none _; next = refl; held = shown-none (placedAt b side) part f g }
+  joined-none p f g = record {
+    formed = all-none _;
+    placeIs = omega (arith, placed .fromIs);
+    next = refl;
+    held = shown-none (placedAt b side) part f g;
+  }
 
-  pub joined-form-at : {r : Bool} (a low n nodes d s t : ℕ) {targets : List ℕ} {twice : List Bool} → Joined b other a low targets twice → Read a d s t → n ≡ byte b 0 → nodes ≡ nodesOf b
+  pub joined-form-at : {r : Bool} {a at low n nodes d s t : ℕ} {targets : List ℕ} {twice : List Bool} → Joined b other a at low targets twice → Read a d s t → n ≡ byte b 0 → nodes ≡ nodesOf b
       → r ≡ arcTest n nodes kinds other low d s t → r ≡ arcForm b side a
-  joined-form-at a low n nodes d s t j q nIs nodesIs e =
+  joined-form-at {r} {a} {at} {low} {n} {nodes} j q nIs nodesIs e =
       e ∙ rw (q .dIs, q .sIs, q .tIs) (arc-same a low n nodes (j .formed) (j .next) nIs nodesIs)
 
   -- an arc more
-  pub joined-more : (a low d s t k : ℕ) {targets targets′ : List ℕ} {twice twice′ : List Bool} → Joined b other a low targets twice
-      → Read a d s t → arcForm b side a ≡ true → k ≡ keyOf d s t → Linked d s t targets twice targets′ twice′
-      → Joined b other (a + 1) (k + 1) targets′ twice′
-  joined-more a low d s t k j r q keyIs e =
+  pub joined-more : {a at low d s t k next : ℕ} {targets targets′ : List ℕ} {twice twice′ : List Bool} → Joined b other a at low targets twice
+      → Read a d s t → arcForm b side a ≡ true → next ≡ at + 3 → k ≡ keyOf d s t → Linked d s t targets twice targets′ twice′
+      → Joined b other (a + 1) next (k + 1) targets′ twice′
+  joined-more {a} j r q p keyIs e =
       let n = ends a q in
       let n3 = dimension-small b l (placed .laid) in
       let h = placed .laid .headed in
       record {
         formed = all-more _ a (j .formed) q;
+        placeIs = omega (arith, j .placeIs);
         next = ap (λ (x : ℕ). x + 1) (keyIs ∙ rw (r .dIs, r .sIs, r .tIs) refl) ∙ sym (above-step key a);
         held = linked-more (placedAt b side) part a (omega arith) (omega arith) (omega arith) (places b side (omega arith)) (j .held)
             (rw (r .dIs, r .sIs, r .tIs) at e);
       }
 
-  pub joined-stops : (a : ℕ) → a < count → arcForm b side a ≡ false → false ≡ arcsForm b side
+  pub joined-stops : (a : ℕ) → a < arcCount b side → arcForm b side a ≡ false → false ≡ arcsForm b side
   unfolding arcsForm
-  joined-stops a h q = sym (refuted (λ w. all-at _ _ (and-right _ _ w) a (rw (placed .countIs) at h)) q)
+  joined-stops a h q = sym (refuted (λ w. all-at _ _ (and-right _ _ w) a h) q)
 
-  pub joined-form : (a low : ℕ) {targets : List ℕ} {twice : List Bool} → Joined b other a low targets twice → a ≤ count → count ≤ a → true ≡ arcsForm b side
-  unfolding arcsForm
-  joined-form a low j h k =
-      let few = placed .few in
-      let c = placed .countIs in
-      sym (and-of (le-leb (arcCount b side) 64 (omega arith)) (sym (all-ends _ a (arcCount b side) (j .formed) (omega arith) (omega arith))))
+  -- ---- all arcs
 
-  -- after the last arc
-  pub joined-value : (a low : ℕ) {targets : List ℕ} {twice : List Bool} → Joined b other a low targets twice → a ≤ count → count ≤ a
-      → (targets ≡ targetsOf b side) × (twice ≡ twiceTo (placedAt b side) (arcByte b side) (arcCount b side))
-  unfolding targetsOf twiceTo
-  joined-value a low {targets} {twice} j h k =
-      let same : a ≡ arcCount b side = omega (arith, placed .countIs) in
-      let w : Shown (placedAt b side) (farEnd part (arcCount b side)) (touches (placedAt b side) part (arcCount b side)) targets twice = rw same at (j .held) in
-      (w .targetsAre, w .twiceAre)
-
-  -- ---- the arcs as they stand
-
-  pub arcs-value : {arcs arcs′ : List ℕ} → arcs ≡ replicate 192 0 → arcs′ ≡ stored arcs 0 b from (3 * count) → arcs′ ≡ arcsOf b side
+  -- the arcs as they stand
+  arcs-value : {arcs blank : List ℕ} {at count : ℕ} → blank ≡ replicate 192 0 → at ≡ from + 1 → count ≡ arcCount b side
+      → arcs ≡ stored blank 0 b at (3 * count) → arcs ≡ arcsOf b side
   unfolding arcsOf
-  arcs-value e f =
+  arcs-value {at = at} {count = count} e p q f =
       let few = placed .few in
-      f ∙ filled-all 192 (λ k. byte b (from + k)) 0 (0 + 3 * count) _
-      (stored-filled 192 (λ k. byte b (from + k)) 0 0 b from (3 * count) (e ∙ filled-none 192 _ 0) (omega arith) (λ k h. ap (λ (i : ℕ). byte b (from + i)) (omega arith)))
+      f ∙ filled-all 192 (λ k. byte b (at + k)) 0 (0 + 3 * count) _
+      (stored-filled 192 (λ k. byte b (at + k)) 0 0 b at (3 * count) (e ∙ filled-none 192 _ 0) (omega arith) (λ k h. ap (λ (i : ℕ). byte b (at + i)) (omega arith)))
       (λ k h. ap₂ (λ (t : Bool) (i : ℕ). cond t (byte b i) 0)
-      (same-ltb k (0 + 3 * count) (k / 3) (arcCount b side) (λ u. omega (arith, placed .countIs)) (λ u. omega (arith, placed .countIs)))
+      (same-ltb k (0 + 3 * count) (k / 3) (arcCount b side) (λ u. omega arith) (λ u. omega arith))
       (omega (arith, placed .fromIs)))
+
+  module _ {a at low : ℕ} {targets : List ℕ} {twice : List Bool} (j : Joined b other a at low targets twice) (h : a ≤ arcCount b side) (k : arcCount b side ≤ a) where
+    pub joined-form : true ≡ arcsForm b side
+    unfolding arcsForm
+    joined-form = sym (and-of (le-leb _ _ (placed .few)) (sym (all-ends _ a (arcCount b side) (j .formed) h k)))
+
+    pub joined-read : {arcs blank : List ℕ} {first count : ℕ} → blank ≡ replicate 192 0 → first ≡ from + 1 → count ≡ arcCount b side
+        → arcs ≡ stored blank 0 b first (3 * count) → ArcsRead b side at arcs targets twice
+    unfolding targetsOf twiceTo
+    joined-read e p q f =
+        let same : a ≡ arcCount b side = omega arith in
+        let w : Shown (placedAt b side) (farEnd part (arcCount b side)) (touches (placedAt b side) part (arcCount b side)) targets twice = rw same at (j .held) in
+        record {
+          placeIs = j .placeIs ∙ ap (λ (x : ℕ). arcsAt b side + 1 + 3 * x) same;
+          arcsIs = arcs-value e p q f;
+          targetsIs = w .targetsAre;
+          twiceIs = w .twiceAre;
+        }

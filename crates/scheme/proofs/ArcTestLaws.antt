@@ -7,7 +7,7 @@ use mathlib.Core.List.{List}
 use lib.ListN.{getD}
 use lib.Dec.{eqb}
 use borrow.Author.Tests.{eq-eqb, ne-eqb, lt-ltb, le-ltb, le-leb, lt-leb}
-use Rattle.base.specs.Test.{_and_, _⇒_}
+use Rattle.base.specs.Test.{_⇒_}
 use Rattle.base.proofs.TestLaws.{and-left, and-right, and-of, refuted, same-test}
 use Rattle.scheme.specs.Arcs.{keyOf, arcTest}
 

@@ -39,10 +39,10 @@ module _ (b : List ℕ) where
   no-places e = refuted (λ q. let f = parts b q in let k = places-few b f in
       fitting b 1 0 (byte b 0 + 1) 1 (record { some = omega arith; few = k; within = omega arith })) e
 
-  pub no-nodes : fits b (2 + placesOf b) 1 16 (1 + 2 * placesOf b) ≡ false → inForm b ≡ false
+  pub no-nodes : {most : ℕ} → fits b (2 + placesOf b) 1 most (1 + 2 * placesOf b) ≡ false → 16 ≤ most → inForm b ≡ false
   unfolding after
-  no-nodes e = refuted (λ q. let f = parts b q in
-      fitting b (2 + placesOf b) 1 16 (1 + 2 * placesOf b) (record { some = f .nodesSome; few = f .nodesFew; within = omega arith })) e
+  no-nodes {most} e h = refuted (λ q. let f = parts b q in
+      fitting b (2 + placesOf b) 1 most (1 + 2 * placesOf b) (record { some = f .nodesSome; few = omega arith; within = omega arith })) e
 
   pub no-arcs : (side : Side) → fits b (arcsAt b side) 0 64 3 ≡ false → inForm b ≡ false
   unfolding after
@@ -66,8 +66,9 @@ module _ (b : List ℕ) (l : Layout) (laid : LaidOut b l) where
   pub places-small : placesOf b ≤ 4
   places-small = let h = laid .headed in let n3 = dimension-small in omega arith
 
-  pub orbit-inside : 2 + placesOf b ≤ length b
-  orbit-inside = omega arith
+  -- the orbit type and the count of the nodes after it
+  pub count-inside : 2 + placesOf b < length b
+  count-inside = omega arith
 
   pub node-inside : (s : ℕ) → s < nodesOf b → nodeAt b s + 1 + 2 * placesOf b ≤ length b
   node-inside s h = omega (arith, mul-le-mul-right (1 + 2 * placesOf b) h)

@@ -96,9 +96,9 @@ module _ (b : List ℕ) (at : ℕ) where
     rowed-none = refl
 
     -- one byte more
-    pub rowed-more : {l : List ℕ} (p : ℕ) → l ≡ rowed targets base b at p → marked l base (byte b (at + p)) p ≡ rowed targets base b at (p + 1)
+    pub rowed-more : {l : List ℕ} {v : ℕ} (p : ℕ) → l ≡ rowed targets base b at p → v ≡ byte b (at + p) → marked l base v p ≡ rowed targets base b at (p + 1)
     unfolding rowed
-    rowed-more p e = rw (add-one p, e) refl
+    rowed-more p e q = rw (add-one p, e, q) refl
 
     -- the same number of bytes by another name
     pub rowed-all : {l : List ℕ} (p k : ℕ) → l ≡ rowed targets base b at p → p ≡ k → l ≡ rowed targets base b at k
@@ -166,10 +166,10 @@ module _ (b : List ℕ) (at : ℕ) where
             inside u = omega (arith, length-rowed p)
 
         -- the next byte can be marked just if it fits
-        pub rowed-fits : {l : List ℕ} {r : Bool} (p : ℕ) → l ≡ rowed targets base b at p → p ≤ 4 → allBelow p (fitsAt b n at) ≡ true
-            → r ≡ markable l base n (byte b (at + p)) → r ≡ fitsAt b n at p
+        pub rowed-fits : {l : List ℕ} {r : Bool} {v : ℕ} (p : ℕ) → l ≡ rowed targets base b at p → p ≤ 4 → allBelow p (fitsAt b n at) ≡ true
+            → v ≡ byte b (at + p) → r ≡ markable l base n v → r ≡ fitsAt b n at p
         unfolding fitsAt markable
-        rowed-fits {l} p e small q r = r ∙ ⊎-elim
+        rowed-fits {l} p e small q w r = r ∙ ap (λ (x : ℕ). markable l base n x) w ∙ ⊎-elim
             (λ w. or-left _ w ∙ sym (or-left _ w))
             (λ w. same-test _ _
             (λ t. or-right _ (let u = or-rest w t in and-of (and-left _ _ u) (sym (code (leb-true _ _ (and-left _ _ u))) ∙ and-right _ _ u)))

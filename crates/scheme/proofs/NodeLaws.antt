@@ -8,16 +8,16 @@ use native.Mathlib.Omega.{arith}
 use lib.ListN.{set, replicate}
 use borrow.Author.Tests.{le-leb, lt-leb}
 use Rattle.base.specs.Test.{_and_}
-use Rattle.base.specs.Below.{allBelow}
 use Rattle.base.specs.Filled.{filled}
 use Rattle.base.specs.Lists.{list}
 use Rattle.base.proofs.TestLaws.{and-left, and-right, and-of, refuted, same-test}
 use Rattle.base.proofs.BelowLaws.{all-none, all-more}
 use Rattle.base.proofs.FilledLaws.{filled-none, filled-more, filled-all, same-ltb}
-use Rattle.model.specs.Bytes.{byte, placesOf, nodesOf, nodeAt, kindAt, upTo}
+use Rattle.model.specs.Bytes.{placesOf, nodesOf, nodeAt, kindAt, upTo}
 use Rattle.model.specs.Codes.{placed, placedAt}
 use Rattle.model.specs.Scheme.{Side, left, right, wordForm, wordEmpty, nodeForm, wordsOf, schemeOf}
 use Rattle.scheme.specs.Words.{row}
+use Rattle.scheme.specs.Nodes.{Passed, Noded}
 
 -- ---- one node
 
@@ -44,21 +44,12 @@ module _ (b : List ℕ) (s : ℕ) where
 -- ---- the first s nodes
 
 module _ (b : List ℕ) where
-  pub record Passed (s at : ℕ) (kinds lwords rwords ltargets rtargets : List ℕ) : Type 0 where
-    pub formed : allBelow s (nodeForm b) ≡ true
-    pub atIs : at ≡ nodeAt b s
-    pub kindsIs : kinds ≡ filled 16 s (kindAt b) 0
-    pub lwordsIs : lwords ≡ filled 64 (4 * s) (row b left) 255
-    pub rwordsIs : rwords ≡ filled 64 (4 * s) (row b right) 255
-    pub ltargetsIs : ltargets ≡ filled 64 (4 * s) (placed b left) 255
-    pub rtargetsIs : rtargets ≡ filled 64 (4 * s) (placed b right) 255
-
   pub passed-none : {at : ℕ} {kinds lwords rwords ltargets rtargets : List ℕ} → at ≡ 3 + placesOf b → kinds ≡ replicate 16 0
       → lwords ≡ replicate 64 255 → rwords ≡ replicate 64 255 → ltargets ≡ replicate 64 255 → rtargets ≡ replicate 64 255
-      → Passed 0 at kinds lwords rwords ltargets rtargets
+      → Passed b 0 at kinds lwords rwords ltargets rtargets
   passed-none e k l r u v = record {
     formed = all-none _;
-    atIs = omega arith;
+    placeIs = omega arith;
     kindsIs = k ∙ filled-none 16 (kindAt b) 0;
     lwordsIs = l ∙ filled-none 64 (row b left) 255;
     rwordsIs = r ∙ filled-none 64 (row b right) 255;
@@ -66,24 +57,24 @@ module _ (b : List ℕ) where
     rtargetsIs = v ∙ filled-none 64 (placed b right) 255;
   }
 
-  pub passed-more : {s at next : ℕ} {kinds lwords rwords ltargets rtargets lwords′ rwords′ ltargets′ rtargets′ : List ℕ}
-      → Passed s at kinds lwords rwords ltargets rtargets → s < 16 → nodeForm b s ≡ true
-      → next ≡ at + (1 + 2 * placesOf b)
+  pub passed-more : {s at next kind : ℕ} {kinds lwords rwords ltargets rtargets lwords′ rwords′ ltargets′ rtargets′ : List ℕ}
+      → Passed b s at kinds lwords rwords ltargets rtargets → s < 16 → nodeForm b s ≡ true
+      → next ≡ at + (1 + 2 * placesOf b) → kind ≡ kindAt b s
       → lwords′ ≡ filled 64 (4 * (s + 1)) (row b left) 255 → rwords′ ≡ filled 64 (4 * (s + 1)) (row b right) 255
       → ltargets′ ≡ filled 64 (4 * (s + 1)) (placed b left) 255 → rtargets′ ≡ filled 64 (4 * (s + 1)) (placed b right) 255
-      → Passed (s + 1) next (set kinds s (byte b at)) lwords′ rwords′ ltargets′ rtargets′
-  passed-more {s} f h e n l r u v = record {
+      → Passed b (s + 1) next (set kinds s kind) lwords′ rwords′ ltargets′ rtargets′
+  passed-more {s} f h e n k l r u v = record {
     formed = all-more _ s (f .formed) e;
-    atIs = omega (arith, f .atIs);
-    kindsIs = filled-more 16 (kindAt b) 0 s (f .kindsIs) h (ap (byte b) (f .atIs));
+    placeIs = omega (arith, f .placeIs);
+    kindsIs = filled-more 16 (kindAt b) 0 s (f .kindsIs) h k;
     lwordsIs = l;
     rwordsIs = r;
     ltargetsIs = u;
     rtargetsIs = v;
   }
 
-  module _ {s at : ℕ} {kinds lwords rwords ltargets rtargets : List ℕ} (f : Passed s at kinds lwords rwords ltargets rtargets) (h : s ≤ nodesOf b) (k : nodesOf b ≤ s) where
-    pub kinds-value : kinds ≡ schemeOf b .kinds
+  module _ {s at : ℕ} {kinds lwords rwords ltargets rtargets : List ℕ} (f : Passed b s at kinds lwords rwords ltargets rtargets) (h : s ≤ nodesOf b) (k : nodesOf b ≤ s) where
+    kinds-value : kinds ≡ schemeOf b .kinds
     unfolding schemeOf
     kinds-value =
         let same : s ≡ nodesOf b = omega arith in
@@ -94,21 +85,18 @@ module _ (b : List ℕ) where
     words-value side e = filled-all 64 (row b side) 255 (4 * s) _ e (λ x l.
         ap (λ (t : Bool). cond t (row b side x) 255) (same-ltb x (4 * s) (x / 4) (nodesOf b) (λ u. omega arith) (λ u. omega arith)))
 
-    pub lwords-value : lwords ≡ schemeOf b .lwords
-    unfolding schemeOf
-    lwords-value = words-value left (f .lwordsIs)
-
-    pub rwords-value : rwords ≡ schemeOf b .rwords
-    unfolding schemeOf
-    rwords-value = words-value right (f .rwordsIs)
-
     -- the targets of a side once all nodes are read
     targets-value : (side : Side) {targets : List ℕ} → targets ≡ filled 64 (4 * s) (placed b side) 255 → targets ≡ list 64 (placedAt b side)
     unfolding filled
     targets-value side e = let same : s ≡ nodesOf b = omega arith in e ∙ ap (λ (j : ℕ). filled 64 (4 * j) (placed b side) 255) same
 
-    pub ltargets-value : ltargets ≡ list 64 (placedAt b left)
-    ltargets-value = targets-value left (f .ltargetsIs)
-
-    pub rtargets-value : rtargets ≡ list 64 (placedAt b right)
-    rtargets-value = targets-value right (f .rtargetsIs)
+    pub passed-all : Noded b at kinds lwords rwords ltargets rtargets
+    unfolding schemeOf
+    passed-all = let same : s ≡ nodesOf b = omega arith in record {
+      placeIs = f .placeIs ∙ ap (nodeAt b) same;
+      kindsIs = kinds-value;
+      lwordsIs = words-value left (f .lwordsIs);
+      rwordsIs = words-value right (f .rwordsIs);
+      ltargetsIs = targets-value left (f .ltargetsIs);
+      rtargetsIs = targets-value right (f .rtargetsIs);
+    }

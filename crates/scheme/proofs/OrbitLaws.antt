@@ -32,22 +32,22 @@ module _ (b : List ℕ) where
   unfolding above
   risen-none e = record { dims = all-none _; up = all-none _; next = refl; holds = e ∙ filled-none 4 dim 0 }
 
-  pub risen-more : {p low : ℕ} {held : List ℕ} → Risen p low held → p < 4 → low ≤ dim p → dim p ≤ byte b 0
-      → Risen (p + 1) (dim p + 1) (set held p (dim p))
-  risen-more {p} r l h k = record {
-    dims = all-more _ p (r .dims) (le-leb _ _ k);
+  pub risen-more : {p low v : ℕ} {held : List ℕ} → Risen p low held → v ≡ byte b (2 + p) → p < 4 → low ≤ v → v ≤ byte b 0
+      → Risen (p + 1) (v + 1) (set held p v)
+  risen-more {p} r e l h k = record {
+    dims = all-more _ p (r .dims) (le-leb (dim p) (byte b 0) (omega arith));
     up = all-more _ p (r .up) (ascends dim p (λ q s. all-at p _ (r .up) q s) (omega (arith, r .next)));
-    next = sym (above-step dim p);
-    holds = filled-more 4 dim 0 p (r .holds) l refl;
+    next = ap (λ (x : ℕ). x + 1) e ∙ sym (above-step dim p);
+    holds = filled-more 4 dim 0 p (r .holds) l e;
   }
 
-  pub risen-low : {p low : ℕ} {held : List ℕ} → Risen p low held → p < placesOf b → dim p < low → false ≡ orbitForm b
+  pub risen-low : {p low v : ℕ} {held : List ℕ} → Risen p low held → v ≡ byte b (2 + p) → p < placesOf b → v < low → false ≡ orbitForm b
   unfolding orbitForm
-  risen-low {p} r l h = sym (refuted (λ q. all-at (placesOf b) _ (and-right _ _ q) p l) (descends dim p (omega (arith, r .next))))
+  risen-low {p} r e l h = sym (refuted (λ q. all-at (placesOf b) _ (and-right _ _ q) p l) (descends dim p (omega (arith, r .next))))
 
-  pub risen-high : (p : ℕ) → p < placesOf b → byte b 0 < dim p → false ≡ orbitForm b
+  pub risen-high : (p : ℕ) {v : ℕ} → v ≡ byte b (2 + p) → p < placesOf b → byte b 0 < v → false ≡ orbitForm b
   unfolding orbitForm
-  risen-high p l h = sym (refuted (λ q. all-at (placesOf b) _ (and-right _ _ (and-left _ _ q)) p l) (lt-leb _ _ h))
+  risen-high p e l h = sym (refuted (λ q. all-at (placesOf b) _ (and-right _ _ (and-left _ _ q)) p l) (lt-leb _ _ (rw e at h)))
 
   pub risen-form : {p low : ℕ} {held : List ℕ} → Risen p low held → p ≤ placesOf b → placesOf b ≤ p → placesOf b ≤ byte b 0 + 1 → true ≡ orbitForm b
   unfolding orbitForm

@@ -6,18 +6,44 @@ use mathlib.Core.Bool.{Bool, true, false, cond}
 use mathlib.Core.List.{List}
 use native.Mathlib.Omega.{arith}
 use borrow.Author.Tests.{lt-ltb, le-ltb, ltb-true, ltb-false, le-leb, lt-leb, leb-true}
-use lib.ListN.{length}
-use Rattle.base.specs.Test.{_and_}
+use lib.ListN.{length, set}
+use Rattle.base.specs.Filled.{stored}
 use Rattle.base.proofs.TestLaws.{and-left, and-right, and-of, and-no-left, and-no-right}
+use Rattle.base.proofs.FilledLaws.{stored-next}
 use Rattle.model.specs.Bytes.{byte}
-use Rattle.scheme.specs.Place.{stepAt, after, fits, sectionAt}
+use Rattle.scheme.specs.Place.{TakenAt, ArcAt, stepAt, after, fits, sectionAt}
 use Rattle.scheme.specs.declared.cursor.Cursor.{Cursor}
+use Rattle.scheme.specs.declared.cursor.Taken.{Taken}
 use Rattle.scheme.specs.declared.cursor.Step.{Step}
 use Rattle.scheme.specs.declared.cursor.Step.the-variants.{Byte, End}
 use Rattle.scheme.specs.declared.cursor.Section.{Section}
 use Rattle.scheme.specs.declared.cursor.Section.the-variants.{Count, Bad}
 
--- ---- a byte
+-- ---- a byte that is there
+
+-- a byte that was taken p bytes after a place
+pub taken-at : (b : List ℕ) (from p : ℕ) {at : ℕ} {r : Taken} → TakenAt b at r → at ≡ from + p → (r .value ≡ byte b (from + p)) × (r .next .at ≡ from + (p + 1))
+taken-at b from p t e = (t .valueIs ∙ ap (byte b) e, omega (arith, t .nextIs))
+
+-- three bytes in a row are an arc
+pub arc-of : (b : List ℕ) (at : ℕ) {x y z : Taken} → TakenAt b at x → TakenAt b (x .next .at) y → TakenAt b (y .next .at) z
+    → ArcAt b at (record { dim = x .value; near = y .value; far = z .value; next = z .next })
+arc-of b at {x} {y} {z} p q r =
+    let second : x .next .at ≡ at + 1 = p .nextIs in
+    let third : y .next .at ≡ at + 2 = omega (arith, q .nextIs) in
+    record {
+      dimIs = p .valueIs;
+      nearIs = q .valueIs ∙ ap (byte b) second;
+      farIs = r .valueIs ∙ ap (byte b) third;
+      nextIs = omega (arith, r .nextIs);
+    }
+
+-- a byte that was taken is stored behind those before it
+pub stored-byte : (l : List ℕ) (base : ℕ) (b : List ℕ) (at m : ℕ) {d : List ℕ} {i v : ℕ} → d ≡ stored l base b at m → i ≡ base + m → v ≡ byte b (at + m)
+    → set d i v ≡ stored l base b at (m + 1)
+stored-byte l base b at m {d} {i} e q w = ap (λ (x : ℕ). set d i x) w ∙ stored-next l base b at m e q
+
+-- ---- a byte or the end
 
 module _ (b : List ℕ) (at : ℕ) where
   pub step-byte : at < length b → Byte (byte b at) (record { at = at + 1 }) ≡ stepAt b at
@@ -61,10 +87,9 @@ module _ (b : List ℕ) (at least most size : ℕ) where
   unfolding fits
   fitting f = and-of (and-of (le-leb _ _ (f .some)) (le-leb _ _ (f .few))) (le-leb _ _ (f .within))
 
-  pub section-count : {m i k : ℕ} → m ≡ byte b at → i ≡ at + 1 → k ≡ after b at size → Fitted
-      → Count m i (record { at = k }) ≡ sectionAt b at least most size
+  pub section-count : {m k : ℕ} → m ≡ byte b at → k ≡ after b at size → Fitted → Count m (record { at = k }) ≡ sectionAt b at least most size
   unfolding sectionAt
-  section-count p q z f = rw (p, q, z, fitting f) refl
+  section-count p z f = rw (p, z, fitting f) refl
 
   pub section-bad : fits b at least most size ≡ false → Bad ≡ sectionAt b at least most size
   unfolding sectionAt
@@ -82,22 +107,22 @@ module _ (b : List ℕ) (at least most size : ℕ) where
   unfolding fits
   beyond h = and-no-right _ (lt-leb _ _ h)
 
-told-count : (t : Bool) (m m′ i i′ : ℕ) (c c′ : Cursor) → cond t (Count m i c) Bad ≡ Count m′ i′ c′ → (t ≡ true) × (m′ ≡ m) × (i′ ≡ i) × (c′ ≡ c)
-told-count true m m′ i i′ c c′ e = (refl, cc, cc, cc)
-told-count false m m′ i i′ c c′ e = absurd (let z : _≡_ {A = ℕ} 0 1 = cc in omega arith)
+told-count : (t : Bool) (m m′ : ℕ) (c c′ : Cursor) → cond t (Count m c) Bad ≡ Count m′ c′ → (t ≡ true) × (m′ ≡ m) × (c′ ≡ c)
+told-count true m m′ c c′ e = (refl, cc, cc)
+told-count false m m′ c c′ e = absurd (let z : _≡_ {A = ℕ} 0 1 = cc in omega arith)
 
-told-bad : (t : Bool) (m i : ℕ) (c : Cursor) → cond t (Count m i c) Bad ≡ Bad → t ≡ false
-told-bad true m i c e = absurd (let z : _≡_ {A = ℕ} 0 1 = cc in omega arith)
-told-bad false m i c e = refl
+told-bad : (t : Bool) (m : ℕ) (c : Cursor) → cond t (Count m c) Bad ≡ Bad → t ≡ false
+told-bad true m c e = absurd (let z : _≡_ {A = ℕ} 0 1 = cc in omega arith)
+told-bad false m c e = refl
 
 -- what a count's answer tells, at the place, the bound and the size that the model names
 module _ (b : List ℕ) (at least most size : ℕ) {at′ most′ size′ : ℕ} {r : Section} (p : at′ ≡ at) (q : most′ ≡ most) (z : size′ ≡ size) (s : r ≡ sectionAt b at′ least most′ size′) where
-  pub counted : {m i : ℕ} {c : Cursor} → r ≡ Count m i c → (m ≡ byte b at) × (i ≡ at + 1) × (c .at ≡ after b at size) × Fitted b at least most size
+  pub counted : {m : ℕ} {c : Cursor} → r ≡ Count m c → (m ≡ byte b at) × (c .at ≡ after b at size) × Fitted b at least most size
   unfolding sectionAt
   counted e =
-      let t = told-count _ _ _ _ _ _ _ (sym (rw (p, q, z) at s) ∙ e) in
-      (t .1, t .2, ap (λ (d : Cursor). d .at) (t .3), fitted b at least most size (t .0))
+      let t = told-count _ _ _ _ _ (sym (rw (p, q, z) at s) ∙ e) in
+      (t .1, ap (λ (d : Cursor). d .at) (t .2), fitted b at least most size (t .0))
 
   pub uncounted : r ≡ Bad → fits b at least most size ≡ false
   unfolding sectionAt
-  uncounted e = told-bad _ _ _ _ (sym (rw (p, q, z) at s) ∙ e)
+  uncounted e = told-bad _ _ _ (sym (rw (p, q, z) at s) ∙ e)

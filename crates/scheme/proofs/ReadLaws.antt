@@ -46,17 +46,16 @@ module _ (b : List ℕ) (l : Layout) (laid : LaidOut b l) (nodes : allBelow (nod
   side-inside left = (omega (arith, laid .lcountIs, laid .lcountFew), omega (arith, laid .ends))
   side-inside right = (omega (arith, laid .rcountIs, laid .rcountFew), omega (arith, laid .ends))
 
-  pub placed-side : {kinds : List ℕ} {from countBelow : ℕ} → kinds ≡ schemeOf b .kinds → (other : ℕ) → (other ≡ 3) ⊎ (other ≡ 1)
-      → from ≡ arcsAt b (sideOf other) + 1 → countBelow ≡ arcCount b (sideOf other) → ArcsPlaced b l kinds other from countBelow
-  placed-side k other o f c = let i = side-inside (sideOf other) in record {
+  pub placed-side : {kinds : List ℕ} {from : ℕ} → kinds ≡ schemeOf b .kinds → (other : ℕ) → (other ≡ 3) ⊎ (other ≡ 1)
+      → from ≡ arcsAt b (sideOf other) → ArcsPlaced b l kinds other from
+  placed-side k other o f = let i = side-inside (sideOf other) in record {
     laid = laid;
     nodes = nodes;
     kindsAre = k;
     sideIs = o;
     fromIs = f;
-    countIs = c;
-    few = omega (arith, i .0);
-    inside = omega (arith, i .1);
+    few = i .0;
+    inside = i .1;
   }
 
   pub all-formed : orbitForm b ≡ true → arcsForm b left ≡ true → arcsForm b right ≡ true → inForm b ≡ true

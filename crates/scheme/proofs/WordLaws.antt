@@ -31,13 +31,13 @@ use Rattle.scheme.proofs.MarkLaws.{stands, length-rowed, rowed-else, ro
 -- ---- tests of a byte
 
 module _ (b : List ℕ) (at : ℕ) where
-  pub is-empty : (p : ℕ) → byte b (at + p) ≡ 255 → emptyAt b at p ≡ true
+  pub is-empty : (p : ℕ) {v : ℕ} → v ≡ byte b (at + p) → v ≡ 255 → emptyAt b at p ≡ true
   unfolding emptyAt
-  is-empty p e = eq-eqb _ _ e
+  is-empty p q e = eq-eqb _ _ (sym q ∙ e)
 
-  pub not-empty : (p : ℕ) → (byte b (at + p) ≡ 255 → ⊥) → emptyAt b at p ≡ false
+  pub not-empty : (p : ℕ) {v : ℕ} → v ≡ byte b (at + p) → (v ≡ 255 → ⊥) → emptyAt b at p ≡ false
   unfolding emptyAt
-  not-empty p e = ne-eqb _ _ e
+  not-empty p q e = ne-eqb _ _ (λ f. e (q ∙ f))
 
   pub empty-fits : (n p : ℕ) → byte b (at + p) ≡ 255 → true ≡ fitsAt b n at p
   unfolding fitsAt

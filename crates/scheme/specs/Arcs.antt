@@ -1,4 +1,4 @@
--- The arcs of a side: what is known where they are read, and the test of an arc.
+-- The arcs of a side: what is known where they are read and once they are, and the test of an arc.
 -- Assumes nothing.
 use Prim.Native.Nat.{ℕ, _+_, _*_, _≤_}
 use mathlib.Core.Path.{_≡_}
@@ -9,22 +9,30 @@ use lib.ListN.{length, getD}
 use lib.Dec.{eqb, ltb, leb}
 use Rattle.base.specs.Test.{_and_, _⇒_}
 use Rattle.base.specs.Below.{allBelow}
-use Rattle.model.specs.Bytes.{nodesOf, arcsAt, arcCount}
-use Rattle.model.specs.Scheme.{nodeForm, schemeOf}
+use Rattle.model.specs.Bytes.{nodesOf, arcsAt, arcCount, arcByte}
+use Rattle.model.specs.Codes.{placedAt, targetsOf}
+use Rattle.model.specs.Scheme.{Side, nodeForm, arcsOf, schemeOf}
 use Rattle.scheme.specs.Frame.{LaidOut}
 use Rattle.scheme.specs.Words.{sideOf}
+use Rattle.scheme.specs.Targets.{twiceTo}
 use Rattle.scheme.specs.declared.frame.Layout.{Layout}
 
--- the arcs of the side that has not the nodes of the kind `other`, after nodes that are in the form
-pub record ArcsPlaced (b : List ℕ) (l : Layout) (kinds : List ℕ) (other from count : ℕ) : Type 0 where
+-- the count and the arcs of the side that has not the nodes of the kind `other`, after nodes that are in the form
+pub record ArcsPlaced (b : List ℕ) (l : Layout) (kinds : List ℕ) (other from : ℕ) : Type 0 where
   pub laid : LaidOut b l
   pub nodes : allBelow (nodesOf b) (nodeForm b) ≡ true
   pub kindsAre : kinds ≡ schemeOf b .kinds
   pub sideIs : (other ≡ 3) ⊎ (other ≡ 1)
-  pub fromIs : from ≡ arcsAt b (sideOf other) + 1
-  pub countIs : count ≡ arcCount b (sideOf other)
-  pub few : count ≤ 64
-  pub inside : from + 3 * count ≤ length b
+  pub fromIs : from ≡ arcsAt b (sideOf other)
+  pub few : arcCount b (sideOf other) ≤ 64
+  pub inside : arcsAt b (sideOf other) + 1 + 3 * arcCount b (sideOf other) ≤ length b
+
+-- the arcs of a side as they stand, what they give, and the place after them
+pub record ArcsRead (b : List ℕ) (side : Side) (at : ℕ) (arcs targets : List ℕ) (twice : List Bool) : Type 0 where
+  pub placeIs : at ≡ arcsAt b side + 1 + 3 * arcCount b side
+  pub arcsIs : arcs ≡ arcsOf b side
+  pub targetsIs : targets ≡ targetsOf b side
+  pub twiceIs : twice ≡ twiceTo (placedAt b side) (arcByte b side) (arcCount b side)
 
 -- arcs of bytes below 256 are in the order of their keys
 abbrev pub keyOf : ℕ → ℕ → ℕ → ℕ

@@ -25,18 +25,17 @@ pub record Headed (b : List ℕ) (n places nodes : ℕ) : Type 0 where
   pub nodesFew : nodes ≤ 16
 
 abbrev pub HeadOf : List ℕ → Opening → Type 0
-HeadOf b (Counts n places nodes next) = Headed b n places nodes × (next .at ≡ arcsAt b left)
+HeadOf b (Counts n places nodes first next) = Headed b n places nodes × (first .at ≡ 1) × (next .at ≡ arcsAt b left)
 HeadOf b Shut = inForm b ≡ false
 
 -- the layout is that of the bytes, whose sections end where the bytes end
 pub record LaidOut (b : List ℕ) (l : Layout) : Type 0 where
   pub headed : Headed b (l .n) (l .places) (l .nodes)
-  pub leftsIs : l .lefts ≡ arcsAt b left + 1
   pub lcountIs : l .lcount ≡ arcCount b left
   pub lcountFew : l .lcount ≤ 64
-  pub rightsIs : l .rights ≡ arcsAt b right + 1
   pub rcountIs : l .rcount ≡ arcCount b right
   pub rcountFew : l .rcount ≤ 64
+  pub firstIs : l .first .at ≡ 1
   pub ends : length b ≡ endAt b
 
 abbrev pub FrameOf : List ℕ → Form → Type 0

@@ -1,6 +1,7 @@
 pub mod Place
 pub mod Frame
 pub mod Words
+pub mod Nodes
 pub mod Arcs
 pub mod Targets
 pub mod Reading

@@ -1,16 +1,31 @@
 -- What the cursor's methods answer at a place of the bytes.
 -- Assumes nothing.
 use Prim.Native.Nat.{ℕ, _+_, _*_}
+use mathlib.Core.Path.{_≡_}
 use mathlib.Core.Bool.{Bool, cond}
 use mathlib.Core.List.{List}
 use lib.ListN.{length}
 use lib.Dec.{ltb, leb}
 use Rattle.base.specs.Test.{_and_}
 use Rattle.model.specs.Bytes.{byte}
+use Rattle.scheme.specs.declared.cursor.Taken.{Taken}
+use Rattle.scheme.specs.declared.cursor.Arc.{Arc}
 use Rattle.scheme.specs.declared.cursor.Step.{Step}
 use Rattle.scheme.specs.declared.cursor.Step.the-variants.{Byte, End}
 use Rattle.scheme.specs.declared.cursor.Section.{Section}
 use Rattle.scheme.specs.declared.cursor.Section.the-variants.{Count, Bad}
+
+-- r is the byte of b at a place, and the place after it
+pub record TakenAt (b : List ℕ) (at : ℕ) (r : Taken) : Type 0 where
+  pub valueIs : r .value ≡ byte b at
+  pub nextIs : r .next .at ≡ at + 1
+
+-- r is the three bytes of b from a place on, and the place after them
+pub record ArcAt (b : List ℕ) (at : ℕ) (r : Arc) : Type 0 where
+  pub dimIs : r .dim ≡ byte b at
+  pub nearIs : r .near ≡ byte b (at + 1)
+  pub farIs : r .far ≡ byte b (at + 2)
+  pub nextIs : r .next .at ≡ at + 3
 
 unfoldable pub stepAt : List ℕ → ℕ → Step
 stepAt b at = cond (ltb at (length b)) (Byte (byte b at) (record { at = at + 1 })) End
@@ -25,4 +40,4 @@ fits b at least most size = leb least (byte b at) and leb (byte b at) most and l
 
 unfoldable pub sectionAt : List ℕ → ℕ → ℕ → ℕ → ℕ → Section
 sectionAt b at least most size =
-    cond (fits b at least most size) (Count (byte b at) (at + 1) (record { at = after b at size })) Bad
+    cond (fits b at least most size) (Count (byte b at) (record { at = after b at size })) Bad

@@ -1,4 +1,6 @@
-// The arcs of one side: each is tested and stored as it is read, and becomes the target of its ends where no earlier one is.
+// The arcs of one side: they are stored, and each is tested and becomes the target of its ends where no earlier one is.
+use crate::cursor::Cursor;
+use crate::cursor::Verdict;
 use crate::cursor::wide;
 use crate::frame::Layout;
 ghost use mathlib.Core.Path.{_≡_};
@@ -7,12 +9,11 @@ ghost use Prim.Native.Nat.{_+_, _*_, _≤_, _<_};
 ghost use lib.ListN.{length, replicate};
 ghost use Rattle.base.specs.Filled.{stored};
 ghost use Rattle.base.specs.Lists.{list};
-ghost use Rattle.model.specs.Bytes.{arcByte, arcCount};
-ghost use Rattle.model.specs.Codes.{placedAt, targetsOf};
-ghost use Rattle.model.specs.Scheme.{arcsForm, arcsOf};
+ghost use Rattle.model.specs.Codes.{placedAt};
+ghost use Rattle.model.specs.Scheme.{arcsForm};
 ghost use Rattle.scheme.specs.Words.{sideOf};
-ghost use Rattle.scheme.specs.Arcs.{ArcsPlaced, keyOf, arcTest};
-ghost use Rattle.scheme.specs.Targets.{aimed, crowded, Linked, twiceTo};
+ghost use Rattle.scheme.specs.Arcs.{ArcsPlaced, ArcsRead, keyOf, arcTest};
+ghost use Rattle.scheme.specs.Targets.{aimed, crowded, Linked};
 
 fn number(b: u8) -> u32
     ensures { λ r. ⌜ (r ≡ b) × (r ≤ 255) ⌝ }
@@ -81,73 +82,62 @@ fn link(targets: &mut [u8; 64], twice: &mut [bool; 16], d: u8, s: u8, t: u8)
     }
 }
 
-fn copy(bytes: &[u8], from: usize, size: usize, arcs: &mut [u8; 192])
-    requires { ⌜ (from + size ≤ length (now bytes)) × (size ≤ 192) ⌝ }
-    ensures { λ _. ⌜ now (arcs .exit) ≡ stored (now (arcs .entry)) 0 (now (bytes .entry)) from size ⌝ }
+// The bytes from the cursor on.
+fn copy(bytes: &[u8], from: Cursor, size: usize, arcs: &mut [u8; 192])
+    requires { ⌜ (from .at + size ≤ length (now bytes)) × (size ≤ 192) ⌝ }
+    ensures { λ _. ⌜ now (arcs .exit) ≡ stored (now (arcs .entry)) 0 (now (bytes .entry)) (from .at) size ⌝ }
 {
+    let mut next = from;
     let mut j = 0;
     while j < size {
-        arcs[j] = bytes[from + j];
+        let b = next.take(bytes);
+        next = b.next;
+        arcs[j] = b.value;
         j += 1;
     }
 }
 
-// Arcs ascend strictly, so that it is enough to compare each with the one before it.
-fn read_targets(
-    bytes: &[u8],
-    l: Layout,
-    kinds: &[u8; 16],
-    other: u8,
-    from: usize,
-    count: usize,
-    targets: &mut [u8; 64],
-    twice: &mut [bool; 16],
-) -> bool
-    requires { ⌜ ArcsPlaced (now bytes) l (now kinds) other from count ⌝ }
-    requires { ⌜ (now targets ≡ list 64 (placedAt (now bytes) (sideOf other))) × (now twice ≡ replicate 16 false) ⌝ }
-    ensures { λ r. ⌜ r ≡ arcsForm (now (bytes .entry)) (sideOf other) ⌝ }
-    ensures { λ r. ⌜ (r ≡ true → now (targets .exit) ≡ targetsOf (now (bytes .entry)) (sideOf other)) ⌝ }
-    ensures { λ r. ⌜ (r ≡ true → now (twice .exit) ≡ twiceTo (placedAt (now (bytes .entry)) (sideOf other)) (arcByte (now (bytes .entry)) (sideOf other)) (arcCount (now (bytes .entry)) (sideOf other))) ⌝ }
-{
-    let n = l.n;
-    let nodes = l.nodes;
-    let mut low = 0;
-    let mut a = 0;
-    while a < count {
-        let at = from + 3 * a;
-        let d = bytes[at];
-        let s = bytes[at + 1];
-        let t = bytes[at + 2];
-        if !arc_fits(n, nodes, kinds, other, low, d, s, t) {
-            return false;
-        }
-        low = key(d, s, t) + 1;
-        link(targets, twice, d, s, t);
-        a += 1;
-    }
-    true
-}
-
-// The arcs of the side that has not the nodes of the kind `other`: `count` of them, from `from` on.
+// The arcs of the side that has not the nodes of the kind `other`, from their count on. They ascend strictly, so that it is enough
+// to compare each with the one before it.
 pub(crate) fn read_arcs(
     bytes: &[u8],
     l: Layout,
     kinds: &[u8; 16],
     other: u8,
-    from: usize,
-    count: usize,
+    from: Cursor,
     arcs: &mut [u8; 192],
     targets: &mut [u8; 64],
     twice: &mut [bool; 16],
-) -> bool
-    requires { ⌜ ArcsPlaced (now bytes) l (now kinds) other from count ⌝ }
-    requires { ⌜ now arcs ≡ replicate 192 0 ⌝ }
-    requires { ⌜ (now targets ≡ list 64 (placedAt (now bytes) (sideOf other))) × (now twice ≡ replicate 16 false) ⌝ }
-    ensures { λ r. ⌜ r ≡ arcsForm (now (bytes .entry)) (sideOf other) ⌝ }
-    ensures { λ r. ⌜ now (arcs .exit) ≡ arcsOf (now (bytes .entry)) (sideOf other) ⌝ }
-    ensures { λ r. ⌜ (r ≡ true → now (targets .exit) ≡ targetsOf (now (bytes .entry)) (sideOf other)) ⌝ }
-    ensures { λ r. ⌜ (r ≡ true → now (twice .exit) ≡ twiceTo (placedAt (now (bytes .entry)) (sideOf other)) (arcByte (now (bytes .entry)) (sideOf other)) (arcCount (now (bytes .entry)) (sideOf other))) ⌝ }
+) -> Verdict
+    requires { ⌜ ArcsPlaced (now bytes) l (now kinds) other (from .at) ⌝ }
+    requires { ⌜ (now arcs ≡ replicate 192 0) × (now targets ≡ list 64 (placedAt (now bytes) (sideOf other))) × (now twice ≡ replicate 16 false) ⌝ }
+    ensures { λ r. ⌜ r .ok ≡ arcsForm (now (bytes .entry)) (sideOf other) ⌝ }
+    ensures { λ r. ⌜ (r .ok ≡ true → ArcsRead (now (bytes .entry)) (sideOf other) (r .next .at) (now (arcs .exit)) (now (targets .exit)) (now (twice .exit))) ⌝ }
 {
-    copy(bytes, from, 3 * count, arcs);
-    read_targets(bytes, l, kinds, other, from, count, targets, twice)
+    let head = from.take(bytes);
+    let count = wide(head.value);
+    let mut next = head.next;
+    copy(bytes, next, 3 * count, arcs);
+    let mut low = 0;
+    let mut a = 0;
+    while a < count {
+        let arc = next.arc(bytes);
+        next = arc.next;
+        let d = arc.dim;
+        let s = arc.near;
+        let t = arc.far;
+        if !arc_fits(l.n, l.nodes, kinds, other, low, d, s, t) {
+            return Verdict {
+                ok: false,
+                next: next,
+            };
+        }
+        low = key(d, s, t) + 1;
+        link(targets, twice, d, s, t);
+        a += 1;
+    }
+    Verdict {
+        ok: true,
+        next: next,
+    }
 }

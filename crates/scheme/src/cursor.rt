@@ -1,10 +1,31 @@
-// A place in the bytes, which goes in and comes back by value.
+// A place in the bytes, which goes in and comes back by value. Every byte of a scheme is read by a method of it.
 ghost use mathlib.Core.Path.{_≡_};
-ghost use Prim.Native.Nat.{_≤_};
-ghost use Rattle.scheme.specs.Place.{stepAt, sectionAt};
+ghost use Prim.Native.Nat.{_+_, _≤_, _<_};
+ghost use lib.ListN.{length};
+ghost use Rattle.scheme.specs.Place.{TakenAt, ArcAt, stepAt, sectionAt};
 
 pub struct Cursor {
     pub at: usize,
+}
+
+// A byte that was read, and the place after it.
+pub struct Taken {
+    pub value: u8,
+    pub next: Cursor,
+}
+
+// An arc that was read: its dimension, its smaller and its larger node, and the place after it.
+pub struct Arc {
+    pub dim: u8,
+    pub near: u8,
+    pub far: u8,
+    pub next: Cursor,
+}
+
+// Whether what was read is in the form; if so, `next` is the place after it.
+pub struct Verdict {
+    pub ok: bool,
+    pub next: Cursor,
 }
 
 // What reading a byte finds: the byte and the place after it, or the end of the bytes.
@@ -13,13 +34,9 @@ pub enum Step {
     End,
 }
 
-// What reading a count finds: the count, the place of the section's first item and the place after its last.
+// What reading a count finds: the count, and the place after the section's last item.
 pub enum Section {
-    Count {
-        count: u8,
-        items: usize,
-        next: Cursor,
-    },
+    Count { count: u8, next: Cursor },
     Bad,
 }
 
@@ -30,6 +47,37 @@ pub fn wide(b: u8) -> usize
 }
 
 impl Cursor {
+    // The byte at the cursor, where it is known that the bytes do not end there.
+    pub fn take(self, bytes: &[u8]) -> Taken
+        requires { ⌜ self .at < length (now bytes) ⌝ }
+        ensures { λ r. ⌜ TakenAt (now (bytes .entry)) (self .at) r ⌝ }
+    {
+        let at = self.at;
+        Taken {
+            value: bytes[at],
+            next: Cursor { at: at + 1 },
+        }
+    }
+
+    // The three bytes of an arc.
+    pub fn arc(self, bytes: &[u8]) -> Arc
+        requires { ⌜ self .at + 3 ≤ length (now bytes) ⌝ }
+        ensures { λ r. ⌜ ArcAt (now (bytes .entry)) (self .at) r ⌝ }
+    {
+        let dim = self.take(bytes);
+        let second = dim.next;
+        let near = second.take(bytes);
+        let third = near.next;
+        let far = third.take(bytes);
+        let next = far.next;
+        Arc {
+            dim: dim.value,
+            near: near.value,
+            far: far.value,
+            next: next,
+        }
+    }
+
     pub fn byte(self, bytes: &[u8]) -> Step
         ensures { λ r. ⌜ r ≡ stepAt (now (bytes .entry)) (self .at) ⌝ }
     {
@@ -61,7 +109,6 @@ impl Cursor {
         }
         Section::Count {
             count: count,
-            items: items,
             next: Cursor { at: items + room },
         }
     }

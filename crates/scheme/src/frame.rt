@@ -1,29 +1,29 @@
-// The frame of a scheme's bytes: n and the counts, which settle where each section stands.
+// The frame of a scheme's bytes: n and the counts, which settle that every section lies within the bytes.
 use crate::cursor::Cursor;
 use crate::cursor::Section;
 use crate::cursor::Step;
 ghost use Rattle.scheme.specs.Frame.{HeadOf, FrameOf};
 
-// The dimension, the counts of the orbit type and of the nodes, and the place after the nodes.
+// The dimension, the counts of the orbit type and of the nodes, the place of the first section and the place after the nodes.
 pub enum Opening {
     Counts {
         n: u8,
         places: u8,
         nodes: u8,
+        first: Cursor,
         next: Cursor,
     },
     Broken,
 }
 
-// The dimension and the counts, and the places of the first left arc and of the first right arc.
+// The dimension and the counts, and the place of the first section.
 pub struct Layout {
     pub n: u8,
     pub places: u8,
     pub nodes: u8,
-    pub lefts: usize,
     pub lcount: u8,
-    pub rights: usize,
     pub rcount: u8,
+    pub first: Cursor,
 }
 
 pub enum Form {
@@ -45,7 +45,6 @@ fn head(bytes: &[u8]) -> Opening
     }
     let Section::Count {
         count: places,
-        items: _,
         next: second,
     } = first.count(bytes, 0, n + 1, 1)
     else {
@@ -53,7 +52,6 @@ fn head(bytes: &[u8]) -> Opening
     };
     let Section::Count {
         count: nodes,
-        items: _,
         next: third,
     } = second.count(bytes, 1, 16, 1 + 2 * places)
     else {
@@ -63,6 +61,7 @@ fn head(bytes: &[u8]) -> Opening
         n: n,
         places: places,
         nodes: nodes,
+        first: first,
         next: third,
     }
 }
@@ -75,6 +74,7 @@ pub(crate) fn frame(bytes: &[u8]) -> Form
         n,
         places,
         nodes,
+        first,
         next,
     } = head(bytes)
     else {
@@ -82,7 +82,6 @@ pub(crate) fn frame(bytes: &[u8]) -> Form
     };
     let Section::Count {
         count: lcount,
-        items: lefts,
         next: second,
     } = next.count(bytes, 0, 64, 3)
     else {
@@ -90,7 +89,6 @@ pub(crate) fn frame(bytes: &[u8]) -> Form
     };
     let Section::Count {
         count: rcount,
-        items: rights,
         next: third,
     } = second.count(bytes, 0, 64, 3)
     else {
@@ -103,9 +101,8 @@ pub(crate) fn frame(bytes: &[u8]) -> Form
         n: n,
         places: places,
         nodes: nodes,
-        lefts: lefts,
         lcount: lcount,
-        rights: rights,
         rcount: rcount,
+        first: first,
     })
 }

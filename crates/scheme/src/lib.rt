@@ -5,7 +5,6 @@ mod frame;
 mod nodes;
 
 use arcs::read_arcs;
-use cursor::wide;
 use frame::Form;
 use frame::Layout;
 use frame::frame;
@@ -45,36 +44,24 @@ fn gather(
     let Form::Laid(l) = frame(bytes) else {
         return Form::Broken;
     };
-    if !read_orbit(bytes, l, orbit) {
+    let first = l.first;
+    let dims = read_orbit(bytes, l, first, orbit);
+    if !dims.ok {
         return Form::Broken;
     }
-    if !read_nodes(bytes, l, kinds, lwords, rwords, ltargets, rtargets) {
+    let second = dims.next;
+    let nodes = read_nodes(bytes, l, second, kinds, lwords, rwords, ltargets, rtargets);
+    if !nodes.ok {
         return Form::Broken;
     }
-    if !read_arcs(
-        bytes,
-        l,
-        kinds,
-        3,
-        l.lefts,
-        wide(l.lcount),
-        larcs,
-        ltargets,
-        ltwice,
-    ) {
+    let third = nodes.next;
+    let lefts = read_arcs(bytes, l, kinds, 3, third, larcs, ltargets, ltwice);
+    if !lefts.ok {
         return Form::Broken;
     }
-    if !read_arcs(
-        bytes,
-        l,
-        kinds,
-        1,
-        l.rights,
-        wide(l.rcount),
-        rarcs,
-        rtargets,
-        rtwice,
-    ) {
+    let fourth = lefts.next;
+    let rights = read_arcs(bytes, l, kinds, 1, fourth, rarcs, rtargets, rtwice);
+    if !rights.ok {
         return Form::Broken;
     }
     Form::Laid(l)

@@ -1,4 +1,6 @@
 // The orbit type and the nodes: each is tested and stored as it is read.
+use crate::cursor::Cursor;
+use crate::cursor::Verdict;
 use crate::cursor::wide;
 use crate::frame::Layout;
 ghost use mathlib.Core.Path.{_≡_};
@@ -9,53 +11,76 @@ ghost use lib.ListN.{length, getD, replicate};
 ghost use Rattle.base.specs.Test.{_and_};
 ghost use Rattle.base.specs.Below.{allBelow};
 ghost use Rattle.base.specs.Filled.{filled, stored};
-ghost use Rattle.base.specs.Lists.{list};
-ghost use Rattle.model.specs.Bytes.{nodesOf, nodeAt, kindAt};
-ghost use Rattle.model.specs.Codes.{placed, placedAt};
-ghost use Rattle.model.specs.Scheme.{orbitForm, wordForm, wordEmpty, nodeForm, left, right, schemeOf};
+ghost use Rattle.model.specs.Bytes.{placesOf, nodesOf, kindAt};
+ghost use Rattle.model.specs.Codes.{placed};
+ghost use Rattle.model.specs.Scheme.{orbitForm, wordForm, wordEmpty, nodeForm, schemeOf};
 ghost use Rattle.scheme.specs.Frame.{LaidOut};
+ghost use Rattle.scheme.specs.Nodes.{Passed, Noded};
 ghost use Rattle.scheme.specs.Words.{sideOf, wordPlace, row, emptyAt, fitsAt};
 ghost use Rattle.scheme.specs.Targets.{markable, marked, rowed};
 
-// The orbit type ascends strictly, so that it is enough to compare each dimension with the one before it.
-pub(crate) fn read_orbit(bytes: &[u8], l: Layout, orbit: &mut [u8; 4]) -> bool
+// The orbit type, from its count on. It ascends strictly, so that it is enough to compare each dimension with the one before it.
+pub(crate) fn read_orbit(bytes: &[u8], l: Layout, from: Cursor, orbit: &mut [u8; 4]) -> Verdict
     requires { ⌜ LaidOut (now bytes) l ⌝ }
-    requires { ⌜ now orbit ≡ replicate 4 0 ⌝ }
-    ensures { λ r. ⌜ r ≡ orbitForm (now (bytes .entry)) ⌝ }
-    ensures { λ r. ⌜ (r ≡ true → now (orbit .exit) ≡ schemeOf (now (bytes .entry)) .orbit) ⌝ }
+    requires { ⌜ (from .at ≡ 1) × (now orbit ≡ replicate 4 0) ⌝ }
+    ensures { λ r. ⌜ r .ok ≡ orbitForm (now (bytes .entry)) ⌝ }
+    ensures { λ r. ⌜ (r .ok ≡ true → (now (orbit .exit) ≡ schemeOf (now (bytes .entry)) .orbit) × (r .next .at ≡ 2 + placesOf (now (bytes .entry)))) ⌝ }
 {
     let n = l.n;
-    let places = wide(l.places);
+    let count = from.take(bytes);
+    let places = wide(count.value);
+    let mut next = count.next;
     let mut low = 0;
     let mut p = 0;
     while p < places {
-        let d = bytes[2 + p];
+        let dim = next.take(bytes);
+        next = dim.next;
+        let d = dim.value;
         if d < low {
-            return false;
+            return Verdict {
+                ok: false,
+                next: next,
+            };
         }
         if n < d {
-            return false;
+            return Verdict {
+                ok: false,
+                next: next,
+            };
         }
         orbit[p] = d;
         low = d + 1;
         p += 1;
     }
-    true
+    Verdict {
+        ok: true,
+        next: next,
+    }
 }
 
-// Every byte of the word at `at` is 255.
-fn empty(bytes: &[u8], at: usize, places: usize) -> bool
-    requires { ⌜ at + places ≤ length (now bytes) ⌝ }
-    ensures { λ r. ⌜ r ≡ allBelow places (emptyAt (now (bytes .entry)) at) ⌝ }
+// Every byte of the word at the cursor is 255.
+fn empty(bytes: &[u8], from: Cursor, places: usize) -> Verdict
+    requires { ⌜ from .at + places ≤ length (now bytes) ⌝ }
+    ensures { λ r. ⌜ r .ok ≡ allBelow places (emptyAt (now (bytes .entry)) (from .at)) ⌝ }
+    ensures { λ r. ⌜ (r .ok ≡ true → r .next .at ≡ from .at + places) ⌝ }
 {
+    let mut next = from;
     let mut p = 0;
     while p < places {
-        if bytes[at + p] != 255 {
-            return false;
+        let d = next.take(bytes);
+        next = d.next;
+        if d.value != 255 {
+            return Verdict {
+                ok: false,
+                next: next,
+            };
         }
         p += 1;
     }
-    true
+    Verdict {
+        ok: true,
+        next: next,
+    }
 }
 
 // d is 255, or a dimension that the row at `base` has not yet and now has at position p.
@@ -78,135 +103,148 @@ fn mark(targets: &mut [u8; 64], base: usize, n: u8, d: u8, p: usize) -> bool
     true
 }
 
+// The word at the cursor, into the rows at `base`.
 fn read_word(
     bytes: &[u8],
     n: u8,
     places: usize,
-    at: usize,
+    from: Cursor,
     words: &mut [u8; 64],
     targets: &mut [u8; 64],
     base: usize,
-) -> bool
-    requires { ⌜ (n ≤ 3) × (at + places ≤ length (now bytes)) × (places ≤ 4) × (base + 4 ≤ 64) ⌝ }
+) -> Verdict
+    requires { ⌜ (n ≤ 3) × (from .at + places ≤ length (now bytes)) × (places ≤ 4) × (base + 4 ≤ 64) ⌝ }
     requires { ⌜ (length (now targets) ≡ 64) × ((i : ℕ) → i < 4 → getD (now targets) (base + i) 0 ≡ 255) ⌝ }
-    ensures { λ r. ⌜ r ≡ allBelow places (fitsAt (now (bytes .entry)) n at) ⌝ }
-    ensures { λ r. ⌜ (r ≡ true → now (words .exit) ≡ stored (now (words .entry)) base (now (bytes .entry)) at places) ⌝ }
-    ensures { λ r. ⌜ (r ≡ true → now (targets .exit) ≡ rowed (now (targets .entry)) base (now (bytes .entry)) at places) ⌝ }
+    ensures { λ r. ⌜ r .ok ≡ allBelow places (fitsAt (now (bytes .entry)) n (from .at)) ⌝ }
+    ensures { λ r. ⌜ (r .ok ≡ true → r .next .at ≡ from .at + places) ⌝ }
+    ensures { λ r. ⌜ (r .ok ≡ true → now (words .exit) ≡ stored (now (words .entry)) base (now (bytes .entry)) (from .at) places) ⌝ }
+    ensures { λ r. ⌜ (r .ok ≡ true → now (targets .exit) ≡ rowed (now (targets .entry)) base (now (bytes .entry)) (from .at) places) ⌝ }
 {
+    let mut next = from;
     let mut p = 0;
     while p < places {
-        let d = bytes[at + p];
-        if !mark(targets, base, n, d, p) {
-            return false;
+        let d = next.take(bytes);
+        next = d.next;
+        if !mark(targets, base, n, d.value, p) {
+            return Verdict {
+                ok: false,
+                next: next,
+            };
         }
-        words[base + p] = d;
+        words[base + p] = d.value;
         p += 1;
     }
-    true
+    Verdict {
+        ok: true,
+        next: next,
+    }
 }
 
-// One word of node s, on the side that has not the kind `other`.
+// The word of node s at the cursor, on the side that has not the kind `other`.
 fn read_side(
     bytes: &[u8],
     l: Layout,
     s: usize,
     kind: u8,
     other: u8,
-    at: usize,
+    from: Cursor,
     words: &mut [u8; 64],
     targets: &mut [u8; 64],
-) -> bool
+) -> Verdict
     requires { ⌜ LaidOut (now bytes) l ⌝ }
     requires { ⌜ (s < nodesOf (now bytes)) × (kind ≡ kindAt (now bytes) s) × (1 ≤ kind) × (kind ≤ 3) ⌝ }
-    requires { ⌜ ((other ≡ 3) ⊎ (other ≡ 1)) × (at ≡ wordPlace (now bytes) (sideOf other) s) ⌝ }
+    requires { ⌜ ((other ≡ 3) ⊎ (other ≡ 1)) × (from .at ≡ wordPlace (now bytes) (sideOf other) s) ⌝ }
     requires { ⌜ now words ≡ filled 64 (4 * s) (row (now bytes) (sideOf other)) 255 ⌝ }
     requires { ⌜ now targets ≡ filled 64 (4 * s) (placed (now bytes) (sideOf other)) 255 ⌝ }
-    ensures { λ r. ⌜ r ≡ (wordForm (now (bytes .entry)) (sideOf other) s and wordEmpty (now (bytes .entry)) (sideOf other) s) ⌝ }
-    ensures { λ r. ⌜ (r ≡ true → now (words .exit) ≡ filled 64 (4 * (s + 1)) (row (now (bytes .entry)) (sideOf other)) 255) ⌝ }
-    ensures { λ r. ⌜ (r ≡ true → now (targets .exit) ≡ filled 64 (4 * (s + 1)) (placed (now (bytes .entry)) (sideOf other)) 255) ⌝ }
+    ensures { λ r. ⌜ r .ok ≡ (wordForm (now (bytes .entry)) (sideOf other) s and wordEmpty (now (bytes .entry)) (sideOf other) s) ⌝ }
+    ensures { λ r. ⌜ (r .ok ≡ true → r .next .at ≡ from .at + placesOf (now (bytes .entry))) ⌝ }
+    ensures { λ r. ⌜ (r .ok ≡ true → now (words .exit) ≡ filled 64 (4 * (s + 1)) (row (now (bytes .entry)) (sideOf other)) 255) ⌝ }
+    ensures { λ r. ⌜ (r .ok ≡ true → now (targets .exit) ≡ filled 64 (4 * (s + 1)) (placed (now (bytes .entry)) (sideOf other)) 255) ⌝ }
 {
     let places = wide(l.places);
     if kind == other {
-        return empty(bytes, at, places);
+        return empty(bytes, from, places);
     }
-    read_word(bytes, l.n, places, at, words, targets, 4 * s)
+    read_word(bytes, l.n, places, from, words, targets, 4 * s)
 }
 
-// The kind and both words of node s, which stands at `at`.
+// Node s, whose kind is at the cursor, with both words.
 fn read_node(
     bytes: &[u8],
     l: Layout,
     s: usize,
-    at: usize,
-    lwords: &mut [u8; 64],
-    rwords: &mut [u8; 64],
-    ltargets: &mut [u8; 64],
-    rtargets: &mut [u8; 64],
-) -> bool
-    requires { ⌜ LaidOut (now bytes) l ⌝ }
-    requires { ⌜ (s < nodesOf (now bytes)) × (at ≡ nodeAt (now bytes) s) ⌝ }
-    requires { ⌜ now lwords ≡ filled 64 (4 * s) (row (now bytes) left) 255 ⌝ }
-    requires { ⌜ now rwords ≡ filled 64 (4 * s) (row (now bytes) right) 255 ⌝ }
-    requires { ⌜ now ltargets ≡ filled 64 (4 * s) (placed (now bytes) left) 255 ⌝ }
-    requires { ⌜ now rtargets ≡ filled 64 (4 * s) (placed (now bytes) right) 255 ⌝ }
-    ensures { λ r. ⌜ r ≡ nodeForm (now (bytes .entry)) s ⌝ }
-    ensures { λ r. ⌜ (r ≡ true → now (lwords .exit) ≡ filled 64 (4 * (s + 1)) (row (now (bytes .entry)) left) 255) ⌝ }
-    ensures { λ r. ⌜ (r ≡ true → now (rwords .exit) ≡ filled 64 (4 * (s + 1)) (row (now (bytes .entry)) right) 255) ⌝ }
-    ensures { λ r. ⌜ (r ≡ true → now (ltargets .exit) ≡ filled 64 (4 * (s + 1)) (placed (now (bytes .entry)) left) 255) ⌝ }
-    ensures { λ r. ⌜ (r ≡ true → now (rtargets .exit) ≡ filled 64 (4 * (s + 1)) (placed (now (bytes .entry)) right) 255) ⌝ }
-{
-    let kind = bytes[at];
-    if kind < 1 {
-        return false;
-    }
-    if 3 < kind {
-        return false;
-    }
-    if !read_side(bytes, l, s, kind, 3, at + 1, lwords, ltargets) {
-        return false;
-    }
-    read_side(
-        bytes,
-        l,
-        s,
-        kind,
-        1,
-        at + 1 + wide(l.places),
-        rwords,
-        rtargets,
-    )
-}
-
-pub(crate) fn read_nodes(
-    bytes: &[u8],
-    l: Layout,
+    from: Cursor,
     kinds: &mut [u8; 16],
     lwords: &mut [u8; 64],
     rwords: &mut [u8; 64],
     ltargets: &mut [u8; 64],
     rtargets: &mut [u8; 64],
-) -> bool
+) -> Verdict
     requires { ⌜ LaidOut (now bytes) l ⌝ }
+    requires { ⌜ s < nodesOf (now bytes) ⌝ }
+    requires { ⌜ Passed (now bytes) s (from .at) (now kinds) (now lwords) (now rwords) (now ltargets) (now rtargets) ⌝ }
+    ensures { λ r. ⌜ r .ok ≡ nodeForm (now (bytes .entry)) s ⌝ }
+    ensures { λ r. ⌜ (r .ok ≡ true → Passed (now (bytes .entry)) (s + 1) (r .next .at) (now (kinds .exit)) (now (lwords .exit)) (now (rwords .exit)) (now (ltargets .exit)) (now (rtargets .exit))) ⌝ }
+{
+    let head = from.take(bytes);
+    let kind = head.value;
+    let next = head.next;
+    if kind < 1 {
+        return Verdict {
+            ok: false,
+            next: next,
+        };
+    }
+    if 3 < kind {
+        return Verdict {
+            ok: false,
+            next: next,
+        };
+    }
+    kinds[s] = kind;
+    let word = read_side(bytes, l, s, kind, 3, next, lwords, ltargets);
+    if !word.ok {
+        return word;
+    }
+    let second = word.next;
+    read_side(bytes, l, s, kind, 1, second, rwords, rtargets)
+}
+
+// The nodes, from their count on.
+pub(crate) fn read_nodes(
+    bytes: &[u8],
+    l: Layout,
+    from: Cursor,
+    kinds: &mut [u8; 16],
+    lwords: &mut [u8; 64],
+    rwords: &mut [u8; 64],
+    ltargets: &mut [u8; 64],
+    rtargets: &mut [u8; 64],
+) -> Verdict
+    requires { ⌜ LaidOut (now bytes) l ⌝ }
+    requires { ⌜ from .at ≡ 2 + placesOf (now bytes) ⌝ }
     requires { ⌜ (now kinds ≡ replicate 16 0) × (now lwords ≡ replicate 64 255) × (now rwords ≡ replicate 64 255) ⌝ }
     requires { ⌜ (now ltargets ≡ replicate 64 255) × (now rtargets ≡ replicate 64 255) ⌝ }
-    ensures { λ r. ⌜ r ≡ allBelow (nodesOf (now (bytes .entry))) (nodeForm (now (bytes .entry))) ⌝ }
-    ensures { λ r. ⌜ (r ≡ true → now (kinds .exit) ≡ schemeOf (now (bytes .entry)) .kinds) ⌝ }
-    ensures { λ r. ⌜ (r ≡ true → now (lwords .exit) ≡ schemeOf (now (bytes .entry)) .lwords) ⌝ }
-    ensures { λ r. ⌜ (r ≡ true → now (rwords .exit) ≡ schemeOf (now (bytes .entry)) .rwords) ⌝ }
-    ensures { λ r. ⌜ (r ≡ true → now (ltargets .exit) ≡ list 64 (placedAt (now (bytes .entry)) left)) ⌝ }
-    ensures { λ r. ⌜ (r ≡ true → now (rtargets .exit) ≡ list 64 (placedAt (now (bytes .entry)) right)) ⌝ }
+    ensures { λ r. ⌜ r .ok ≡ allBelow (nodesOf (now (bytes .entry))) (nodeForm (now (bytes .entry))) ⌝ }
+    ensures { λ r. ⌜ (r .ok ≡ true → Noded (now (bytes .entry)) (r .next .at) (now (kinds .exit)) (now (lwords .exit)) (now (rwords .exit)) (now (ltargets .exit)) (now (rtargets .exit))) ⌝ }
 {
-    let places = wide(l.places);
-    let nodes = wide(l.nodes);
-    let mut at = 3 + places;
+    let count = from.take(bytes);
+    let nodes = wide(count.value);
+    let mut next = count.next;
     let mut s = 0;
     while s < nodes {
-        if !read_node(bytes, l, s, at, lwords, rwords, ltargets, rtargets) {
-            return false;
+        let node = read_node(bytes, l, s, next, kinds, lwords, rwords, ltargets, rtargets);
+        next = node.next;
+        if !node.ok {
+            return Verdict {
+                ok: false,
+                next: next,
+            };
         }
-        kinds[s] = bytes[at];
-        at += 1 + 2 * places;
         s += 1;
     }
-    true
+    Verdict {
+        ok: true,
+        next: next,
+    }
 }

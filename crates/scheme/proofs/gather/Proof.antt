@@ -17,19 +17,22 @@ use Rattle.scheme.proofs.gather.Tie as tie
 
 -- the places past each section
 abbrev told : tie.Else1 → tie.After-known-told
-told c = c .before .before .before
+told c = c .before .before .before .before .before
 
 abbrev past-orbit : tie.Else2 → tie.Else1
-past-orbit c = c .before .before .before .before .before .before .before
+past-orbit c = c .before .before .before .before .before .before .before .before .before
 
 abbrev past-nodes : tie.Else3 → tie.Else2
-past-nodes c = c .before .before .before .before .before .before .before
+past-nodes c = c .before .before .before .before .before .before .before .before
+
+abbrev past-lefts : tie.Else4 → tie.Else3
+past-lefts c = c .before .before .before .before .before .before .before .before
 
 laid : (c : tie.After-known-told) → LaidOut (now (c .before .before .before .before .before .args .bytes)) (c .before .l .given .0 .0)
 laid c = rw (c .before .l .given .1) at (c .before .before .before .frame .ensures)
 
 nodes : (c : tie.Else2) → let b = now (told (past-orbit c) .before .before .before .before .before .args .bytes) in allBelow (nodesOf b) (nodeForm b) ≡ true
-nodes c = sym (c .before .read-nodes .ensures .0) ∙ not-false _ (c .if2 .left)
+nodes c = sym (c .before .before .read-nodes .ensures .0) ∙ not-false _ (c .if2 .left)
 
 frame-requires : tie.Need-frame-requires
 frame-requires c κs = search needs
@@ -45,23 +48,24 @@ returns c = rw (c .enum-told .given .1) at (c .before .before .frame .ensures)
 
 read-orbit-requires : tie.Need-read-orbit-requires
 unfolding blank
-read-orbit-requires c κs = (laid (c .before), c .before .before .before .before .before .before .pre .orbitIs)
+read-orbit-requires c κs =
+    let k = c .before .before in
+    (laid k, (laid k .firstIs, k .before .before .before .before .before .pre .orbitIs))
 
 returns-2 : tie.Need-returns-2
-returns-2 c = no-orbit _ (sym (c .before .read-orbit .ensures .0) ∙ not-true _ (c .if1 .taken))
+returns-2 c = no-orbit _ (sym (c .before .before .read-orbit .ensures .0) ∙ not-true _ (c .if1 .taken))
 
 read-nodes-requires : tie.Need-read-nodes-requires
 unfolding blank
 read-nodes-requires c κs =
-    let k = told (c .before .before .before .before .before) in
+    let o = c .before .before .before .before .before .before in
+    let k = told o in
     let p = k .before .before .before .before .before .pre in
-    (laid k, ((p .kindsIs, p .lwordsIs, p .rwordsIs), (p .ltargetsIs, p .rtargetsIs)))
+    let orbit-read = o .before .before .read-orbit .ensures .1 (not-false _ (o .if1 .left)) in
+    (laid k, (orbit-read .1, ((p .kindsIs, p .lwordsIs, p .rwordsIs), (p .ltargetsIs, p .rtargetsIs))))
 
 returns-3 : tie.Need-returns-3
-returns-3 c = no-nodes _ (sym (c .before .read-nodes .ensures .0) ∙ not-true _ (c .if2 .taken))
-
-wide-requires : tie.Need-wide-requires
-wide-requires c κs = search needs
+returns-3 c = no-nodes _ (sym (c .before .before .read-nodes .ensures .0) ∙ not-true _ (c .if2 .taken))
 
 read-arcs-requires : tie.Need-read-arcs-requires
 unfolding blank
@@ -69,50 +73,50 @@ read-arcs-requires c κs =
     let e = c .before .before .before .before .before in
     let k = told (past-orbit e) in
     let p = k .before .before .before .before .before .pre in
-    let l = laid k in (
-      placed-side _ _ l (nodes e) (e .before .read-nodes .ensures .1 .0 (not-false _ (e .if2 .left))) _ (inl refl) (l .leftsIs) (c .before .before .before .wide .ensures .0 ∙ l .lcountIs),
-      (p .larcsIs, (e .before .read-nodes .ensures .1 .1 .1 .1 .0 (not-false _ (e .if2 .left)), p .ltwiceIs ∙ blank-twice left)),
+    let nodes-read = e .before .before .read-nodes .ensures .1 (not-false _ (e .if2 .left)) in (
+      placed-side _ _ (laid k) (nodes e) (nodes-read .kindsIs) _ (inl refl) (nodes-read .placeIs),
+      (p .larcsIs, nodes-read .ltargetsIs, p .ltwiceIs ∙ blank-twice left),
     )
 
 returns-4 : tie.Need-returns-4
-returns-4 c = no-arcs _ left (sym (c .before .read-arcs .ensures .0) ∙ not-true _ (c .if3 .taken))
-
-wide-requires-2 : tie.Need-wide-requires-2
-wide-requires-2 c κs = search needs
+returns-4 c = no-arcs _ left (sym (c .before .before .read-arcs .ensures .0) ∙ not-true _ (c .if3 .taken))
 
 read-arcs-requires-2 : tie.Need-read-arcs-requires-2
 unfolding blank
 read-arcs-requires-2 c κs =
-    let e = past-nodes (c .before .before .before .before .before) in
+    let f = c .before .before .before .before .before in
+    let e = past-nodes f in
     let k = told (past-orbit e) in
     let p = k .before .before .before .before .before .pre in
-    let l = laid k in (
-      placed-side _ _ l (nodes e) (e .before .read-nodes .ensures .1 .0 (not-false _ (e .if2 .left))) _ (inr refl) (l .rightsIs) (c .before .before .before .wide2 .ensures .0 ∙ l .rcountIs),
-      (p .rarcsIs, (e .before .read-nodes .ensures .1 .1 .1 .1 .1 (not-false _ (e .if2 .left)), p .rtwiceIs ∙ blank-twice right)),
+    let nodes-read = e .before .before .read-nodes .ensures .1 (not-false _ (e .if2 .left)) in
+    let left-read = f .before .before .read-arcs .ensures .1 (not-false _ (f .if3 .left)) in (
+      placed-side _ _ (laid k) (nodes e) (nodes-read .kindsIs) _ (inr refl) (left-read .placeIs),
+      (p .rarcsIs, nodes-read .rtargetsIs, p .rtwiceIs ∙ blank-twice right),
     )
 
 returns-5 : tie.Need-returns-5
-returns-5 c = no-arcs _ right (sym (c .before .read-arcs2 .ensures .0) ∙ not-true _ (c .if4 .taken))
+returns-5 c = no-arcs _ right (sym (c .before .before .read-arcs2 .ensures .0) ∙ not-true _ (c .if4 .taken))
 
 returns-6 : tie.Need-returns-6
 returns-6 c =
-    let lefts = c .before .before .before .before .before .before .before in
-    let e = past-nodes lefts in
+    let f = past-lefts c in
+    let e = past-nodes f in
     let o = past-orbit e in
     let k = told o in
     let orbit-held = not-false _ (o .if1 .left) in
-    let nodes-held = not-false _ (e .if2 .left) in
-    let left-held = not-false _ (lefts .if3 .left) in
+    let left-held = not-false _ (f .if3 .left) in
     let right-held = not-false _ (c .if4 .left) in
-    let orbit-read = o .before .read-orbit .ensures in
-    let nodes-read = e .before .read-nodes .ensures in
-    let left-read = lefts .before .read-arcs .ensures in
-    let right-read = c .before .read-arcs2 .ensures in
+    let orbit-read = o .before .before .read-orbit .ensures in
+    let left-read = f .before .before .read-arcs .ensures in
+    let right-read = c .before .before .read-arcs2 .ensures in
+    let n = e .before .before .read-nodes .ensures .1 (not-false _ (e .if2 .left)) in
+    let l = left-read .1 left-held in
+    let r = right-read .1 right-held in
     let form = all-formed _ _ (laid k) (nodes e) (sym (orbit-read .0) ∙ orbit-held) (sym (left-read .0) ∙ left-held) (sym (right-read .0) ∙ right-held) in (
       form,
       counts _ _ (laid k) (nodes e),
-      holds _ form (orbit-read .1 orbit-held) (nodes-read .1 .0 nodes-held) (nodes-read .1 .1 .0 nodes-held) (nodes-read .1 .1 .1 .0 nodes-held)
-          (left-read .1 .0) (left-read .1 .1 .0 left-held) (left-read .1 .1 .1 left-held) (right-read .1 .0) (right-read .1 .1 .0 right-held) (right-read .1 .1 .1 right-held),
+      holds _ form (orbit-read .1 orbit-held .0) (n .kindsIs) (n .lwordsIs) (n .rwordsIs)
+          (l .arcsIs) (l .targetsIs) (l .twiceIs) (r .arcsIs) (r .targetsIs) (r .twiceIs),
     )
 
 pub gather-spec : {M : Type 1} → statement M
@@ -127,10 +131,8 @@ gather-spec =
     returns-2
     read-nodes-requires
     returns-3
-    wide-requires
     read-arcs-requires
     returns-4
-    wide-requires-2
     read-arcs-requires-2
     returns-5
     returns-6)

@@ -27,12 +27,12 @@ bytes-of c = now (before-places c .before .before .before .before .before .args 
 
 -- what the count of places is, and where the count of nodes stands
 places-told : (c : tie.After-known-told2) → let b = bytes-of c in let g = c .before .places .given .0 in
-    (g .0 ≡ placesOf b) × (g .1 .1 .0 .at ≡ 2 + placesOf b) × Fitted b 1 0 (byte b 0 + 1) 1
+    (g .0 ≡ placesOf b) × (g .1 .0 .at ≡ 2 + placesOf b) × Fitted b 1 0 (byte b 0 + 1) 1
 unfolding after
 places-told c =
     let t = took (before-places c) in
     let s = counted _ 1 0 _ 1 (t .2) (ap (λ (n : ℕ). n + 1) (t .1)) refl (c .before .before .before .count .ensures) (c .before .places .given .1) in
-    (s .0, omega arith, s .3)
+    (s .0, omega arith, s .2)
 
 byte-requires : tie.Need-byte-requires
 byte-requires c κs = search needs
@@ -83,15 +83,15 @@ enum-told-3 : tie.Need-enum-told-3
 enum-told-3 c = search needs
 
 returns-5 : tie.Need-returns-5
-returns-5 c = let p = places-told (c .before .before .before) in no-nodes _ (uncounted _ _ 1 16 _ (p .1) refl (ap (λ (n : ℕ). 1 + 2 * n) (p .0)) (c .before .before .count2 .ensures) (c .enum-told3 .given .1))
+returns-5 c = let p = places-told (c .before .before .before) in no-nodes _ (uncounted _ _ 1 _ _ (p .1) refl (ap (λ (n : ℕ). 1 + 2 * n) (p .0)) (c .before .before .count2 .ensures) (c .enum-told3 .given .1)) (omega arith)
 
 returns-6 : tie.Need-returns-6
 unfolding after
 returns-6 c =
     let p = places-told (c .before .before .before .before) in
     let t = took (before-places (c .before .before .before .before)) in
-    let s = counted _ _ 1 16 _ (p .1) refl (ap (λ (n : ℕ). 1 + 2 * n) (p .0)) (c .before .before .before .count2 .ensures) (c .before .nodes .given .1) in
-    let f = s .3 in
+    let s = counted _ _ 1 _ _ (p .1) refl (ap (λ (n : ℕ). 1 + 2 * n) (p .0)) (c .before .before .before .count2 .ensures) (c .before .nodes .given .1) in
+    let f = s .2 in
     let g = p .2 in (
       record {
         nIs = t .1;
@@ -102,6 +102,7 @@ returns-6 c =
         nodesSome = omega arith;
         nodesFew = omega arith;
       },
+      t .2,
       omega arith,
     )
 

@@ -1,99 +1,93 @@
 -- `scheme::nodes::read_node` meets its contract.
 -- Assumes nothing.
-use Prim.Native.Nat.{ℕ, _+_, _*_, _≤_}
-use mathlib.Core.Path.{_≡_, refl, sym, ap, ap₂, _∙_}
+use Prim.Native.Nat.{_+_, _≤_}
+use mathlib.Core.Path.{_≡_, refl, sym, ap, _∙_}
 use mathlib.Core.Logic.{inl, inr}
-use mathlib.Core.Bool.{true, false, true≢false}
+use mathlib.Core.Bool.{true≢false}
 use native.Mathlib.Omega.{arith}
 use borrow.Author.Tests.{not-true, not-false}
 use denote.Ref.{now}
-use lib.ListN.{length}
 use borrow.Author.Needs.{needs}
-use Rattle.model.specs.Bytes.{byte, placesOf, kindAt}
+use Rattle.model.specs.Bytes.{byte, nodeAt, kindAt}
 use Rattle.scheme.proofs.FrameLaws.{node-inside}
-use Rattle.scheme.proofs.NodeLaws.{node-low, node-high, node-left, node-right}
+use Rattle.scheme.proofs.NodeLaws.{node-low, node-high, node-left, node-right, passed-more}
 use Rattle.scheme.proofs.nodes.read_node.Statement.{statement}
 use Rattle.scheme.proofs.nodes.read_node.Tie as tie
 
-inside : (c : tie.Start) → c .args .at + 1 + 2 * placesOf (now (c .args .bytes)) ≤ length (now (c .args .bytes))
-inside c = let p = c .pre in omega (arith, node-inside _ _ (p .0) _ (p .1 .0 .0))
+-- the kind that was taken, and the place after it
+took : (c : tie.After-take) → let a = c .before .before .args in
+    (c .take .result .value ≡ kindAt (now (a .bytes)) (a .s)) × (c .take .result .next .at ≡ nodeAt (now (a .bytes)) (a .s) + 1)
+took c =
+    let s = c .before .before in
+    let p = s .pre .1 .1 .placeIs in
+    (c .take .ensures .valueIs ∙ ap (byte (now (s .args .bytes))) p, omega (arith, c .take .ensures .nextIs, p))
 
--- a refusal promises nothing of the arrays
-refused : {A B C D : Type 0} → (false ≡ true → A) × ((false ≡ true → B) × ((false ≡ true → C) × (false ≡ true → D)))
-refused = ((λ e. absurd (true≢false (sym e))), ((λ e. absurd (true≢false (sym e))), ((λ e. absurd (true≢false (sym e))), (λ e. absurd (true≢false (sym e))))))
+-- the kind is one of the three
+kind-in : (c : tie.Else2) → let a = c .before .before .before .before .before .args in (1 ≤ kindAt (now (a .bytes)) (a .s)) × (kindAt (now (a .bytes)) (a .s) ≤ 3)
+kind-in c = let k = took (c .before .before .before) in (omega arith, omega arith)
 
--- the kind that was read
-kind-is : (c : tie.Else2) → let a = c .before .before .before .before .args in
-    (byte (now (a .bytes)) (a .at) ≡ kindAt (now (a .bytes)) (a .s)) × (1 ≤ byte (now (a .bytes)) (a .at)) × (byte (now (a .bytes)) (a .at) ≤ 3)
-kind-is c = (ap (byte (now (c .before .before .before .before .args .bytes))) (c .before .before .before .before .pre .1 .0 .1), omega arith, omega arith)
-
-shared-slice-read-kind : tie.Need-shared-slice-read-kind
-shared-slice-read-kind c = let h = inside (c .before .before) in omega arith
+take-requires : tie.Need-take-requires
+take-requires c κs = let p = c .before .pre in omega (arith, node-inside _ _ (p .0) _ (p .1 .0), p .1 .1 .placeIs)
 
 returns : tie.Need-returns
-returns c =
-    let p = c .before .before .before .pre in
-    (node-low _ _ (rw (p .1 .0 .1) at (c .if1 .taken)), refused)
+returns c = (node-low _ _ (rw (took (c .before .before) .0) at (c .if1 .taken)), λ e. absurd (true≢false (sym e)))
 
 returns-2 : tie.Need-returns-2
-returns-2 c =
-    let p = c .before .before .before .before .pre in
-    (node-high _ _ (rw (p .1 .0 .1) at (c .if2 .taken)), refused)
+returns-2 c = (node-high _ _ (rw (took (c .before .before .before) .0) at (c .if2 .taken)), λ e. absurd (true≢false (sym e)))
 
-add-read-side : tie.Need-add-read-side
-add-read-side c = let h = inside (c .before .before .before .before) in omega arith
+element-write-kinds : tie.Need-element-write-kinds
+element-write-kinds c = search needs
 
 read-side-requires : tie.Need-read-side-requires
 read-side-requires c κs =
-    let p = c .before .before .before .before .before .before .pre in
-    let k = kind-is (c .before .before) in
-    (p .0, ((p .1 .0 .0, k .0, k .1, k .2), ((inl refl, ap (λ (x : ℕ). x + 1) (p .1 .0 .1)), (p .1 .1 .0, p .1 .1 .1 .1 .0))))
+    let t = c .before .before .before .before .before in
+    let p = t .before .before .pre in
+    let i = p .1 .1 in
+    let k = took t in
+    (p .0, ((p .1 .0, k .0, omega arith, omega arith), ((inl refl, k .1), (i .lwordsIs, i .ltargetsIs))))
 
 returns-3 : tie.Need-returns-3
 returns-3 c =
-    (node-left _ _ (sym (c .before .read-side .ensures .0) ∙ not-true _ (c .if3 .taken)), refused)
-
-add-read-side-2 : tie.Need-add-read-side-2
-add-read-side-2 c = let h = inside (c .before .before .before .before .before .before .before .before) in omega arith
-
-places-is : (c : tie.After-wide) → c .wide .result ≡ placesOf (now (c .before .before .before .before .before .before .before .before .before .args .bytes))
-places-is c = c .wide .ensures .0 ∙ c .before .before .before .before .before .before .before .before .before .pre .0 .headed .placesIs
-
-wide-requires : tie.Need-wide-requires
-wide-requires c κs = search needs
-
-add-read-side-3 : tie.Need-add-read-side-3
-add-read-side-3 c = let h = inside (c .before .before .before .before .before .before .before .before .before) in let e = places-is c in omega arith
+    let off = not-true _ (c .if3 .taken) in
+    (off ∙ node-left _ _ (sym (c .before .before .read-side .ensures .0) ∙ off), λ e. absurd (true≢false (sym e ∙ off)))
 
 read-side-requires-2 : tie.Need-read-side-requires-2
 read-side-requires-2 c κs =
-    let p = c .before .before .before .before .before .before .before .before .before .before .before .pre in
-    let k = kind-is (c .before .before .before .before .before .before .before) in
-    let e = places-is (c .before .before) in
-    (p .0, ((p .1 .0 .0, k .0, k .1, k .2), ((inr refl, ap₂ (λ (x y : ℕ). x + 1 + y) (p .1 .0 .1) e), (p .1 .1 .1 .0, p .1 .1 .1 .1 .1))))
+    let o = c .before .before .before in
+    let r = o .before .before in
+    let t = r .before .before .before .before .before .before in
+    let p = t .before .before .pre in
+    let i = p .1 .1 in
+    let k = took t in
+    (p .0, ((p .1 .0, k .0, omega arith, omega arith), ((inr refl, omega (arith, k .1, r .read-side .ensures .1 .0 (not-false _ (o .if3 .left)))), (i .rwordsIs, i .rtargetsIs))))
 
 returns-4 : tie.Need-returns-4
 returns-4 c =
-    let k = kind-is (c .before .before .before .before .before .before .before .before) in
-    let l = not-false _ (c .before .before .before .before .if3 .left) in
-    let r = c .before .before .before .before .before .read-side .ensures in
-    let q = c .read-side2 .ensures in (
-      node-right _ _ (rw (k .0) at (k .1)) (rw (k .0) at (k .2)) (sym (r .0) ∙ l) (q .0),
-      ((λ e. r .1 .0 l), ((λ e. q .1 .0 e), ((λ e. r .1 .1 l), (λ e. q .1 .1 e)))),
+    let o = c .before .before .before .before in
+    let r = o .before .before in
+    let i = r .before .before .before in
+    let t = i .before .before .before in
+    let p = t .before .before .pre in
+    let k = took t in
+    let on = not-false _ (o .if3 .left) in
+    let l = r .read-side .ensures in
+    let q = c .read-side2 .ensures in
+    let h = p .0 .headed in
+    let form = node-right _ _ (kind-in i .0) (kind-in i .1) (sym (l .0) ∙ on) (q .0) in (
+      form,
+      λ e. passed-more _ (p .1 .1) (omega arith) (sym form ∙ e) (omega (arith, p .1 .1 .placeIs, k .1, l .1 .0 on, q .1 .0 e)) (k .0)
+          (l .1 .1 .0 on) (q .1 .1 .0 e) (l .1 .1 .1 on) (q .1 .1 .1 e),
     )
 
 pub read-node-spec : {M : Type 1} → statement M
 read-node-spec =
     tie.close
     (tie.spec
-    shared-slice-read-kind
+    take-requires
     returns
     returns-2
-    add-read-side
+    element-write-kinds
     read-side-requires
     returns-3
-    add-read-side-2
-    wide-requires
-    add-read-side-3
     read-side-requires-2
     returns-4)

@@ -1,67 +1,75 @@
--- `scheme::nodes::read_orbit` meets its contract. The loop's invariant: the first p dimensions ascend, and are held.
+-- `scheme::nodes::read_orbit` meets its contract. The loop's invariant: the first p dimensions ascend and are held, and the cursor is
+-- past them.
 -- Assumes nothing.
-use Prim.Native.Nat.{_+_, _-_, _≤_}
-use mathlib.Core.Path.{_≡_, sym, _∙_}
+use Prim.Native.Nat.{_+_, _-_, _≤_, _<_}
+use mathlib.Core.Path.{_≡_, sym, ap, _∙_}
 use mathlib.Core.Bool.{true≢false}
 use lib.ListN.{length}
 use native.Mathlib.Omega.{arith}
 use borrow.Author.Needs.{needs}
 use denote.Ref.{now}
 use Rattle.model.specs.Bytes.{byte, placesOf}
-use Rattle.scheme.proofs.FrameLaws.{dimension-small, places-small, orbit-inside}
+use Rattle.scheme.proofs.PlaceLaws.{taken-at}
+use Rattle.scheme.proofs.FrameLaws.{dimension-small, places-small, count-inside}
 use Rattle.scheme.proofs.OrbitLaws.{Risen, risen-none, risen-more, risen-low, risen-high, risen-form, risen-value}
 use Rattle.scheme.proofs.nodes.read_orbit.Statement.{statement}
 use Rattle.scheme.proofs.nodes.read_orbit.Tie as tie
 
 abbrev Inv-loop : tie.InvT-loop
-Inv-loop bytes orbit₀ n places low₀ p₀ orbit low p = (p ≤ places) × Risen bytes p low orbit
+Inv-loop bytes orbit₀ n places next₀ low₀ p₀ orbit next low p = (p ≤ places) × (next .at ≡ 2 + p) × Risen bytes p low orbit
 
 abbrev μ-loop : tie.MeasureT-loop
-μ-loop bytes orbit₀ n places low₀ p₀ orbit low p = places - p
+μ-loop bytes orbit₀ n places next₀ low₀ p₀ orbit next low p = places - p
 
--- what the layout tells before the loop
-known : (c : tie.After-wide Inv-loop μ-loop) → let a = c .before .before .args in let b = now (a .bytes) in
-    (c .wide .result ≡ placesOf b) × (a .l .n ≡ byte b 0) × (placesOf b ≤ 4) × (2 + placesOf b ≤ length b) × (placesOf b ≤ byte b 0 + 1) × (byte b 0 ≤ 3)
+-- what the layout and the count tell before the loop
+known : (c : tie.After-next Inv-loop μ-loop) → let a = c .before .before .before .before .args in let b = now (a .bytes) in
+    (c .before .wide .result ≡ placesOf b) × (a .l .n ≡ byte b 0) × (placesOf b ≤ 4) × (2 + placesOf b < length b) × (placesOf b ≤ byte b 0 + 1) × (byte b 0 ≤ 3)
 known c =
-    let laid = c .before .before .pre .0 in
+    let t = c .before .before in
+    let s = t .before .before in
+    let laid = s .pre .0 in
     let h = laid .headed in
-    (c .wide .ensures .0 ∙ h .placesIs, h .nIs, places-small _ _ laid, orbit-inside _ _ laid, omega arith, dimension-small _ _ laid)
+    (c .before .wide .ensures .0 ∙ t .take .ensures .valueIs ∙ ap (byte (now (s .args .bytes))) (s .pre .1 .0), h .nIs, places-small _ _ laid, count-inside _ _ laid, omega arith, dimension-small _ _ laid)
+
+-- the dimension that was taken, and the place after it
+took : (c : tie.After-take2 Inv-loop μ-loop) → let l = c .before .before in let b = now (l .before .before .before .before .before .args .bytes) in
+    (c .take2 .result .value ≡ byte b (2 + l .loop .p)) × (c .take2 .result .next .at ≡ 2 + (l .loop .p + 1))
+took c = taken-at _ 2 _ (c .take2 .ensures) (c .before .before .loop .inv .1)
+
+take-requires : tie.Need-take-requires Inv-loop μ-loop
+take-requires c κs = omega (arith, count-inside _ _ (c .before .pre .0), c .before .pre .1 .0)
 
 wide-requires : tie.Need-wide-requires Inv-loop μ-loop
 wide-requires c κs = search needs
 
 loop-holds : tie.Need-loop-holds Inv-loop μ-loop
-loop-holds c = (omega arith, risen-none _ (c .before .before .pre .1))
+loop-holds c =
+    let t = c .before .before in
+    let p = t .before .before .pre .1 in
+    (omega arith, omega (arith, t .take .ensures .nextIs, p .0), risen-none _ (p .1))
 
-add-d : tie.Need-add-d Inv-loop μ-loop
-add-d c = omega arith
-
-shared-slice-read-d : tie.Need-shared-slice-read-d Inv-loop μ-loop
-shared-slice-read-d c = let k = known (c .before .before .before) in omega arith
+take-requires-2 : tie.Need-take-requires-2 Inv-loop μ-loop
+take-requires-2 c κs = let k = known (c .before .before) in omega arith
 
 returns : tie.Need-returns Inv-loop μ-loop
 returns c =
-    let l = c .before .before .before in
+    let t = c .before .before in
+    let l = t .before .before in
     let k = known (l .before) in
-    (risen-low _ (l .loop .inv .1) (omega arith) (c .if1 .taken), λ e. absurd (true≢false (sym e)))
+    (risen-low _ (l .loop .inv .2) (took t .0) (omega arith) (c .if1 .taken), λ e. absurd (true≢false (sym e)))
 
 returns-2 : tie.Need-returns-2 Inv-loop μ-loop
 returns-2 c =
-    let l = c .before .before .before .before in
+    let t = c .before .before .before in
+    let l = t .before .before in
     let k = known (l .before) in
-    (risen-high _ (l .loop .p) (omega arith) (omega arith), λ e. absurd (true≢false (sym e)))
+    (risen-high _ (l .loop .p) (took t .0) (omega arith) (omega arith), λ e. absurd (true≢false (sym e)))
 
 element-write-orbit : tie.Need-element-write-orbit Inv-loop μ-loop
-element-write-orbit c =
-    let l = c .before .before .before .before in
-    let k = known (l .before) in
-    omega arith
+element-write-orbit c = let k = known (c .before .before .before .before .before .before) in omega arith
 
 add-low : tie.Need-add-low Inv-loop μ-loop
-add-low c =
-    let l = c .before .before .before .before in
-    let k = known (l .before) in
-    omega arith
+add-low c = let k = known (c .before .before .before .before .before .before) in omega arith
 
 add-p : tie.Need-add-p Inv-loop μ-loop
 add-p c = omega arith
@@ -71,15 +79,18 @@ loop-less c = omega arith
 
 loop-again : tie.Need-loop-again Inv-loop μ-loop
 loop-again c =
-    let l = c .before .before .before .before in
+    let t = c .before .before .before in
+    let l = t .before .before in
     let k = known (l .before) in
-    (omega arith, risen-more _ (l .loop .inv .1) (omega arith) (omega arith) (omega arith))
+    (omega arith, took t .1, risen-more _ (l .loop .inv .2) (took t .0) (omega arith) (omega arith) (omega arith))
 
 returns-3 : tie.Need-returns-3 Inv-loop μ-loop
 returns-3 c =
     let l = c .before in
-    let k = known (l .before) in
-    (risen-form _ (l .loop .inv .1) (omega arith) (omega arith) (omega arith), λ e. risen-value _ (l .loop .inv .1) (omega arith) (omega arith))
+    let k = known (l .before) in (
+      risen-form _ (l .loop .inv .2) (omega arith) (omega arith) (omega arith),
+      λ e. (risen-value _ (l .loop .inv .2) (omega arith) (omega arith), omega arith),
+    )
 
 pub read-orbit-spec : {M : Type 1} → statement M
 read-orbit-spec =
@@ -87,10 +98,10 @@ read-orbit-spec =
     (tie.spec
     Inv-loop
     μ-loop
+    take-requires
     wide-requires
     loop-holds
-    add-d
-    shared-slice-read-d
+    take-requires-2
     returns
     returns-2
     element-write-orbit

@@ -13,7 +13,7 @@ use Rattle.scheme.proofs.nodes.read_side.Statement.{statement}
 use Rattle.scheme.proofs.nodes.read_side.Tie as tie
 
 -- what is known of the word
-placed : (c : tie.After-wide) → let a = c .before .before .args in Placed (now (a .bytes)) (a .s) (a .other) (a .kind) (a .l .n) (c .wide .result) (a .at)
+placed : (c : tie.After-wide) → let a = c .before .before .args in Placed (now (a .bytes)) (a .s) (a .other) (a .kind) (a .l .n) (c .wide .result) (a .from .at)
 placed c =
     let p = c .before .before .pre in
     let h = p .0 .headed in
@@ -34,7 +34,7 @@ dimension : (c : tie.After-wide) → c .before .before .args .l .n ≤ 3
 dimension c = let n3 = dimension-small _ _ (c .before .before .pre .0) in omega (arith, placed c .nIs)
 
 -- the word is inside the bytes
-inside : (c : tie.After-wide) → let a = c .before .before .args in a .at + c .wide .result ≤ length (now (a .bytes))
+inside : (c : tie.After-wide) → let a = c .before .before .args in a .from .at + c .wide .result ≤ length (now (a .bytes))
 inside c =
     let p = c .before .before .pre in
     let h = p .0 .headed in
@@ -50,11 +50,12 @@ returns : tie.Need-returns
 returns c =
     let a = c .before .before in
     let w = placed a in
-    let p = a .before .before .pre .1 .1 .1 in (
-      off-form _ _ _ _ _ _ _ w (c .before .if1 .taken) (c .empty .ensures),
+    let p = a .before .before .pre .1 .1 .1 in
+    let r = c .empty .ensures in (
+      off-form _ _ _ _ _ _ _ w (c .before .if1 .taken) (r .0),
       (
-        (λ e. off-value _ _ _ _ _ _ _ w (p .0) (sym (c .empty .ensures) ∙ e)),
-        (λ e. off-targets _ _ _ _ _ _ _ w (p .1) (sym (c .empty .ensures) ∙ e)),
+        (λ e. omega (arith, r .1 e, w .placesIs)),
+        ((λ e. off-value _ _ _ _ _ _ _ w (p .0) (sym (r .0) ∙ e)), (λ e. off-targets _ _ _ _ _ _ _ w (p .1) (sym (r .0) ∙ e))),
       ),
     )
 
@@ -77,8 +78,11 @@ returns-2 c =
     let r = c .read-word .ensures in (
       on-form _ _ _ _ _ _ _ w (c .before .before .before .if1 .left) (r .0),
       (
-        (λ e. r .1 .0 e ∙ on-value _ _ _ _ _ _ _ w (p .0)),
-        (λ e. r .1 .1 e ∙ on-targets _ _ _ _ _ _ _ w (dimension a) (p .1) (sym (r .0) ∙ e)),
+        (λ e. omega (arith, r .1 .0 e, w .placesIs)),
+        (
+          (λ e. r .1 .1 .0 e ∙ on-value _ _ _ _ _ _ _ w (p .0)),
+          (λ e. r .1 .1 .1 e ∙ on-targets _ _ _ _ _ _ _ w (dimension a) (p .1) (sym (r .0) ∙ e)),
+        ),
       ),
     )
 

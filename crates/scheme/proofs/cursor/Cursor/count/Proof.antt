@@ -66,7 +66,7 @@ unfolding after
 returns-5 c =
     let t = took (c .before .before .before .before .before) in
     let e = room (c .before) in
-    section-count _ _ _ _ _ (t .1) (t .2) (omega arith) (record { some = omega arith; few = omega arith; within = omega arith })
+    section-count _ _ _ _ _ (t .1) (omega arith) (record { some = omega arith; few = omega arith; within = omega arith })
 
 pub count-spec : {M : Type 1} → statement M
 count-spec =
