@@ -1,6 +1,7 @@
 /* gmap.h - the map kernel: tables of darts, edited by rule schemes.
  *
- * Link libkernel.a, which tools/archive builds. It calls nothing but the memory
+ * Link libkernel.a, which tools/archive builds, or what `make install` puts in
+ * place, by `pkg-config --cflags --libs gmap`. It calls nothing but the memory
  * functions of C (memset, memcpy, memmove, memcmp), allocates nothing, and keeps
  * nothing between calls.
  *
@@ -28,6 +29,10 @@
 #ifdef __cplusplus
 extern "C" {
 #endif
+
+/* The version of this interface, 100 times its first number and its second: 1.0. The second grows where something is added; the
+ * first where a program that was written for the version before must be looked at again. */
+#define GMAP_VERSION 100
 
 /* ---- limits and sizes */
 
@@ -86,13 +91,24 @@ uint64_t gmap_check_scheme(const uint8_t *scheme, size_t scheme_len);
  * table: the edited map after 0, which is well-formed again; unchanged after any
  * refusal. New darts take the lowest unused slots; records of deleted darts
  * become six zeros.
- * store: of any content on entry; all zero afterwards, save after 1. */
+ * store: of any content on entry; all zero afterwards, save after 1.
+ *
+ * After 10 a part can be given more room. A link is a slot's number, whatever
+ * the number of slots, so the records go to the beginning of a larger table as
+ * they are, and every further state is 0:
+ *
+ *     memcpy(larger, table, sizeof *table * GMAP_RECORD * slots);
+ *     memset(larger + GMAP_RECORD * slots, 0, sizeof *larger * GMAP_RECORD * (more - slots));
+ *
+ * The same edit is then made with `more` slots and a store of GMAP_STORE * more
+ * words. A map file names its number of slots, so it is written anew. */
 uint64_t gmap_edit(uint32_t n, uint32_t slots, uint32_t *table, size_t table_len,
                    uint32_t *store, size_t store_len,
                    const uint8_t *scheme, size_t scheme_len, uint32_t dart);
 
 /* Reads a map file into the table.
- * Answers 0, 1, 11, 7.
+ * Answers 0, 1, 11, 7; 11 also for a file of another n or number of slots than
+ * the call's: gmap_file_n and gmap_file_slots say which table a file is for.
  * table: the file's map after 0, with unused records all zero; all zero after
  * 11 and 7; unchanged after 1. The old content is never consulted. */
 uint64_t gmap_read(uint32_t n, uint32_t slots, uint32_t *table, size_t table_len,
@@ -106,12 +122,45 @@ uint64_t gmap_read(uint32_t n, uint32_t slots, uint32_t *table, size_t table_len
 uint64_t gmap_write(uint32_t n, uint32_t slots, const uint32_t *table, size_t table_len,
                     uint8_t *out, size_t out_len);
 
+/* ---- the beginning of a map file
+ *
+ * A file's first byte is n. The next two are its number of slots, the lower byte
+ * first. These give what a file says, right or not, and 0 where it is shorter
+ * than three bytes; gmap_read answers 1 to a 0. */
+
+static inline uint32_t gmap_file_n(const uint8_t *file, size_t file_len) { return file_len < 3 ? 0 : file[0]; }
+static inline uint32_t gmap_file_slots(const uint8_t *file, size_t file_len)
+{
+    return file_len < 3 ? 0 : (uint32_t)file[1] | (uint32_t)file[2] << 8;
+}
+
 /* ---- the answer word */
 
 /* The number of the answer: 0 is done, 1 to 12 are refusals. */
 static inline uint32_t gmap_number(uint64_t answer)
 {
     return answer >> 63 ? (uint32_t)(answer & 255) : 0;
+}
+
+/* The number of an answer in words, for a person to read. */
+static inline const char *gmap_words(uint32_t number)
+{
+    switch (number) {
+    case GMAP_DONE: return "done";
+    case GMAP_BAD_CALL: return "the table's dimension or size is not one the kernel takes";
+    case GMAP_BAD_FORM: return "the scheme's bytes are damaged";
+    case GMAP_BAD_HOOK: return "the scheme does not hang together at a node";
+    case GMAP_BAD_INCIDENCE: return "the scheme has too many or too few arcs at a node";
+    case GMAP_BAD_CYCLE: return "the scheme would tear the map at a node";
+    case GMAP_OTHER_DIMENSION: return "the scheme is for maps of another dimension";
+    case GMAP_BAD_TABLE: return "the map is not well-formed";
+    case GMAP_NO_DART: return "there is no such dart";
+    case GMAP_NO_MATCH: return "the scheme does not fit here";
+    case GMAP_NO_ROOM: return "the table has too little room";
+    case GMAP_BAD_FILE: return "the file is damaged, or for another size of table";
+    case GMAP_SHORT_OUTPUT: return "the output is too short for the file";
+    default: return "an answer that this version does not know";
+    }
 }
 
 /* The node of refusals 3, 4 and 5. */

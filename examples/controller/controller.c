@@ -20,32 +20,12 @@ static uint32_t n, slots;
 /* The part's dart that the operator points at for each operation. */
 enum { EDGE = 8, PIECE = 0, FLANGE = 10 };
 
-static const char *words(uint32_t number)
-{
-    switch (number) {
-    case GMAP_DONE: return "done";
-    case GMAP_BAD_CALL: return "the table's dimension or size is not one the kernel takes";
-    case GMAP_BAD_FORM: return "the operation's bytes are damaged";
-    case GMAP_BAD_HOOK: return "the operation does not hang together";
-    case GMAP_BAD_INCIDENCE: return "the operation has too many or too few arcs at a node";
-    case GMAP_BAD_CYCLE: return "the operation would tear the map at a node";
-    case GMAP_OTHER_DIMENSION: return "the operation is for maps of another dimension";
-    case GMAP_BAD_TABLE: return "the map is not well-formed";
-    case GMAP_NO_DART: return "there is no such dart";
-    case GMAP_NO_MATCH: return "the operation does not fit here";
-    case GMAP_NO_ROOM: return "the table has too little room";
-    case GMAP_BAD_FILE: return "the file is damaged, or for another size of table";
-    case GMAP_SHORT_OUTPUT: return "the output is too short for the file";
-    default: return "an answer this program does not know";
-    }
-}
-
 /* Prints an answer, with the node of a refused scheme, and says whether the call was done. */
 static int told(const char *what, uint64_t answer)
 {
     uint32_t number = gmap_number(answer);
     if (number == GMAP_DONE) printf("%s: done", what);
-    else printf("%s: refused %" PRIu32 ", %s", what, number, words(number));
+    else printf("%s: refused %" PRIu32 ", %s", what, number, gmap_words(number));
     if (number == GMAP_BAD_HOOK || number == GMAP_BAD_INCIDENCE || number == GMAP_BAD_CYCLE) printf(" (node %" PRIu32 ")", gmap_node(answer));
     if (number == GMAP_BAD_CYCLE) printf(" (dimensions %" PRIu32 " and %" PRIu32 ")", gmap_i(answer), gmap_j(answer));
     printf("\n");
@@ -76,7 +56,7 @@ static void print_lots(void)
     }
 }
 
-/* Reads the part; its file says in its first three bytes which table it is for. */
+/* Reads the part; its file begins with the table it is for. */
 static int read_part(const char *path)
 {
     FILE *in = fopen(path, "rb");
@@ -85,13 +65,16 @@ static int read_part(const char *path)
         return 0;
     }
     size_t length = fread(file, 1, sizeof file, in);
+    int damaged = ferror(in);
+    if (damaged) perror(path);
     fclose(in);
+    if (damaged) return 0;
     if (length < 3) {
         printf("%s: too short for a map file\n", path);
         return 0;
     }
-    n = file[0];
-    slots = file[1] | (uint32_t)file[2] << 8;
+    n = gmap_file_n(file, length);
+    slots = gmap_file_slots(file, length);
     if (slots > GMAP_MAX_SLOTS) {
         printf("%s: for a table of %" PRIu32 " slots, and this cell has %d\n", path, slots, GMAP_MAX_SLOTS);
         return 0;
