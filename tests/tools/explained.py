@@ -1,0 +1,319 @@
+#!/usr/bin/env python3
+"""Why the kernel refuses: the words of tools/scheme explain and tools/map check at their places, and, over thousands of schemes and
+maps, that the reasons they look for are the kernel's: each refusal has its reason, and nothing that is accepted has one."""
+import collections
+import copy
+import glob
+import random
+import re
+import sys
+import unittest
+
+from common import Case, run, wrong_kernel
+
+from gmap import explain, map as maps, scheme as schemes
+from gmap.files import Fault, data_of
+from gmap.kernel import Kernel
+
+# (what is wrong, the text, what is said of it: the first line, and a part of the rest)
+SCHEMES = [
+    ("an added hook", "n 2\norbit 0\nnode 0 added -> 0\n", "3: node 0: refused 3: the hook is added, and must be preserved or deleted", ""),
+    ("another left word", "n 2\norbit 0 2\n# here\nnode 0 preserved 0 _ -> 0 _\n",
+     "4: node 0: refused 3: the left word of the hook is '0 _', and must be the orbit type, '0 2'", ""),
+    ("a node not reached", "n 2\norbit\nnode 0 preserved ->\nnode 1 preserved ->\nleft 1: 1-1\n",
+     "4: node 1: refused 3: no left arcs lead to it from node 0", "node 0 reaches 0; on the left node 1 has 1 to itself (line 5)"),
+    ("P5", "n 2\norbit 0 2\nnode 0 preserved 0 2 -> _ 2\nnode 1 added -> 1 2\n",
+     "3: node 0: refused 4: it is preserved, has 0 on the left side and lacks it on the right",
+     "on the left node 0 has 0 in its word under orbit 0 and 2 in its word under orbit 2\n    on the right node 0 has 2 in its word under orbit 2\n"),
+    ("a dimension on the right alone", "n 2\norbit\nnode 0 preserved ->\nright 1: 0-0\n",
+     "3: node 0: refused 4: it is preserved, has 1 on the right side and lacks it on the left", "on the left node 0 has nothing\n"),
+    ("two arcs of a dimension", "n 2\norbit 0\nnode 0 preserved 0 -> 0\nleft 0: 0-0\n",
+     "3: node 0: refused 4: it has 2 arcs of dimension 0 on the left side, and may have one", "0 to itself (line 4) and 0 in its word under orbit 0"),
+    ("a deleted node lacks", "n 2\norbit 0\nnode 0 deleted 0 ->\nleft 2: 0-0\n",
+     "3: node 0: refused 4: it is deleted, must have each dimension on the left side and lacks 1", "on the left node 0 has 0 in its word under orbit 0 and 2 to itself (line 4)"),
+    ("an added node lacks", "n 3\norbit 0\nnode 0 preserved 0 -> 0\nnode 1 added -> 0\n",
+     "4: node 1: refused 4: it is added, must have each dimension on the right side and lacks 1, 2 and 3", ""),
+    ("P6", "n 2\norbit 0 2\nnode 0 preserved 0 2 -> _ 2\nnode 1 added -> 1 _\nright 0: 0-1\nright 2: 1-1\n",
+     "3: node 0: refused 5: dimensions 0 and 2 close no cycle on the right side, as they do on the left",
+     "2 must stand under orbit 2 at node 1 too, which has 2 to itself (line 6)"),
+    ("P7", "n 2\norbit 0 1\nnode 0 preserved 0 1 -> 0 1\nnode 1 added -> 0 2\nright 1: 1-1\n",
+     "4: node 1: refused 5: dimensions 0 and 2 close no cycle on the right side", "0 and 2 stand in its word under orbit 0 and 1, which are not two apart"),
+    ("a walk that does not lead back", "n 2\norbit\nnode 0 preserved ->\nnode 1 added ->\nnode 2 added ->\nnode 3 added ->\n"
+     "right 0: 1-2 3-3\nright 1: 1-1 2-2 3-3\nright 2: 1-1 2-3\n",
+     "4: node 1: refused 5: dimensions 0 and 2 close no cycle on the right side", "the walk 1 -0- 2 -2- 3 -0- 3 -2- 2 does not lead back"),
+    ("other arcs on the right", "n 2\norbit\nnode 0 preserved ->\nnode 1 preserved ->\nleft 0: 0-1\nright 0: 0-0 1-1\n",
+     "3: node 0: refused 5: dimensions 0 and 2 close no cycle on the left side, so their arcs must be the same on both sides",
+     "it lacks an arc of dimension 2; on the left node 0 has 0 to node 1 (line 5)\n    on the right node 0 has 0 to itself (line 6)\n"),
+]
+
+# (what is wrong, the records of a map of n 2 and 8 slots, what is said of them)
+MAPS = [
+    ("a link to no slot", "0 9 0 0 7\n", ["3: slot 0: α0 leads to 9, and there are 8 slots"]),
+    ("a link to an unused slot", "0 0 3 0 7\n", ["3: slot 0: α1 leads to 3, which is unused"]),
+    ("a link that does not lead back", "0 1 0 0 7\n1 1 1 1 9\n", [
+        "3: slot 0: α0 leads to 1, whose α0 leads to 1 and not back", "3: slot 0: α0, α2, α0, α2 lead to 1, 1, 1, 1 and not back"]),
+    ("P3", "0 1 0 2 0\n1 0 1 1 0\n2 3 2 0 0\n3 2 3 3 0\n", [
+        "3: slot 0: α0, α2, α0, α2 lead to 1, 1, 0, 2 and not back", "4: slot 1: α0, α2, α0, α2 lead to 0, 2, 3, 3 and not back",
+        "5: slot 2: α0, α2, α0, α2 lead to 3, 3, 2, 0 and not back", "6: slot 3: α0, α2, α0, α2 lead to 2, 0, 1, 1 and not back"]),
+    ("several", "0 0 9 0 7\n1 1 1 4 9\n", ["3: slot 0: α1 leads to 9, and there are 8 slots", "4: slot 1: α2 leads to 4, which is unused"]),
+]
+
+
+# Every way in which a scheme is refused with 3, 4 or 5.
+REASONS = [
+    "the hook is added", "the left word of the hook is", "no left arcs lead to it", "it has [23] arcs of dimension", "on the left side and lacks",
+    "on the right side and lacks", "it is deleted, must have", "it is added, must have", "close no cycle on the right side\n", "as they do on the left",
+    "close no cycle on the left side", "it lacks an arc of dimension", "does not lead back", "must stand under orbit", "which are not two apart",
+    "which lacks an arc of dimension [0-3] to a node",
+]
+
+
+def catalogue():
+    found = [schemes.scheme_in(data_of(path)) for path in sorted(glob.glob("schemes/*.scheme"))]
+    assert len(found) >= 12
+    return found
+
+
+def mutated(source, s):
+    """A scheme near an accepted one: a few small changes of words, arcs and kinds."""
+    s = copy.deepcopy(s)
+    s.nodes = [(kind, list(left), list(right)) for kind, left, right in s.nodes]
+    for _ in range(source.choice((1, 1, 1, 2, 3))):
+        v, side = source.randrange(len(s.nodes)), source.choice(("left", "right", "right"))
+        kind, left, right = s.nodes[v]
+        word, arcs, change = left if side == "left" else right, s.arcs[side], source.randrange(9)
+        ends = [u for u, node in enumerate(s.nodes) if node[0] in schemes.allowed(side)]
+        if change == 0 and word and kind in schemes.allowed(side):
+            word[source.randrange(len(word))] = source.choice([*range(s.n + 1), schemes.REMOVES])
+        elif change == 1 and word:
+            source.shuffle(word)
+        elif change == 2 and arcs:
+            arcs.pop(source.randrange(len(arcs)))
+        elif change == 3 and ends:
+            arcs.append((source.randint(0, s.n), *sorted(source.choices(ends, k=2))))
+        elif change == 4 and arcs and ends:
+            at = source.randrange(len(arcs))
+            arcs[at] = (arcs[at][0], *sorted((arcs[at][1], source.choice(ends))))
+        elif change == 5:  # two dimensions exchanged on one side of the whole scheme
+            a, b = source.sample(range(s.n + 1), 2)
+            other = {a: b, b: a}
+            arcs[:] = [(other.get(d, d), x, y) for d, x, y in arcs]
+            for node in s.nodes:
+                of = node[1 if side == "left" else 2]
+                of[:] = [other.get(d, d) for d in of]
+        elif change == 6:
+            s.orbit = sorted(source.sample(range(s.n + 1), len(s.orbit)))
+        elif change == 7 and word and kind in schemes.allowed(side):  # an implicit arc becomes a loop
+            at = source.randrange(len(word))
+            if word[at] != schemes.REMOVES:
+                arcs.append((word[at], v, v))
+                word[at] = schemes.REMOVES
+        elif change == 8:  # another kind, with nothing left on a side where it is not
+            kind, nothing = source.choice(list(schemes.NAMES)), [schemes.REMOVES] * len(s.orbit)
+            s.nodes[v] = (kind, left if kind in schemes.allowed("left") else nothing, right if kind in schemes.allowed("right") else nothing)
+            for of in s.arcs:
+                if kind not in schemes.allowed(of):
+                    s.arcs[of] = [arc for arc in s.arcs[of] if v not in arc[1:]]
+    for side in s.arcs:
+        s.arcs[side] = sorted(set(s.arcs[side]))[:schemes.ARCS]
+    return bytes(s.bytes())
+
+
+def loops(source):
+    """Added nodes beside a hook, with arcs between them that are pairings: incidence holds, and cycles may not."""
+    n, count = source.choice((2, 3)), source.randint(1, 6)
+    s = schemes.Scheme()
+    s.n, s.orbit = n, [d for d in range(n + 1) if source.random() < 0.4]
+    s.nodes = [(2, s.orbit, s.orbit)] + [(3, [schemes.REMOVES] * len(s.orbit), [schemes.REMOVES] * len(s.orbit)) for _ in range(count)]
+    for d in range(n + 1):
+        free = list(range(1, count + 1))
+        source.shuffle(free)
+        while free:
+            a = free.pop()
+            word, p = s.nodes[a][2], source.randrange(len(s.orbit)) if s.orbit else None
+            if p is not None and word[p] == schemes.REMOVES and source.random() < 0.5:
+                word[p] = d
+                continue
+            s.arcs["right"].append((d, *sorted((a, free.pop() if free and source.random() < 0.6 else a))))
+    return bytes(s.bytes())
+
+
+def damaged(source, data):
+    """Bytes with one of them changed, lost or doubled."""
+    at, change = source.randrange(len(data)), source.randrange(4)
+    if change == 0:
+        return data[:at] + data[at + 1:]
+    if change == 1:
+        return data[:at] + data[at:at + 1] + data[at:]
+    return data[:at] + bytes([source.choice((0, 1, 2, 3, 4, 255, source.randrange(256)))]) + data[at + 1:]
+
+
+def reasons_of_scheme(data):
+    """What the tools find: (number, node, i, j) of the first refusal that has a reason."""
+    try:
+        found = explain.scheme_refusals(schemes.Bytes(data).scheme())
+    except Fault:
+        return 2, 0, 0, 0
+    return found[0].key() if found else (0, 0, 0, 0)
+
+
+class Schemes(Case):
+    def test_words(self):
+        for what, text, first, more in SCHEMES:
+            with self.subTest(what):
+                path = self.file("a.scheme", text)
+                done = run("tools/scheme", "explain", path)
+                self.assertEqual((done.returncode, done.stdout), (1, ""), done.stderr)
+                self.assertEqual(done.stderr.split("\n", 1)[0], f"{path}:{first}")
+                self.assertIn(more, done.stderr)
+
+    def test_words_of_bytes(self):
+        path = self.file("a.bytes", bytes([2, 2, 0, 2, 2, 2, 0, 2, 255, 2, 3, 255, 255, 1, 2, 0, 0]))
+        done = run("tools/scheme", "explain", path)
+        self.assertEqual(done.stderr.split("\n")[0], f"{path}:byte 6: node 0: refused 4: it is preserved, has 0 on the left side and lacks it on the right")
+        path = self.file("a.bytes", bytes([2, 4]))
+        done = run("tools/scheme", "explain", path)
+        self.assertEqual((done.returncode, done.stderr), (1, f"{path}:byte 2: refused 2: found 4, expected the number of dimensions in the orbit type, 0 to 3\n"))
+
+    def test_accepted(self):
+        with open("schemes/split-edge.scheme") as file:
+            without = self.file("a.scheme", "".join(line for line in file if not line.startswith("bytes")))
+        bytes_ = self.path("a.bytes")
+        run("tools/scheme", "assemble", without, "-o", bytes_)
+        done = run("tools/scheme", "explain", "schemes/split-edge.scheme", without, bytes_)
+        self.assertEqual((done.returncode, done.stdout, done.stderr), (0, f"schemes/split-edge.scheme: accepted\n{without}: accepted\n{bytes_}: accepted\n", ""))
+
+    def test_a_text_that_is_no_scheme(self):
+        path = self.file("a.scheme", "n 2\norbit 0 3\n")
+        done = run("tools/scheme", "explain", path, "no/such/file")
+        self.assertEqual((done.returncode, done.stderr), (1, f"{path}:2:9: found '3', expected a dimension 0, 1 or 2\nno/such/file: No such file or directory\n"))
+
+    def test_no_reason_is_said(self):
+        """A kernel that refuses everything with 5, node 1, (0, 2): the tool says that it finds no reason, and does not make one up."""
+        archive = wrong_kernel(self.folder, 1 << 63 | 5 | 1 << 8 | 0 << 16 | 2 << 24)
+        done = run("env", f"GMAP_ARCHIVE={archive}", "tools/scheme", "explain", "schemes/split-edge.scheme")
+        self.assertEqual((done.returncode, done.stderr), (
+            1, "schemes/split-edge.scheme: node 1: refused 5: the scheme would tear the map at a node (dimensions 0 and 2); this tool finds no reason for it\n"))
+
+    def test_reasons_are_the_kernels(self):
+        kernel, source, seen, said = Kernel.loaded(), random.Random(4711), collections.Counter(), ""
+        stored = catalogue()
+        for case in range(8000):
+            data = loops(source) if case % 4 == 3 else mutated(source, source.choice(stored))
+            if case % 9 == 8:
+                data = damaged(source, data)
+            answer = kernel.check_scheme(data)
+            self.assertEqual(reasons_of_scheme(data), (answer.number, answer.node, answer.i, answer.j), list(data))
+            seen[answer.number] += 1
+            if answer.number in (3, 4, 5):
+                said += "\n".join(explain.scheme_refusal(kernel, "f", data)) + "\n"
+        self.assertNotIn(explain.NO_REASON, said)
+        for number in (0, 2, 3, 4, 5):
+            self.assertGreater(seen[number], 200, seen)
+        for words in REASONS:
+            self.assertGreater(len(re.findall(words, said)), 10, words)
+        print(f"schemes by answer: {dict(sorted(seen.items()))}", file=sys.stderr)
+
+    def test_limits(self):
+        kernel = Kernel.loaded()
+        self.assertEqual((schemes.LONGEST, maps.LONGEST), (kernel.max_scheme, kernel.max_file))
+
+
+class Maps(Case):
+    def test_words(self):
+        for what, records, said in MAPS:
+            with self.subTest(what):
+                path = self.file("a.map", "n 2\nslots 8\n" + records)
+                done = run("tools/map", "check", path)
+                self.assertEqual((done.returncode, done.stdout), (1, ""))
+                self.assertEqual(done.stderr.splitlines(), [f"{path}: refused 7: the map is not well-formed", *(f"{path}:{line}" for line in said)])
+
+    def test_words_of_files(self):
+        text = self.file("a.map", "n 2\nslots 8\n0 1 0 0 7\n1 0 1 3 9\n")
+        path = self.path("a.gmap")
+        run("tools/map", "assemble", text, "-o", path)
+        done = run("tools/map", "check", path)
+        self.assertEqual(done.stderr, f"{path}: refused 7: the map is not well-formed\n{path}:byte 28: slot 1: α2 leads to 3, which is unused\n")
+        whole = data_of(path)
+        for what, data, said in (("cut", whole[:-1], "byte 33: refused 11: found the end, expected a link"),
+                                 ("n", b"\5" + whole[1:], "byte 1: refused 1: found n = 5 and 8 slots, expected n 2 or 3 and 1 to 1024 slots"),
+                                 ("two bytes", whole[:2], "byte 3: refused 11: found the end, expected the number of slots")):
+            with self.subTest(what):
+                done = run("tools/map", "check", self.file("a.gmap", data))
+                self.assertEqual((done.returncode, done.stderr), (1, f"{path}:{said}\n"))
+
+    def test_well_formed(self):
+        done = run("tools/map", "check", "schemes/maps/bend.map")
+        self.assertEqual((done.returncode, done.stdout, done.stderr), (0, "schemes/maps/bend.map: well-formed: n 2, 24 slots, 16 live\n", ""))
+
+    def test_a_text_that_is_no_map(self):
+        path = self.file("a.map", "n 2\nslots 0\n")
+        done = run("tools/map", "check", path, "no/such/file")
+        self.assertEqual((done.returncode, done.stderr), (
+            1, f"{path}:2: found 'slots 0', expected 'slots' and a number from 1 to 1024\nno/such/file: No such file or directory\n"))
+
+    def test_no_reason_is_said(self):
+        archive = wrong_kernel(self.folder, 1 << 63 | 7)
+        done = run("env", f"GMAP_ARCHIVE={archive}", "tools/map", "check", "schemes/maps/bend.map")
+        self.assertEqual((done.returncode, done.stderr), (
+            1, "schemes/maps/bend.map: refused 7: the map is not well-formed; this tool finds no reason for it\n"))
+
+    def test_bytes_are_not_printed(self):
+        for data in (b"\2\10\0\0\0\0\0\0\0", b"n 2\nslots 8 \xff\n", b"n 2\n\x1b[31m\n"):
+            path, out = self.file("a.map", data), self.path("out")
+            done = run("tools/map", "assemble", path, "-o", out)
+            self.assertEqual(done.returncode, 1)
+            self.assertRegex(done.stderr, r"^[^\n]*:\d+:\d+: found bytes that are no text, expected a map's text in UTF-8\n$")
+            self.assertRegex(done.stderr, r"^[\x20-\x7e]*\n$")
+            self.assertRaises(FileNotFoundError, data_of, out)
+
+    def test_bench_names_what_does_not_fit(self):
+        small, large, out = self.file("small", b"\2"), self.file("large", b"\2" * 14346), self.path("out")
+        for words, said in (((small, small, "1", "70000"), "the darts: found dart 70000, expected at most 65535, as a dart has two bytes"),
+                            ((large, small), f"{large}: found 14346 bytes, expected at most 14345"),
+                            ((small, large), f"{large}: found 14346 bytes, expected at most 537"),
+                            ((small, small, *["0"] * 1025), "the darts: found 1025 darts, expected at most 1024")):
+            done = run("tools/map", "bench", *words, "-o", out)
+            self.assertEqual((done.returncode, done.stderr), (1, said + "\n"))
+            self.assertRaises(FileNotFoundError, data_of, out)
+
+    def test_reasons_are_the_kernels(self):
+        kernel, source, seen = Kernel.loaded(), random.Random(4712), collections.Counter()
+        stored = [maps.map_in(data_of(path)) for path in sorted(glob.glob("schemes/maps/*.map"))]
+        self.assertGreaterEqual(len(stored), 5)
+        for case in range(3000):
+            m = copy.deepcopy(source.choice(stored))
+            for _ in range(source.choice((0, 1, 1, 2))):
+                x, change = source.choice(sorted(m.live)), source.randrange(5)
+                links, i = m.live[x][0], source.randint(0, m.n)
+                if change == 0:
+                    links[i] = source.randrange(m.slots + 2)
+                elif change == 1:  # a pair of links is cut: it may break a square alone
+                    y, links[i] = links[i], x
+                    if y in m.live:
+                        m.live[y][0][i] = y
+                elif change == 2 and len(m.live) > 1:
+                    del m.live[x]
+                elif change == 3:  # two darts that were loops at i are joined: likewise
+                    free = [y for y in m.live if m.live[y][0][i] == y]
+                    if len(free) > 1:
+                        x, y = source.sample(free, 2)
+                        m.live[x][0][i], m.live[y][0][i] = y, x
+            data = m.file()
+            if case % 7 == 6:
+                data = damaged(source, data)
+            n, slots = maps.head(data)
+            number = kernel.read(n, slots, data)[0].number
+            try:
+                found = 7 if list(explain.map_faults(maps.map_of_file(data))) else 0
+            except Fault:
+                found = 1 if n not in (2, 3) or not 1 <= slots <= maps.SLOTS else 11
+            self.assertEqual(found, number, data)
+            seen[number] += 1
+        for number in (0, 7, 11):
+            self.assertGreater(seen[number], 100, seen)
+        print(f"maps by answer: {dict(sorted(seen.items()))}", file=sys.stderr)
+
+
+if __name__ == "__main__":
+    sys.exit(unittest.main())

@@ -1,0 +1,233 @@
+"""Why the kernel refuses a scheme or a map, in words and at the place in the file.
+
+The kernel alone judges. What stands here looks for the reason of a refusal that the kernel gave, and says so where it finds none;
+tests/tools/explained.py holds both to each other."""
+from gmap.files import Fault
+from gmap.map import file_in, head, map_in
+from gmap.scheme import KINDS, NAMES, REMOVES, bytes_in, scheme_in
+
+ADDED, DELETED, PRESERVED = KINDS["added"], KINDS["deleted"], KINDS["preserved"]
+NO_REASON = "this tool finds no reason for it"
+
+
+def listed(things, last="and"):
+    """'0, 1 and 2'."""
+    words = [str(thing) for thing in things]
+    return words[0] if len(words) == 1 else ", ".join(words[:-1]) + f" {last} " + words[-1] if words else "nothing"
+
+
+# ---- schemes
+
+class Refusal:
+    """A refusal of a scheme at a node: its number, the pair of dimensions of a 5, a headline, and what more is known."""
+
+    def __init__(self, number, node, headline, more=(), pair=(0, 0)):
+        self.number, self.node, self.pair, self.headline, self.more = number, node, pair, headline, list(more)
+
+    def key(self):
+        return self.number, self.node, *self.pair
+
+
+class Arc:
+    """An arc of a node on a side: explicit to a node, or implicit at a position of the orbit type."""
+
+    def __init__(self, to=None, position=None, place=None):
+        self.to, self.position, self.place = to, position, place
+
+    def same(self, other):
+        return (self.to, self.position) == (other.to, other.position)
+
+
+class Side:
+    """The arcs of one side: arcs[v][i] lists the arcs of dimension i at node v."""
+
+    def __init__(self, s, name):
+        self.s, self.name = s, name
+        self.arcs = [{} for _ in s.nodes]
+        for arc in sorted(s.arcs[name]):
+            dimension, a, b = arc
+            for v, to in {(a, b), (b, a)}:
+                self.arcs[v].setdefault(dimension, []).append(Arc(to=to, place=s.arc_places[name].get(arc)))
+        for v, node in enumerate(s.nodes):
+            for position, dimension in enumerate(node[1 if name == "left" else 2]):
+                if dimension != REMOVES:
+                    self.arcs[v].setdefault(dimension, []).append(Arc(position=position))
+
+    def only(self, v, i):
+        """The arc of a dimension at a node, once incidence is known to hold."""
+        return self.arcs[v].get(i, [None])[0]
+
+    def said(self, v, i, arc):
+        if arc.position is not None:
+            return f"{i} in its word under orbit {self.s.orbit[arc.position]}"
+        line = "" if arc.place is None else f" ({arc.place})" if arc.place.startswith("byte") else f" (line {arc.place})"
+        return f"{i} to {'itself' if arc.to == v else f'node {arc.to}'}{line}"
+
+    def has(self, v, dimensions=None):
+        """What a node has on this side."""
+        arcs = [self.said(v, i, arc) for i in sorted(self.arcs[v]) if dimensions is None or i in dimensions for arc in self.arcs[v][i]]
+        return f"on the {self.name} node {v} has {listed(arcs)}"
+
+    def open_cycle(self, v, i, j):
+        """None where the node is on an ij-cycle of this side, else what keeps it from one."""
+        for d in (i, j):
+            if self.only(v, d) is None:
+                return f"it lacks an arc of dimension {d}"
+        first, second = self.only(v, i), self.only(v, j)
+        if first.to is not None and second.to is not None:
+            return self.open_walk(v, i, j)
+        if first.to is None and second.to is None:
+            here, there = self.s.orbit[first.position], self.s.orbit[second.position]
+            return None if abs(here - there) >= 2 else f"{i} and {j} stand in its word under orbit {here} and {there}, which are not two apart"
+        straight, turned, d = (first, second, j) if first.to is not None else (second, first, i)
+        far = self.only(straight.to, d)
+        if far is not None and far.position == turned.position:
+            return None
+        found = "lacks it" if far is None else "has " + self.said(straight.to, d, far)
+        return f"{d} must stand under orbit {self.s.orbit[turned.position]} at node {straight.to} too, which {found}"
+
+    def open_walk(self, v, i, j):
+        at, way = v, str(v)
+        for d in (i, j, i, j):
+            arc = self.only(at, d)
+            if arc is None or arc.to is None:
+                return f"the walk {way} ends at node {at}, which lacks an arc of dimension {d} to a node"
+            at = arc.to
+            way += f" -{d}- {at}"
+        return None if at == v else f"the walk {way} does not lead back"
+
+
+def word_text(word):
+    return "'" + " ".join("_" if d == REMOVES else str(d) for d in word) + "'"
+
+
+def hook_refusals(s, left):
+    kind, word, _ = s.nodes[0]
+    if kind == ADDED:
+        yield Refusal(3, 0, "the hook is added, and must be preserved or deleted")
+    elif word != s.orbit:
+        yield Refusal(3, 0, f"the left word of the hook is {word_text(word)}, and must be the orbit type, {word_text(s.orbit)}")
+    reached, ways = {0}, [0]
+    while ways:
+        arcs = left.arcs[ways.pop()]
+        more = {arc.to for these in arcs.values() for arc in these if arc.to is not None} - reached
+        reached |= more
+        ways += more
+    for v, node in enumerate(s.nodes):
+        if node[0] != ADDED and v not in reached:
+            yield Refusal(3, v, "no left arcs lead to it from node 0", [f"node 0 reaches {listed(sorted(reached))}; {left.has(v)}"])
+
+
+def incidence_refusals(s, left, right):
+    every = set(range(s.n + 1))
+    for v, (kind, _, _) in enumerate(s.nodes):
+        reasons = []
+        for side in (left, right):
+            for i, arcs in sorted(side.arcs[v].items()):
+                if len(arcs) > 1:
+                    reasons.append(f"it has {len(arcs)} arcs of dimension {i} on the {side.name} side, and may have one")
+        here, there = set(left.arcs[v]), set(right.arcs[v])
+        if kind == PRESERVED:
+            for have, other, a, b in ((here, there, "left", "right"), (there, here, "right", "left")):
+                if have - other:
+                    reasons.append(f"it is preserved, has {listed(sorted(have - other))} on the {a} side and lacks {'it' if len(have - other) == 1 else 'them'} on the {b}")
+        else:
+            lacking = every - (here if kind == DELETED else there)
+            if lacking:
+                reasons.append(f"it is {NAMES[kind]}, must have each dimension on the {'left' if kind == DELETED else 'right'} side and lacks {listed(sorted(lacking))}")
+        if reasons:
+            sides = {PRESERVED: (left, right), DELETED: (left,), ADDED: (right,)}[kind]
+            yield Refusal(4, v, reasons[0], reasons[1:] + [side.has(v) for side in sides])
+
+
+def cycle_refusals(s, left, right):
+    for v, (kind, _, _) in enumerate(s.nodes):
+        if kind == DELETED:
+            continue
+        for i, j in ((i, j) for i in range(s.n + 1) for j in range(i + 2, s.n + 1)):
+            pair, why = f"dimensions {i} and {j}", right.open_cycle(v, i, j)
+            if kind == ADDED or left.open_cycle(v, i, j) is None:
+                if why is not None:
+                    headline = f"{pair} close no cycle on the right side" + (", as they do on the left" if kind == PRESERVED else "")
+                    more = [f"{why}; {right.has(v, (i, j))}"] + ([left.has(v, (i, j))] if kind == PRESERVED else [])
+                    yield Refusal(5, v, headline, more, (i, j))
+                continue
+            arcs = [(left.only(v, d), right.only(v, d)) for d in (i, j)]
+            if any(a is not b and (a is None or b is None or not a.same(b)) for a, b in arcs):
+                headline = f"{pair} close no cycle on the left side, so their arcs must be the same on both sides"
+                yield Refusal(5, v, headline, [f"{left.open_cycle(v, i, j)}; {left.has(v, (i, j))}", right.has(v, (i, j))], (i, j))
+
+
+def scheme_refusals(s):
+    """The refusals that a scheme in the form gives reason for; the kernel answers with the first. Those of a number end the search, as
+    the next condition speaks of schemes that meet the ones before."""
+    left, right = Side(s, "left"), Side(s, "right")
+    for refusals in (hook_refusals(s, left), incidence_refusals(s, left, right), cycle_refusals(s, left, right)):
+        found = list(refusals)
+        if found:
+            return found
+    return []
+
+
+def scheme_refusal(kernel, path, data):
+    """Nothing where the kernel accepts the scheme in the file, else lines that say why not. A text that is no scheme's is a fault."""
+    answer = kernel.check_scheme(bytes_in(data))
+    if answer.number == 0:
+        return []
+    try:
+        s = scheme_in(data)
+    except Fault as fault:
+        if answer.number == 2:
+            return [f"{path}:{fault.place}: refused 2: {fault}"]
+        return [f"{path}: refused {answer.number}: {answer.words}; {NO_REASON}"]
+    key = (answer.number, answer.node, answer.i, answer.j)
+    found = next((r for r in scheme_refusals(s) if r.key() == key), None)
+    if found:
+        return [f"{path}:{s.node_places[found.node]}: node {found.node}: refused {found.number}: {found.headline}", *("    " + line for line in found.more)]
+    at = f"node {answer.node}: " if answer.number in (3, 4, 5) else ""
+    pair = f" (dimensions {answer.i} and {answer.j})" if answer.number == 5 else ""
+    return [f"{path}: {at}refused {answer.number}: {answer.words}{pair}; {NO_REASON}"]
+
+
+# ---- maps
+
+def map_faults(m):
+    """What keeps a map in the form from being well-formed, as (slot, words)."""
+    for x, (links, _) in sorted(m.live.items()):
+        for i, y in enumerate(links):
+            if y >= m.slots:
+                yield x, f"α{i} leads to {y}, and there are {m.slots} slots"
+            elif y not in m.live:
+                yield x, f"α{i} leads to {y}, which is unused"
+            elif m.live[y][0][i] != x:
+                yield x, f"α{i} leads to {y}, whose α{i} leads to {m.live[y][0][i]} and not back"
+        for i in range(m.n + 1):
+            for j in range(i + 2, m.n + 1):
+                at, way = x, []
+                for d in (i, j, i, j):
+                    at = m.live[at][0][d]
+                    way.append(at)
+                    if at not in m.live:
+                        break
+                if at in m.live and at != x:
+                    yield x, f"α{i}, α{j}, α{i}, α{j} lead to {', '.join(map(str, way))} and not back"
+
+
+def map_refusal(kernel, path, data):
+    """Nothing where the kernel reads the map in the file, else lines that say why not. A text that is no map's is a fault."""
+    file = file_in(data)
+    n, slots = head(file) or (2, 1)  # a file too short to say has no form for any table
+    answer, _ = kernel.read(n, slots, file)
+    if answer.number == 0:
+        return []
+    refused = f"refused {answer.number}: "
+    try:
+        m = map_in(data)
+    except Fault as fault:
+        if answer.number in (1, 11):
+            return [f"{path}:{fault.place}: {refused}{fault}"]
+        return [f"{path}: {refused}{answer.words}; {NO_REASON}"]
+    faults = list(map_faults(m)) if answer.number == 7 else []
+    if not faults:
+        return [f"{path}: {refused}{answer.words}; {NO_REASON}"]
+    return [f"{path}: {refused}{answer.words}", *(f"{path}:{m.places[x]}: slot {x}: {words}" for x, words in faults)]

@@ -1,0 +1,136 @@
+"""The kernel's calls, from its archive: made a shared library by the C compiler, once for each archive."""
+import ctypes
+import functools
+import glob
+import hashlib
+import os
+import shlex
+import subprocess
+
+from gmap.files import Trouble, complain
+
+ROOT = os.path.dirname(os.path.dirname(os.path.dirname(os.path.abspath(__file__))))
+HERE = os.path.join(ROOT, "tools", "gmap")
+BUILT = os.path.join(ROOT, "target", "tools")
+
+
+def changed(path):
+    """When the file was last changed; before everything else where it is not there."""
+    try:
+        return os.stat(path).st_mtime_ns
+    except FileNotFoundError:
+        return -1
+
+
+def made(out, sources, command, what):
+    """The file `out`, made anew by `command` with a name to write to where it is not newer than its sources."""
+    if changed(out) > max(map(changed, sources)):
+        return out
+    os.makedirs(BUILT, exist_ok=True)
+    part = f"{out}.{os.getpid()}.part"
+    try:
+        done = subprocess.run(command(part), stdin=subprocess.DEVNULL, stdout=subprocess.PIPE, stderr=subprocess.STDOUT, text=True, errors="replace")
+        if done.returncode != 0:
+            raise Trouble(f"{what} was not built:\n{done.stdout}")
+        os.utime(part)
+        os.replace(part, out)
+    except OSError as error:
+        raise Trouble(f"{what} was not built: {error.filename}: {error.strerror}") from None
+    finally:
+        if os.path.exists(part):
+            os.remove(part)
+    return out
+
+
+def archive():
+    """The archive that GMAP_ARCHIVE names, else that of these sources."""
+    named = os.environ.get("GMAP_ARCHIVE")
+    if named:
+        if not os.path.isfile(named):
+            raise Trouble(f"GMAP_ARCHIVE names {named}, which is no file")
+        return os.path.abspath(named)
+    sources = glob.glob(os.path.join(ROOT, "crates", "*", "src", "**", "*.rt"), recursive=True)
+    tool = os.path.join(ROOT, "tools", "archive")
+
+    def command(out):
+        complain("tools/archive builds the kernel's archive for these sources, which takes a minute")
+        return [tool, out]
+    return made(os.path.join(BUILT, "libkernel.a"), [tool, *sources], command, "the kernel's archive")
+
+
+def library():
+    kernel, header = archive(), os.path.join(ROOT, "include", "gmap.h")
+    functions = os.path.join(HERE, "library.c")
+    name = "kernel-" + hashlib.sha256(kernel.encode()).hexdigest()[:16] + ".so"
+
+    def command(out):
+        return [*shlex.split(os.environ.get("CC") or "gcc"), "-std=c11", "-O1", "-fPIC", "-shared", "-I", os.path.dirname(header), functions,
+                "-Wl,--whole-archive", kernel, "-Wl,--no-whole-archive", "-o", out]
+    path = made(os.path.join(BUILT, name), [kernel, header, functions, os.path.abspath(__file__)], command, "the kernel's library")
+    try:
+        return ctypes.CDLL(path)
+    except OSError as error:
+        raise Trouble(f"the kernel's library cannot be loaded: {error}") from None
+
+
+class Answer:
+    """An answer of the kernel: its number and values by the names of gmap.h, and its words."""
+
+    def __init__(self, tool, word):
+        for name in ("number", "node", "i", "j", "orbit", "added", "deleted", "length"):
+            setattr(self, name, tool(name, word))
+        self.words = tool("words", self.number).decode()
+
+
+def lent(kind, values):
+    """A buffer, which is not null where there are no values."""
+    buffer = (kind * max(len(values), 1))()
+    buffer[:len(values)] = values
+    return buffer, ctypes.c_size_t(len(values))
+
+
+class Kernel:
+    """The calls. A table is what `read` gives; only the kernel looks into it."""
+
+    @staticmethod
+    @functools.lru_cache
+    def loaded():
+        return Kernel(library())
+
+    def __init__(self, calls):
+        self.calls = calls
+        for name in ("check_scheme", "read", "edit", "write"):
+            getattr(calls, "gmap_" + name).restype = ctypes.c_uint64
+        for name in ("number", "node", "i", "j", "orbit", "added", "deleted"):
+            getattr(calls, "tool_" + name).argtypes = [ctypes.c_uint64]
+        calls.tool_length.argtypes, calls.tool_length.restype = [ctypes.c_uint64], ctypes.c_uint64
+        calls.tool_words.restype = ctypes.c_char_p
+        self.record, self.store = calls.tool_record(), calls.tool_store()
+        self.max_file, self.max_scheme = calls.tool_max_file(), calls.tool_max_scheme()
+
+    def answer(self, word):
+        return Answer(lambda name, value: getattr(self.calls, "tool_" + name)(value), word)
+
+    def words(self, number):
+        return self.calls.tool_words(number).decode()
+
+    def check_scheme(self, scheme):
+        return self.answer(self.calls.gmap_check_scheme(*lent(ctypes.c_uint8, scheme)))
+
+    def read(self, n, slots, file):
+        """The answer, and the table, which is all zero where the file is refused."""
+        table, length = lent(ctypes.c_uint32, [0] * (self.record * slots))
+        return self.answer(self.calls.gmap_read(n, slots, table, length, *lent(ctypes.c_uint8, file))), table
+
+    def edit(self, n, slots, table, scheme, dart):
+        store, length = lent(ctypes.c_uint32, [0] * (self.store * slots))
+        return self.answer(self.calls.gmap_edit(n, slots, table, ctypes.c_size_t(self.record * slots), store, length,
+                                                *lent(ctypes.c_uint8, scheme), ctypes.c_uint32(dart)))
+
+    def write(self, n, slots, table):
+        """The map file; the table must be one that `read` or `edit` left."""
+        out, length = lent(ctypes.c_uint8, bytes(self.max_file))
+        answer = self.answer(self.calls.gmap_write(n, slots, table, ctypes.c_size_t(self.record * slots), out, length))
+        if answer.number != 0:
+            raise Trouble(f"the map was not written: refused {answer.number}: {answer.words}")
+        return bytes(out[:answer.length])
