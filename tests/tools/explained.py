@@ -184,6 +184,9 @@ class Schemes(Case):
         self.assertEqual((done.returncode, done.stdout, done.stderr), (0, f"schemes/split-edge.scheme: accepted\n{without}: accepted\n{bytes_}: accepted\n", ""))
 
     def test_a_text_that_is_no_scheme(self):
+        path = self.file("a.scheme", "n 2\norbit\nnode 0 preserved ->\nbytes 2 0 1 2 0 1\n")
+        done = run("tools/scheme", "explain", path)
+        self.assertEqual((done.returncode, done.stderr), (1, f"{path}:4:17: found 1 as byte 6 of the scheme, expected 0\n"))
         path = self.file("a.scheme", "n 2\norbit 0 3\n")
         done = run("tools/scheme", "explain", path, "no/such/file")
         self.assertEqual((done.returncode, done.stderr), (1, f"{path}:2:9: found '3', expected a dimension 0, 1 or 2\nno/such/file: No such file or directory\n"))

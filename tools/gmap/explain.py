@@ -10,10 +10,10 @@ ADDED, DELETED, PRESERVED = KINDS["added"], KINDS["deleted"], KINDS["preserved"]
 NO_REASON = "this tool finds no reason for it"
 
 
-def listed(things, last="and"):
+def listed(things):
     """'0, 1 and 2'."""
     words = [str(thing) for thing in things]
-    return words[0] if len(words) == 1 else ", ".join(words[:-1]) + f" {last} " + words[-1] if words else "nothing"
+    return " and ".join([", ".join(words[:-1]), words[-1]] if len(words) > 1 else words) or "nothing"
 
 
 # ---- schemes

@@ -6,8 +6,9 @@ import hashlib
 import os
 import shlex
 import subprocess
+import sys
 
-from gmap.files import Trouble, complain
+from gmap.files import Trouble, complain, data_of
 
 ROOT = os.path.dirname(os.path.dirname(os.path.dirname(os.path.abspath(__file__))))
 HERE = os.path.join(ROOT, "tools", "gmap")
@@ -22,24 +23,20 @@ def changed(path):
         return -1
 
 
-def made(out, sources, command, what):
-    """The file `out`, made anew by `command` with a name to write to where it is not newer than its sources."""
-    if changed(out) > max(map(changed, sources)):
-        return out
-    os.makedirs(BUILT, exist_ok=True)
+def make(out, command, what):
+    """Has `command` make a file, which is there whole or not at all."""
     part = f"{out}.{os.getpid()}.part"
     try:
+        os.makedirs(BUILT, exist_ok=True)
         done = subprocess.run(command(part), stdin=subprocess.DEVNULL, stdout=subprocess.PIPE, stderr=subprocess.STDOUT, text=True, errors="replace")
         if done.returncode != 0:
             raise Trouble(f"{what} was not built:\n{done.stdout}")
-        os.utime(part)
         os.replace(part, out)
     except OSError as error:
         raise Trouble(f"{what} was not built: {error.filename}: {error.strerror}") from None
     finally:
         if os.path.exists(part):
             os.remove(part)
-    return out
 
 
 def archive():
@@ -50,23 +47,22 @@ def archive():
             raise Trouble(f"GMAP_ARCHIVE names {named}, which is no file")
         return os.path.abspath(named)
     sources = glob.glob(os.path.join(ROOT, "crates", "*", "src", "**", "*.rt"), recursive=True)
-    tool = os.path.join(ROOT, "tools", "archive")
-
-    def command(out):
-        complain("tools/archive builds the kernel's archive for these sources, which takes a minute")
-        return [tool, out]
-    return made(os.path.join(BUILT, "libkernel.a"), [tool, *sources], command, "the kernel's archive")
+    tool, out = os.path.join(ROOT, "tools", "archive"), os.path.join(BUILT, "libkernel.a")
+    if changed(out) <= max(map(changed, [tool, *sources])):
+        if sys.stderr.isatty():
+            complain("tools/archive builds the kernel's archive for these sources, which takes a minute")
+        make(out, lambda part: [tool, part], "the kernel's archive")
+    return out
 
 
 def library():
-    kernel, header = archive(), os.path.join(ROOT, "include", "gmap.h")
-    functions = os.path.join(HERE, "library.c")
-    name = "kernel-" + hashlib.sha256(kernel.encode()).hexdigest()[:16] + ".so"
-
-    def command(out):
-        return [*shlex.split(os.environ.get("CC") or "gcc"), "-std=c11", "-O1", "-fPIC", "-shared", "-I", os.path.dirname(header), functions,
-                "-Wl,--whole-archive", kernel, "-Wl,--no-whole-archive", "-o", out]
-    path = made(os.path.join(BUILT, name), [kernel, header, functions, os.path.abspath(__file__)], command, "the kernel's library")
+    """The library, which is named after what it is made of, so that another archive or header makes another."""
+    kernel, header, functions = archive(), os.path.join(ROOT, "include", "gmap.h"), os.path.join(HERE, "library.c")
+    sources = b"".join(hashlib.sha256(data_of(path)).digest() for path in (kernel, header, functions, os.path.abspath(__file__)))
+    path = os.path.join(BUILT, f"kernel-{hashlib.sha256(sources).hexdigest()[:16]}.so")
+    if not os.path.exists(path):
+        make(path, lambda part: [*shlex.split(os.environ.get("CC") or "gcc"), "-std=c11", "-O1", "-fPIC", "-shared", "-I", os.path.dirname(header),
+                                 functions, "-Wl,--whole-archive", kernel, "-Wl,--no-whole-archive", "-o", part], "the kernel's library")
     try:
         return ctypes.CDLL(path)
     except OSError as error:
