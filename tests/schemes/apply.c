@@ -108,6 +108,7 @@ int main(int argc, char **argv)
 {
     uint8_t scheme[LONGEST + 1];
     if (argc != 4) fail("usage", "apply SCHEME MAP DART");
+    if (!argv[3][0] || strspn(argv[3], "0123456789") != strlen(argv[3]) || strlen(argv[3]) > 9) fail(argv[3], "no dart's number");
     size_t length = read_scheme(argv[1], scheme, sizeof scheme);
     read_map(argv[2]);
     if (gmap_check_table(n, slots, table, RECORD * slots) != 0) fail(argv[2], "not well-formed");

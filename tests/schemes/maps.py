@@ -54,7 +54,9 @@ class Maps(unittest.TestCase):
             return file.read()
 
     def test_text_to_file_and_back(self):
-        for path in glob.glob("schemes/maps/*.map"):
+        paths = glob.glob("schemes/maps/*.map")
+        self.assertGreaterEqual(len(paths), 5)
+        for path in paths:
             with self.subTest(path):
                 self.assertEqual(run("assemble", path, "-o", self.file).returncode, 0)
                 self.assertEqual(meaning(run("show", self.file).stdout), meaning(self.read(path).decode()))
