@@ -30,8 +30,9 @@
 extern "C" {
 #endif
 
-/* The version of this interface, 100 times its first number and its second: 1.0. The second grows where something is added; the
- * first where a program that was written for the version before must be looked at again. */
+/* The version of this interface, 100 times its first number and its second: 1.0.
+ * The second grows where something is added; the first where a program that was
+ * written for the version before must be looked at again. */
 #define GMAP_VERSION 100
 
 /* ---- limits and sizes */
@@ -98,7 +99,8 @@ uint64_t gmap_check_scheme(const uint8_t *scheme, size_t scheme_len);
  * they are, and every further state is 0:
  *
  *     memcpy(larger, table, sizeof *table * GMAP_RECORD * slots);
- *     memset(larger + GMAP_RECORD * slots, 0, sizeof *larger * GMAP_RECORD * (more - slots));
+ *     memset(larger + GMAP_RECORD * slots, 0,
+ *            sizeof *larger * GMAP_RECORD * (more - slots));
  *
  * The same edit is then made with `more` slots and a store of GMAP_STORE * more
  * words. A map file names its number of slots, so it is written anew. */

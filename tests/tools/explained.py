@@ -274,6 +274,8 @@ class Maps(Case):
         small, large, out = self.file("small", b"\2"), self.file("large", b"\2" * 14346), self.path("out")
         for words, said in (((small, small, "1", "70000"), "the darts: found dart 70000, expected at most 65535, as a dart has two bytes"),
                             ((large, small), f"{large}: found 14346 bytes, expected at most 14345"),
+                            (("schemes/maps/bend.map", small), "schemes/maps/bend.map: found a text, expected a map file, which tools/map assemble makes of it"),
+                            ((small, "schemes/split-edge.scheme"), "schemes/split-edge.scheme: found a text, expected a scheme's bytes, which tools/scheme assemble makes of it"),
                             ((small, large), f"{large}: found 14346 bytes, expected at most 537"),
                             ((small, small, *["0"] * 1025), "the darts: found 1025 darts, expected at most 1024")):
             done = run("tools/map", "bench", *words, "-o", out)

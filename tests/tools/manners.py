@@ -57,6 +57,8 @@ class Manners(Case):
         self.assertRaises(OSError, files.write_whole, self.path("no/such"), b"new")
         self.assertRaises(OSError, files.write_whole, self.folder, b"new")
         files.write_whole("/dev/null", b"new")
+        done = run("tools/apply", "schemes/maps/bend.map", "split-edge", "2", "-o", "/dev/stdout", "--text")
+        self.assertEqual((done.stdout.split("\n")[:2], done.stderr), (["n 2", "slots 24"], ""))
         self.assertEqual(sorted(os.listdir(self.folder)), ["link", "old"])
 
 

@@ -53,7 +53,6 @@ def lines_of(text):
 
 def write_whole(path, data):
     """Writes a file so that it is there whole or not at all; what is no plain file, as a pipe, is written straight."""
-    path = os.path.realpath(path)
     try:
         mode = os.stat(path).st_mode
     except FileNotFoundError:
@@ -62,6 +61,7 @@ def write_whole(path, data):
         with open(path, "wb") as file:
             file.write(data)
         return
+    path = os.path.realpath(path)
     part = f"{path}.{os.getpid()}.part"
     try:
         with open(part, "xb") as file:

@@ -132,6 +132,10 @@ class Misfit(Exception):
 
 def bench_input(map_file, scheme, darts):
     """The bench program's input: each section after its two-byte count."""
+    for section, data, expected in (("map", map_file, "a map file, which tools/map assemble makes of it"),
+                                    ("scheme", scheme, "a scheme's bytes, which tools/scheme assemble makes of it")):
+        if data and is_text(data):
+            raise Misfit(section, f"found a text, expected {expected}")
     for section, found, unit, most in (("map", len(map_file), "bytes", LONGEST), ("scheme", len(scheme), "bytes", LONGEST_SCHEME),
                                        ("darts", len(darts), "darts", DARTS)):
         if found > most:
