@@ -36,7 +36,7 @@ abbrev pub Counted : ℕ → List ℕ → List ℕ → ℕ → List ℕ → Type
 Counted N t b d v = (O : ℕ → Bool) × Orbit N t b d O × (v ≡ counts N t b O)
 
 pub record Demand1 (K : Kernel) : Type 0 where
-  -- every call answers with the refusal that document 01's order puts first, with its values, and is done where none applies
+  -- every call answers with the refusal that the order of docs/RULES.md puts first, with its values, and is done where none applies
   pub tableOrder : (n N : ℕ) (t : List ℕ) (r : Answer) → K .TableCheck n N t r → FirstOf (tableRefusals n N t []) Nothing r
   pub schemeOrder : (b : List ℕ) (r : Answer) → K .SchemeCheck b r → FirstOf (schemeRefusals b []) Nothing r
   pub editOrder : (n N : ℕ) (t store b : List ℕ) (d : ℕ) (r : Answer) (t′ store′ : List ℕ) → K .Edit n N t store b d r t′ store′

@@ -73,7 +73,7 @@ module _ (b : List ℕ) (q : inForm b ≡ true) where
   unfolding arcsForm
   arcs-few side = leb-true _ _ (and-left _ _ (form-arcs side))
 
-  -- document 01: "The longest scheme has 537 bytes"; the bench program's limit relies on it: no scheme in the form is too long for it
+  -- docs/RULES.md: the longest scheme has 537 bytes; the bench program's limit relies on it: no scheme in the form is too long for it
   pub form-short : length b ≤ 537
   unfolding inForm
   form-short =
