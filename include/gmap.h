@@ -8,6 +8,8 @@
  * Every call takes any arguments whatever, tests them, and answers with one
  * 64-bit word that the functions at the end of this file take apart. Of several
  * refusals that apply, the one listed first at the call is given.
+ * docs/RULES.md has the rules in full: when a table is well-formed, when a scheme
+ * is accepted, what an edit does, and every byte of a scheme and of a map file.
  *
  * Buffers. A buffer is a pointer and its number of elements (words or bytes as
  * the pointer's type says). It must be readable over that length and, where it

@@ -12,7 +12,7 @@ ORDER = ["n", "orbit", "node", "left", "right", "bytes"]
 
 
 class Scheme:
-    """A scheme in the form: the words and arcs as document 01 lists them."""
+    """A scheme in the form: the words and arcs as docs/RULES.md lists them."""
 
     def __init__(self):
         self.n = None
