@@ -1,5 +1,5 @@
 -- 'The dart table': a map looked at through a view, the state, links and tag of each slot. All rules are over the view.
--- The table's layout, six words a slot, stands in `view`, `tableSize` and `tableOf` alone.
+-- The table's layout, six words a slot, is `view`, `tableSize` and `tableOf`.
 -- Assumes nothing.
 use Prim.Native.Nat.{ℕ, _+_, _*_}
 use mathlib.Core.Bool.{Bool}

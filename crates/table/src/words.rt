@@ -1,4 +1,4 @@
-// The words of a table, one by one: the table's layout, six words a slot, stands in this file alone.
+// The words of a table, one by one, by its layout of six words a slot.
 ghost use mathlib.Core.Path.{_≡_};
 ghost use Prim.Native.Nat.{_<_, _≤_};
 ghost use lib.ListN.{length, replicate};
