@@ -1,0 +1,386 @@
+#!/usr/bin/env python3
+"""Pictures: those of the catalogue are what is drawn now, and a check that something was changed says so; what a map's picture shows
+is held to the map's records; any map and any scheme in the form is drawn; the same input gives the same bytes."""
+import glob
+import math
+import os
+import random
+import re
+import shutil
+import sys
+import unittest
+import xml.etree.ElementTree as ElementTree
+
+from common import ROOT, Case, run
+
+from gmap import draw_map, draw_scheme, graphviz, map as maps
+from gmap.files import data_of
+from gmap.layout import DISC
+from gmap.scheme import scheme_in
+
+SVG = "{http://www.w3.org/2000/svg}"
+PLACES = {"x", "y", "cx", "cy", "d", "width", "height", "viewBox"}
+NUMBER = r"-?[0-9.]+"
+
+
+def names():
+    return sorted(os.path.basename(path)[:-len(".scheme")] for path in glob.glob("schemes/*.scheme"))
+
+
+def map_at(path):
+    return maps.map_in(data_of(path))
+
+
+def torus(width, height):
+    """A map without a free edge: squares in a grid, the last joined to the first."""
+    m = maps.Map(2, 1024)
+
+    def dart(x, y, k):
+        return ((y % height) * width + x % width) * 8 + k
+    over = [(0, -1, 5), (0, -1, 4), (1, 0, 7), (1, 0, 6), (0, 1, 1), (0, 1, 0), (-1, 0, 3), (-1, 0, 2)]
+    for y in range(height):
+        for x in range(width):
+            for k, (dx, dy, other) in enumerate(over):
+                links = [dart(x, y, k ^ 1), dart(x, y, (k + (1 if k % 2 else -1)) % 8), dart(x + dx, y + dy, other)]
+                m.live[dart(x, y, k)] = (links, 4711 + (x + y) % 14)
+    return m
+
+
+def some_map(source):
+    """Some map in the form: broken at random, or of sound links that may break the rule for two dimensions."""
+    n, slots = source.choice((2, 3)), source.choice((1, 2, 4, 8, 16))
+    m = maps.Map(n, slots)
+    live = [slot for slot in range(slots) if source.random() < 0.8]
+    links = {slot: [slot] * (n + 1) for slot in live}
+    if source.random() < 0.4:
+        links = {slot: [source.choice((slot, source.randrange(slots), source.randrange(65536))) for _ in range(n + 1)] for slot in live}
+    else:
+        for i in range(n + 1):
+            free = source.sample(live, len(live))
+            while len(free) > 1:
+                a, b = free.pop(), free.pop()
+                if source.random() < 0.8:
+                    links[a][i], links[b][i] = b, a
+    m.live = {slot: (links[slot], source.choice((0, 7, 0xFFFFFFFF))) for slot in live}
+    return m
+
+
+class Seen:
+    """What stands in the picture of one map: the discs of darts by slot, the lines and the numbers at ends by dimension."""
+
+    def __init__(self, svg):
+        self.root = ElementTree.fromstring(svg)
+        self.discs, self.said, self.marks = {}, {}, {}
+        for group in self.root.iter(SVG + "g"):
+            slot = int(group.find(SVG + "text").text)
+            disc = group.findall(SVG + "circle")[-1]
+            self.discs.setdefault(slot, []).append((float(disc.get("cx")), float(disc.get("cy"))))
+            self.said.setdefault(slot, []).append(group.find(SVG + "title").text)
+            self.marks.setdefault(slot, []).append(disc.get("class").split()[0])
+        self.lines = {i: self.lines_of(i) for i in range(4)}
+        self.numbers = {i: [text.text for text in self.root.iter(SVG + "text") if text.get("class") == f"n{i}"] for i in range(4)}
+
+    def lines_of(self, i):
+        """The two ends of each line of a class."""
+        found = []
+        for path in self.root.iter(SVG + "path"):
+            if path.get("class") == f"a{i}":
+                for part in re.findall("M[^M]*", path.get("d")):
+                    numbers = [float(x) for x in re.findall(NUMBER, part)]
+                    found.append((tuple(numbers[:2]), tuple(numbers[-2:])))
+        return found
+
+    def joins(self, i, x, y):
+        """Whether a line of dimension i leads from the disc of x to that of y."""
+        def at(p, slot):
+            return abs(math.dist(p, self.discs[slot][0]) - DISC) < 0.3
+        return any((at(p, x) and at(q, y)) or (at(p, y) and at(q, x)) for p, q in self.lines[i])
+
+
+class Maps(Case):
+    def held(self, m, svg):
+        """The picture has each dart once, apart from the others and on the paper, and each link as a line or by its number."""
+        seen = Seen(svg)
+        self.assertEqual(sorted(seen.discs), sorted(m.live))
+        width, height = float(seen.root.get("width")), float(seen.root.get("height"))
+        places = sorted((place[0][0], place[0][1], slot) for slot, place in seen.discs.items())
+        for k, (x, y, slot) in enumerate(places):
+            self.assertTrue(DISC < x < width - DISC and DISC < y < height - DISC, slot)
+            for a, b, other in places[k + 1:]:
+                if a > x + 2 * DISC:
+                    break
+                self.assertGreater(math.hypot(x - a, y - b), 2 * DISC, (slot, other))
+        for slot, (links, tag) in m.live.items():
+            self.assertEqual(seen.said[slot], [f"dart {slot}: " + ", ".join(f"α{i} {y}" for i, y in enumerate(links)) + f", tag {tag}"])
+        for i in range(m.n + 1):
+            pairs = [(x, record[0][i]) for x, record in m.live.items() if record[0][i] != x]
+            far = [str(y) for x, y in pairs if not seen.joins(i, x, y)]
+            shown = sorted(seen.numbers[i])
+            if far and i == min(k for k in range(4) if seen.numbers[k]):
+                shown.remove("12")  # the legend's sample
+            self.assertEqual(sorted(far), shown, f"dimension {i}")
+            if i < 2:
+                self.assertEqual(far, [])
+
+    def test_samples(self):
+        paths = sorted(glob.glob("schemes/maps/*.map"))
+        self.assertGreaterEqual(len(paths), 8)
+        for path in paths:
+            with self.subTest(path):
+                self.held(map_at(path), draw_map.drawn([map_at(path)]))
+
+    def test_large(self):
+        for width, height in ((5, 3), (16, 8)):
+            m = torus(width, height)
+            self.held(m, draw_map.drawn([m]))
+        self.assertEqual(len(m.live), 1024)
+
+    def test_any_map_is_drawn(self):
+        source = random.Random(4711)
+        for _ in range(60):
+            m, other = some_map(source), some_map(source)
+            seen = Seen(draw_map.drawn([m]))
+            self.assertEqual(sorted(seen.discs), sorted(m.live))
+            other = other if other.n == m.n else m
+            seen = Seen(draw_map.drawn([m, other]))
+            self.assertEqual(sorted(seen.discs), sorted({*m.live, *other.live}))
+
+    def test_broken(self):
+        path, out = self.file("a.map", "n 2\nslots 8\n0 1 0 0 7\n1 0 5 900 7\n"), self.path("a.svg")
+        self.assertEqual(run("tools/map", "draw", path, "-o", out).returncode, 0)
+        texts = [text.text for text in ElementTree.fromstring(data_of(out)).iter(SVG + "text")]
+        for said in ("slot 1: α1 leads to 5, which is unused", "slot 1: α2 leads to 900, and there are 8 slots", "900", "5"):
+            self.assertIn(said, texts)
+        self.assertTrue(any(text.startswith("broken: ") for text in texts))
+
+    def test_free_and_pointed(self):
+        svg = draw_map.drawn([map_at("schemes/maps/lone.map")], 0)
+        self.assertIn("free: the link leads to its own dart", svg)
+        self.assertEqual(svg.count('class="pointed"'), 2)  # the dart and the legend
+
+    def test_before_and_after(self):
+        """Deleted and new darts are marked, and the darts of a face that keeps its form stay at their places."""
+        bend, split = map_at("schemes/maps/bend.map"), map_at("schemes/maps/bend-split.map")
+        for pair, once, mark in (((bend, split), {16, 17, 18, 19}, "new"), ((split, bend), {16, 17, 18, 19}, "gone")):
+            seen = Seen(draw_map.drawn(list(pair)))
+            self.assertEqual({slot for slot, marks in seen.marks.items() if marks == [mark]}, once)
+            self.assertEqual({slot for slot, marks in seen.marks.items() if marks == ["dart", "dart"]}, set(range(16)))
+            ways = [(after[0] - before[0], after[1] - before[1]) for before, after in (seen.discs[x] for x in range(16))]
+            self.assertLess(max(math.dist(way, ways[0]) for way in ways), 0.3)
+
+    def test_tags(self):
+        m = torus(5, 3)
+        svg = draw_map.drawn([m])
+        for k, tag in enumerate(sorted({record[1] for record in m.live.values()})):
+            count = sum(record[1] == tag for record in m.live.values())
+            self.assertIn(f">tag {tag}: {count} darts<", svg)
+            self.assertEqual(len(re.findall(f'<circle class="dart t{k}"', svg)), count)
+        fills = re.findall(r"\.t[0-9]+\{fill:(#[0-9a-f]+)\}", draw_map.drawn([torus(14, 1)]))
+        self.assertEqual(len(set(fills)), 14)
+
+
+class Schemes(Case):
+    def without_places(self, svg):
+        """The elements of a picture in order, with all but their places."""
+        return [(element.tag, "" if element.tag == SVG + "metadata" else element.text,
+                 sorted((key, value) for key, value in element.attrib.items() if key not in PLACES))
+                for element in ElementTree.fromstring(svg).iter()]
+
+    def test_graphviz_lays_out_the_catalogue(self):
+        """With the places that the Graphviz of this machine gives, a picture is the stored one but for places."""
+        for name in names():
+            with self.subTest(name):
+                out = self.path("a.svg")
+                done = run("tools/scheme", "draw", f"schemes/{name}.scheme", "-o", out)
+                self.assertEqual((done.returncode, done.stderr), (0, ""))
+                self.assertEqual(self.without_places(data_of(out)), self.without_places(data_of(f"schemes/pictures/{name}.svg")))
+
+    def test_texts_and_classes(self):
+        """Each node stands on its sides with its word and kind, each arc with its colour."""
+        for name in names():
+            with self.subTest(name):
+                s = scheme_in(data_of(f"schemes/{name}.scheme"))
+                root = ElementTree.fromstring(data_of(f"schemes/pictures/{name}.svg"))
+                texts = [(text.get("class"), text.text) for text in root.iter(SVG + "text")]
+                sides = [[(v, node) for v, node in enumerate(s.nodes) if node[0] != absent] for absent in (3, 1)]
+                self.assertEqual([text for kind, text in texts if kind == "node"], [str(v) for side in sides for v, _ in side])
+                if s.orbit:
+                    words = ["⟨" + ",".join("_" if d == 255 else str(d) for d in node[1 + k]) + "⟩" for k, side in enumerate(sides) for _, node in side]
+                    self.assertEqual([text for kind, text in texts if kind == "word"], [*words, "⟨..⟩"])
+                for i in range(4):
+                    arcs = sum(arc[0] == i for side in s.arcs.values() for arc in side)
+                    lines = sum(path.get("class") == f"a{i}" for path in root.iter(SVG + "path"))
+                    self.assertEqual(lines, arcs + (arcs > 0), f"dimension {i}")  # and one in the legend
+
+    def test_any_scheme_is_drawn(self):
+        """Sixteen nodes, every arc, two arcs of a dimension, loops, empty sides."""
+        nodes = "".join(f"node {v} preserved 0 1 2 3 -> _ _ 2 3\n" for v in range(16))
+        arcs = "left 0: 0-0 0-1 0-2 1-1 0-15\nright 1: 0-1 2-9 9-9\nright 2: 0-1\nright 3: 0-1 15-15\n"
+        for text in ("n 3\norbit 0 1 2 3\n" + nodes + arcs, "n 2\norbit\nnode 0 added ->\n", "n 2\norbit\nnode 0 deleted ->\nleft 0: 0-0\nleft 1: 0-0\nleft 2: 0-0\n"):
+            path, out = self.file("a.scheme", text), self.path("a.svg")
+            done = run("tools/scheme", "draw", path, "-o", out)
+            self.assertEqual((done.returncode, done.stderr), (0, ""))
+            ElementTree.fromstring(data_of(out))
+
+    def test_bytes_are_drawn(self):
+        run("tools/scheme", "assemble", "schemes/add-flange.scheme", "-o", self.path("a.bytes"))
+        for source, out in (("schemes/add-flange.scheme", "a.svg"), (self.path("a.bytes"), "b.svg")):
+            self.assertEqual(run("tools/scheme", "draw", source, "-o", self.path(out)).returncode, 0)
+        self.assertEqual(data_of(self.path("a.svg")), data_of(self.path("b.svg")))
+
+    def test_drawn_from_its_own_layout(self):
+        for name in names():
+            svg = data_of(f"schemes/pictures/{name}.svg").decode()
+            self.assertEqual(draw_scheme.drawn(scheme_in(data_of(f"schemes/{name}.scheme")), graphviz.drawn_before(svg)), svg)
+
+
+class Catalogue(Case):
+    """What `tools/catalogue check` says of a copy, of some operations and their texts without bytes lines, in which one thing was changed."""
+
+    KEPT = ("add-flange", "drop-piece", "look-at-edge", "merge-faces", "split-edge")
+    CHANGES = [
+        ("a word", "schemes/split-edge.scheme", "-> 1 2", "-> 2 1", "split-edge.svg: it is not what is drawn now"),
+        ("a kind", "schemes/drop-piece.scheme", "deleted 0 1 2 ->", "preserved 0 1 2 -> 0 1 2", "drop-piece.svg: it is not what is drawn now"),
+        ("an arc less", "schemes/add-flange.scheme", "2-2 ", "", "add-flange.svg: its arcs are not the scheme's"),
+        ("an arc of another dimension", "schemes/merge-faces.scheme", "right 1: 1-3", "right 2: 1-3", "merge-faces.svg: its arcs are not the scheme's"),
+        ("a node more", "schemes/split-edge.scheme", "right 0", "node 2 added -> 1 2\nright 0", "split-edge.svg: its nodes are not the scheme's"),
+        ("the orbit type", "schemes/look-at-edge.scheme", "n 2\norbit", "n 3\norbit", "look-at-edge.svg: it is not what is drawn now"),
+        ("a colour of links", "tools/gmap/look.py", '2: "#1f5fd0"', '2: "#1f5fd1"', "split-edge-sample.svg: it is not what is drawn now"),
+        ("a colour of kinds", "tools/gmap/look.py", "#d3efd3", "#d3efd4", "add-flange.svg: it is not what is drawn now"),
+        ("a link of the sample", "schemes/look-at-edge.outcome", "   0  1  7  0 4711", "   0  1  7  1 4711", "look-at-edge-sample.svg: it is not what is drawn now"),
+        ("a tag of the sample", "schemes/split-edge.outcome", "  16  2 17 19 4711", "  16  2 17 19 4712", "split-edge-sample.svg: it is not what is drawn now"),
+        ("the dart", "schemes/split-edge.outcome", "dart 2", "dart 3", "split-edge-sample.svg: it is not what is drawn now"),
+        ("the map", "schemes/maps/bend.map", "15 14  8  2  4712", "15 14  8  2  4711", "merge-faces-sample.svg: it is not what is drawn now"),
+        ("a text in a picture", "schemes/pictures/split-edge.svg", ">⟨1,2⟩<", ">⟨1,_⟩<", "split-edge.svg: it is not what is drawn now"),
+        ("a line in a picture", "schemes/pictures/split-edge-sample.svg", '<path class="a1"', '<path class="a0"', "split-edge-sample.svg: it is not what is drawn now"),
+        ("nodes on each other", "schemes/pictures/split-edge.svg", None, r"node 1 \S+ \S+|node 1 50 40", "split-edge.svg: nodes 0 and 1 lie on each other"),
+        ("an arc that ends elsewhere", "schemes/pictures/split-edge.svg", None, r"(arc 0 0 1 .*) \S+ \S+\n|\1 300 300\n", "split-edge.svg: arc 0: 0-1 does not end at its nodes"),
+        ("no layout", "schemes/pictures/split-edge.svg", "<metadata>", "<desc>", "split-edge.svg: found no layout in the picture"),
+        ("no numbers", "schemes/pictures/split-edge.svg", "node 1 ", "node one ", "split-edge.svg: found 'node one"),
+        ("no picture", "schemes/pictures/drop-piece.svg", None, None, "drop-piece.svg: there is no picture"),
+        ("no sample", "schemes/pictures/drop-piece-sample.svg", None, None, "drop-piece-sample.svg: it is not what is drawn now"),
+        ("an operation without pictures", "schemes/pictures/fold-edge.svg", "", "x", "fold-edge.svg: there is no operation of this name"),
+        ("the page", "schemes/README.md", "](pictures/drop-piece.svg)", "](pictures/split-edge.svg)", "schemes/README.md: it lacks these lines:\n### drop-piece\n"),
+        ("words of the page", "schemes/README.md", "at dart 2: The bend line", "at dart 3: The bend line", "schemes/README.md: it lacks these lines:\nOn [bend](maps/bend.map) at dart 2"),
+        ("an outcome", "schemes/drop-piece.outcome", "\nslot ", "\nslots ", "schemes/drop-piece.outcome:1: expected a line 'slot ..'"),
+        ("a record", "schemes/drop-piece.outcome", "   8  9", "   x  9", "schemes/drop-piece.outcome:8: found 'x 9 15 8 4712', expected 5 numbers"),
+    ]
+
+    def setUp(self):
+        super().setUp()
+        for folder in ("tools", "schemes"):
+            shutil.copytree(os.path.join(ROOT, folder), self.path(folder))
+        for name in set(names()) - set(self.KEPT):
+            for end in (f"{name}.scheme", f"{name}.outcome", f"pictures/{name}.svg", f"pictures/{name}-sample.svg"):
+                os.remove(self.path("schemes/" + end))
+        for name in self.KEPT:
+            text = data_of(self.path(f"schemes/{name}.scheme")).decode()
+            self.file(f"schemes/{name}.scheme", re.sub("^bytes.*\n", "", text, flags=re.M))
+
+    def check(self, word="check", **more):
+        return run(sys.executable, self.path("tools/catalogue"), word, **more)
+
+    def change(self, path, old, new):
+        """Replaces a text, or by 'pattern|text' where old is None; without both removes the file."""
+        path = self.path(path)
+        if old is None and new is None:
+            os.remove(path)
+            return
+        text = data_of(path).decode() if os.path.exists(path) else ""
+        changed = re.sub(*new.split("|"), text, count=1) if old is None else text.replace(old, new, 1)
+        self.assertNotEqual(changed, text)
+        with open(path, "w", encoding="utf-8") as file:
+            file.write(changed)
+
+    def test_stored(self):
+        done = run("tools/catalogue", "check")
+        self.assertEqual((done.returncode, done.stdout, done.stderr), (0, "", ""))
+        self.assertGreaterEqual(len(names()), 12)
+        for path in glob.glob("schemes/pictures/*"):
+            self.assertLess(os.path.getsize(path), 40000, path)
+
+    def test_changes_are_seen(self):
+        for what, path, old, new, said in self.CHANGES:
+            with self.subTest(what):
+                there = os.path.exists(self.path(path))
+                before = data_of(self.path(path)) if there else None
+                try:
+                    self.change(path, old, new)
+                    done = self.check()
+                finally:
+                    if there:
+                        self.file(path, before)
+                    elif os.path.exists(self.path(path)):
+                        os.remove(self.path(path))
+                self.assertEqual(done.returncode, 1)
+                self.assertIn(said, done.stderr)
+        self.assertEqual(self.check().returncode, 0)
+
+    def test_without_graphviz(self):
+        """Neither a check nor drawing what has its layout asks Graphviz; what has none says what is lacking."""
+        bare = dict(os.environ, PATH=self.folder)
+        self.assertEqual(self.check(env=bare).returncode, 0)
+        self.assertEqual(self.check("draw", env=bare).returncode, 0)
+        self.assertEqual(self.check(env=bare).returncode, 0)
+        os.remove(self.path("schemes/pictures/split-edge.svg"))
+        done = self.check("draw", env=bare)
+        self.assertEqual((done.returncode, done.stderr), (
+            2, "catalogue: a scheme is laid out by Graphviz, and its command dot does not start: No such file or directory\n"))
+        self.assertFalse(os.path.exists(self.path("schemes/pictures/split-edge.svg")))
+
+    def test_drawn_anew(self):
+        shutil.rmtree(self.path("schemes/pictures"))
+        self.assertEqual(self.check("draw").returncode, 0)
+        self.assertEqual(self.check().returncode, 0)
+
+
+class Use(Case):
+    def test_same_bytes(self):
+        """Neither the order of sets, nor the form of the input, nor where it lies, is in a picture."""
+        run("tools/map", "assemble", "schemes/maps/pan.map", "-o", self.path("b.gmap"))
+        drawn = set()
+        for k, path in enumerate(("schemes/maps/pan.map", self.path("b.gmap"), os.path.abspath("schemes/maps/pan.map"))):
+            out = self.path("a.svg")
+            self.assertEqual(run("tools/map", "draw", path, "-o", out, env=dict(os.environ, PYTHONHASHSEED=str(k), LC_ALL="C")).returncode, 0)
+            drawn.add(data_of(out))
+        self.assertEqual(len(drawn), 1)
+
+    def test_apply_draws(self):
+        done = run("tools/apply", "schemes/maps/bend.map", "split-edge", "2", "--draw", self.path("a.svg"))
+        self.assertEqual((done.returncode, done.stderr), (0, ""))
+        self.assertEqual(data_of(self.path("a.svg")), data_of("schemes/pictures/split-edge-sample.svg"))
+        done = run("tools/apply", "schemes/maps/bend.map", "split-edge", "23", "--draw", self.path("b.svg"))
+        self.assertEqual(done.returncode, 1)
+        self.assertFalse(os.path.exists(self.path("b.svg")))
+
+    def test_faults(self):
+        bad, form, bad_scheme = self.file("a.map", "n 2\nslots 8\n0 0\n"), self.file("a.gmap", b"\2\1"), self.file("a.scheme", "n 2\norbit 3\n")
+        good = "schemes/maps/bend.map"
+        for words, said in ((("tools/map", "draw", bad), f"{bad}:3: found '0 0', expected 5 numbers: slot, 3 links, tag\n"),
+                            (("tools/map", "draw", good, bad), f"{bad}:3: found '0 0', expected 5 numbers: slot, 3 links, tag\n"),
+                            (("tools/map", "draw", form), f"{form}:byte 3: found the end, expected the number of slots\n"),
+                            (("tools/map", "draw", good, "schemes/maps/plate.map"), f"schemes/maps/plate.map: found n = 3, expected n = 2 as in {good}\n"),
+                            (("tools/map", "draw", "no/such"), "no/such: No such file or directory\n"),
+                            (("tools/map", "draw", good, "no/such"), "no/such: No such file or directory\n"),
+                            (("tools/scheme", "draw", bad_scheme), f"{bad_scheme}:2:7: found '3', expected a dimension 0, 1 or 2\n"),
+                            (("tools/scheme", "draw", "no/such"), "no/such: No such file or directory\n")):
+            done = run(*words, "-o", self.path("out.svg"))
+            self.assertEqual((done.returncode, done.stdout, done.stderr), (1, "", said), words)
+        done = run("tools/map", "draw", good, "-o", "no/such/a.svg")
+        self.assertEqual(done.returncode, 1)
+        self.assertEqual(sorted(os.listdir(self.folder)), ["a.gmap", "a.map", "a.scheme"])
+
+    def test_use(self):
+        bend = "schemes/maps/bend.map"
+        for words in (("tools/map", "draw"), ("tools/map", "draw", bend), ("tools/map", "draw", bend, "-o"), ("tools/map", "draw", "-o", "a"), ("tools/map", "draw", bend, bend, bend, "-o", "a"),
+                      ("tools/scheme", "draw", "schemes/split-edge.scheme"), ("tools/scheme", "draw", "schemes/split-edge.scheme", "-x", "a"),
+                      ("tools/apply", bend, "split-edge", "2", "--draw"), ("tools/apply", bend, "split-edge", "2", "-o", "a.map", "--draw", "a.map"),
+                      ("tools/catalogue",), ("tools/catalogue", "paint"), ("tools/catalogue", "draw", "x")):
+            self.assertEqual(run(*words).returncode, 2, words)
+        self.assertFalse(os.path.exists("a"))
+        for tool in ("map", "scheme", "apply", "catalogue"):
+            self.assertIn("draw", run(f"tools/{tool}", "--help").stdout)
+
+
+if __name__ == "__main__":
+    sys.exit(unittest.main())
