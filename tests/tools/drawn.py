@@ -1,7 +1,9 @@
 #!/usr/bin/env python3
 """Pictures: those of the catalogue are what is drawn now, and a check that something was changed says so; what a map's picture shows
 is held to the map's records; any map and any scheme in the form is drawn; the same input gives the same bytes."""
+import contextlib
 import glob
+import io
 import math
 import os
 import random
@@ -9,13 +11,16 @@ import re
 import shutil
 import sys
 import unittest
+import unittest.mock
 import xml.etree.ElementTree as ElementTree
+from importlib.machinery import SourceFileLoader
+from importlib.util import module_from_spec, spec_from_loader
 
 from common import ROOT, Case, run
 
-from gmap import draw_map, draw_scheme, graphviz, map as maps
-from gmap.files import data_of
-from gmap.layout import DISC
+from gmap import draw_map, draw_scheme, graphviz, look, map as maps
+from gmap.files import Trouble, data_of
+from gmap.polygon import DISC
 from gmap.scheme import scheme_in
 
 SVG = "{http://www.w3.org/2000/svg}"
@@ -29,6 +34,14 @@ def names():
 
 def map_at(path):
     return maps.map_in(data_of(path))
+
+
+def sample(name):
+    """The maps before and after in the stored outcome of an operation."""
+    lines = data_of(f"schemes/{name}.outcome").decode().split("\n")
+    before = map_at("schemes/maps/" + next(line[4:] for line in lines if line.startswith("map ")) + ".map")
+    first = next(k for k, line in enumerate(lines) if line.startswith("slot ")) + 1
+    return [before, maps.map_of_text("\n".join([f"n {before.n}", f"slots {before.slots}", *lines[first:]]))]
 
 
 def torus(width, height):
@@ -98,18 +111,22 @@ class Seen:
 
 
 class Maps(Case):
-    def held(self, m, svg):
-        """The picture has each dart once, apart from the others and on the paper, and each link as a line or by its number."""
-        seen = Seen(svg)
-        self.assertEqual(sorted(seen.discs), sorted(m.live))
+    def apart(self, seen):
+        """Discs lie on the paper and on no other."""
         width, height = float(seen.root.get("width")), float(seen.root.get("height"))
-        places = sorted((place[0][0], place[0][1], slot) for slot, place in seen.discs.items())
+        places = sorted((*place, slot) for slot, found in seen.discs.items() for place in found)
         for k, (x, y, slot) in enumerate(places):
             self.assertTrue(DISC < x < width - DISC and DISC < y < height - DISC, slot)
             for a, b, other in places[k + 1:]:
                 if a > x + 2 * DISC:
                     break
                 self.assertGreater(math.hypot(x - a, y - b), 2 * DISC, (slot, other))
+
+    def held(self, m):
+        """The picture of a map has each dart once, apart from the others, and each link as a line or by its number."""
+        seen = Seen(draw_map.drawn([m]))
+        self.assertEqual(sorted(seen.discs), sorted(m.live))
+        self.apart(seen)
         for slot, (links, tag) in m.live.items():
             self.assertEqual(seen.said[slot], [f"dart {slot}: " + ", ".join(f"α{i} {y}" for i, y in enumerate(links)) + f", tag {tag}"])
         for i in range(m.n + 1):
@@ -127,12 +144,22 @@ class Maps(Case):
         self.assertGreaterEqual(len(paths), 8)
         for path in paths:
             with self.subTest(path):
-                self.held(map_at(path), draw_map.drawn([map_at(path)]))
+                self.held(map_at(path))
+
+    def test_outcomes(self):
+        for name in names():
+            with self.subTest(name):
+                before, after = sample(name)
+                self.held(after)
+                seen = Seen(data_of(f"schemes/pictures/{name}-sample.svg"))
+                self.assertEqual({slot: len(found) for slot, found in seen.discs.items()},
+                                 {slot: (slot in before.live) + (slot in after.live) for slot in {*before.live, *after.live}})
+                self.apart(seen)
 
     def test_large(self):
         for width, height in ((5, 3), (16, 8)):
             m = torus(width, height)
-            self.held(m, draw_map.drawn([m]))
+            self.held(m)
         self.assertEqual(len(m.live), 1024)
 
     def test_any_map_is_drawn(self):
@@ -216,7 +243,8 @@ class Schemes(Case):
         """Sixteen nodes, every arc, two arcs of a dimension, loops, empty sides."""
         nodes = "".join(f"node {v} preserved 0 1 2 3 -> _ _ 2 3\n" for v in range(16))
         arcs = "left 0: 0-0 0-1 0-2 1-1 0-15\nright 1: 0-1 2-9 9-9\nright 2: 0-1\nright 3: 0-1 15-15\n"
-        for text in ("n 3\norbit 0 1 2 3\n" + nodes + arcs, "n 2\norbit\nnode 0 added ->\n", "n 2\norbit\nnode 0 deleted ->\nleft 0: 0-0\nleft 1: 0-0\nleft 2: 0-0\n"):
+        for text in ("n 3\norbit 0 1 2 3\n" + nodes + arcs, "n 2\norbit\nnode 0 added ->\n",
+                     "n 2\norbit\nnode 0 deleted ->\nleft 0: 0-0\nleft 1: 0-0\nleft 2: 0-0\n"):
             path, out = self.file("a.scheme", text), self.path("a.svg")
             done = run("tools/scheme", "draw", path, "-o", out)
             self.assertEqual((done.returncode, done.stderr), (0, ""))
@@ -245,8 +273,6 @@ class Catalogue(Case):
         ("an arc of another dimension", "schemes/merge-faces.scheme", "right 1: 1-3", "right 2: 1-3", "merge-faces.svg: its arcs are not the scheme's"),
         ("a node more", "schemes/split-edge.scheme", "right 0", "node 2 added -> 1 2\nright 0", "split-edge.svg: its nodes are not the scheme's"),
         ("the orbit type", "schemes/look-at-edge.scheme", "n 2\norbit", "n 3\norbit", "look-at-edge.svg: it is not what is drawn now"),
-        ("a colour of links", "tools/gmap/look.py", '2: "#1f5fd0"', '2: "#1f5fd1"', "split-edge-sample.svg: it is not what is drawn now"),
-        ("a colour of kinds", "tools/gmap/look.py", "#d3efd3", "#d3efd4", "add-flange.svg: it is not what is drawn now"),
         ("a link of the sample", "schemes/look-at-edge.outcome", "   0  1  7  0 4711", "   0  1  7  1 4711", "look-at-edge-sample.svg: it is not what is drawn now"),
         ("a tag of the sample", "schemes/split-edge.outcome", "  16  2 17 19 4711", "  16  2 17 19 4712", "split-edge-sample.svg: it is not what is drawn now"),
         ("the dart", "schemes/split-edge.outcome", "dart 2", "dart 3", "split-edge-sample.svg: it is not what is drawn now"),
@@ -268,17 +294,22 @@ class Catalogue(Case):
 
     def setUp(self):
         super().setUp()
-        for folder in ("tools", "schemes"):
-            shutil.copytree(os.path.join(ROOT, folder), self.path(folder))
+        shutil.copytree(os.path.join(ROOT, "schemes"), self.path("schemes"))
         for name in set(names()) - set(self.KEPT):
             for end in (f"{name}.scheme", f"{name}.outcome", f"pictures/{name}.svg", f"pictures/{name}-sample.svg"):
                 os.remove(self.path("schemes/" + end))
         for name in self.KEPT:
             text = data_of(self.path(f"schemes/{name}.scheme")).decode()
             self.file(f"schemes/{name}.scheme", re.sub("^bytes.*\n", "", text, flags=re.M))
+        loader = SourceFileLoader("catalogue", "tools/catalogue")
+        self.tool = module_from_spec(spec_from_loader("catalogue", loader))
+        loader.exec_module(self.tool)
+        self.tool.SCHEMES, self.tool.PICTURES, self.tool.PAGE = (self.path(path) for path in ("schemes", "schemes/pictures", "schemes/README.md"))
 
-    def check(self, word="check", **more):
-        return run(sys.executable, self.path("tools/catalogue"), word, **more)
+    def check(self, word="check"):
+        """The tool's exit status and what it says."""
+        with contextlib.redirect_stderr(io.StringIO()) as said:
+            return self.tool.main([word]), said.getvalue()
 
     def change(self, path, old, new):
         """Replaces a text, or by 'pattern|text' where old is None; without both removes the file."""
@@ -304,34 +335,39 @@ class Catalogue(Case):
             with self.subTest(what):
                 there = os.path.exists(self.path(path))
                 before = data_of(self.path(path)) if there else None
-                try:
-                    self.change(path, old, new)
-                    done = self.check()
-                finally:
-                    if there:
-                        self.file(path, before)
-                    elif os.path.exists(self.path(path)):
-                        os.remove(self.path(path))
-                self.assertEqual(done.returncode, 1)
-                self.assertIn(said, done.stderr)
-        self.assertEqual(self.check().returncode, 0)
+                self.change(path, old, new)
+                status, complaint = self.check()
+                self.assertEqual(status, 1)
+                self.assertIn(said, complaint)
+                if there:
+                    self.file(path, before)
+                else:
+                    os.remove(self.path(path))
+                self.assertEqual(self.check(), (0, ""))
+
+    def test_colours_are_seen(self):
+        for part, key, picture in ((look.LINK, 0, "split-edge.svg"), (look.LINK, 2, "split-edge-sample.svg"), (look.DASHES, 1, "merge-faces.svg"),
+                                   (look.KIND, "added", "add-flange.svg"), (look.KIND, "deleted", "drop-piece.svg")):
+            with self.subTest(picture), unittest.mock.patch.dict(part, {key: "#123456"}):
+                self.assertIn(f"{picture}: it is not what is drawn now", self.check()[1])
+        with unittest.mock.patch.object(look, "TAGS", look.TAGS[::-1]):
+            self.assertIn("split-edge-sample.svg: it is not what is drawn now", self.check()[1])
+        self.assertEqual(self.check(), (0, ""))
 
     def test_without_graphviz(self):
         """Neither a check nor drawing what has its layout asks Graphviz; what has none says what is lacking."""
-        bare = dict(os.environ, PATH=self.folder)
-        self.assertEqual(self.check(env=bare).returncode, 0)
-        self.assertEqual(self.check("draw", env=bare).returncode, 0)
-        self.assertEqual(self.check(env=bare).returncode, 0)
-        os.remove(self.path("schemes/pictures/split-edge.svg"))
-        done = self.check("draw", env=bare)
-        self.assertEqual((done.returncode, done.stderr), (
-            2, "catalogue: a scheme is laid out by Graphviz, and its command dot does not start: No such file or directory\n"))
+        with unittest.mock.patch.dict(os.environ, PATH=self.folder):
+            for word in ("check", "draw", "check"):
+                self.assertEqual(self.check(word), (0, ""))
+            os.remove(self.path("schemes/pictures/split-edge.svg"))
+            with self.assertRaisesRegex(Trouble, "a scheme is laid out by Graphviz, and its command dot does not start: No such file or directory"):
+                self.check("draw")
         self.assertFalse(os.path.exists(self.path("schemes/pictures/split-edge.svg")))
 
     def test_drawn_anew(self):
         shutil.rmtree(self.path("schemes/pictures"))
-        self.assertEqual(self.check("draw").returncode, 0)
-        self.assertEqual(self.check().returncode, 0)
+        self.assertEqual(self.check("draw"), (0, ""))
+        self.assertEqual(self.check(), (0, ""))
 
 
 class Use(Case):
@@ -353,6 +389,12 @@ class Use(Case):
         self.assertEqual(done.returncode, 1)
         self.assertFalse(os.path.exists(self.path("b.svg")))
 
+    def test_no_graphviz(self):
+        done = run(sys.executable, "tools/scheme", "draw", "schemes/split-edge.scheme", "-o", self.path("a.svg"), env=dict(os.environ, PATH=self.folder))
+        self.assertEqual((done.returncode, done.stderr), (
+            2, "scheme: a scheme is laid out by Graphviz, and its command dot does not start: No such file or directory\n"))
+        self.assertFalse(os.path.exists(self.path("a.svg")))
+
     def test_faults(self):
         bad, form, bad_scheme = self.file("a.map", "n 2\nslots 8\n0 0\n"), self.file("a.gmap", b"\2\1"), self.file("a.scheme", "n 2\norbit 3\n")
         good = "schemes/maps/bend.map"
@@ -372,7 +414,7 @@ class Use(Case):
 
     def test_use(self):
         bend = "schemes/maps/bend.map"
-        for words in (("tools/map", "draw"), ("tools/map", "draw", bend), ("tools/map", "draw", bend, "-o"), ("tools/map", "draw", "-o", "a"), ("tools/map", "draw", bend, bend, bend, "-o", "a"),
+        for words in (("tools/map", "draw", bend), ("tools/map", "draw", "-o", "a"), ("tools/map", "draw", bend, bend, bend, "-o", "a"),
                       ("tools/scheme", "draw", "schemes/split-edge.scheme"), ("tools/scheme", "draw", "schemes/split-edge.scheme", "-x", "a"),
                       ("tools/apply", bend, "split-edge", "2", "--draw"), ("tools/apply", bend, "split-edge", "2", "-o", "a.map", "--draw", "a.map"),
                       ("tools/catalogue",), ("tools/catalogue", "paint"), ("tools/catalogue", "draw", "x")):

@@ -1,9 +1,11 @@
 """The picture of a map, or of two beside each other: polygons, links, darts, and a legend of what is in it."""
 from gmap import explain, look
 from gmap.faces import beyond
-from gmap.layout import DEEP, DISC, INSET, bounds, laid_out, minus, plus
+from gmap.layout import laid_out
 from gmap.legend import draw_legend
 from gmap.map_lines import Lines, bar
+from gmap.plane import minus, plus
+from gmap.polygon import DEEP, DISC, INSET, bounds
 from gmap.svg import Picture, polyline, wide
 
 MARGIN, HEAD = 44.0, 20.0
@@ -190,7 +192,8 @@ def legend_rows(panels, fills):
 
 def draw_faults(picture, panels, top):
     """The faults of broken maps in words; where they end, and how wide they are."""
-    lines = [(f"{panel.when}: " if panel.when else "") + f"slot {x}: {words}" for panel in panels for x in sorted(panel.faulty) for words in panel.faulty[x]]
+    lines = [(f"{panel.when}: " if panel.when else "") + f"slot {x}: {words}"
+             for panel in panels for x in sorted(panel.faulty) for words in panel.faulty[x]]
     shown = lines[:LISTED] + ([f"and {len(lines) - LISTED} more"] if len(lines) > LISTED else [])
     for k, line in enumerate(shown):
         picture.text("fault", (24, top + 16 * k + 12), line)

@@ -51,12 +51,13 @@ def map_rules(fills):
     """Style rules of a map: class t0, t1, .. for the tags in their order."""
     tags = [f".t{k}{{fill:{fills[tag]}}}" for k, tag in enumerate(sorted(fills))]
     return [f".edge{{stroke:{FAINT};stroke-width:1;fill:none}}", f".open{{stroke:{FAINT};stroke-width:1;stroke-dasharray:2 4;fill:none}}",
-            f".dart{{stroke:{INK};stroke-width:1}}", f".new{{stroke:{INK};stroke-width:3}}", f".gone{{stroke:{INK};stroke-width:1.2;stroke-dasharray:3 2}}",
-            f".strike{{stroke:{INK};stroke-width:1.6;fill:none}}", f".pointed{{stroke:{POINTED};stroke-width:3;fill:none}}",
-            ".slot{text-anchor:middle;font-size:10px}", ".d3{font-size:8.5px}", ".d4{font-size:7px}", *tags]
+            f".dart{{stroke:{INK};stroke-width:1}}", f".new{{stroke:{INK};stroke-width:3}}",
+            f".gone{{stroke:{INK};stroke-width:1.2;stroke-dasharray:3 2}}", f".strike{{stroke:{INK};stroke-width:1.6;fill:none}}",
+            f".pointed{{stroke:{POINTED};stroke-width:3;fill:none}}", ".slot{text-anchor:middle;font-size:10px}", ".d3{font-size:8.5px}", ".d4{font-size:7px}", *tags]
 
 
 def scheme_rules():
     return [f".{name}{{fill:{fill};stroke:{INK};stroke-width:1.5}}" for name, fill in KIND.items()] + [
-        f".ring{{fill:{PAPER};stroke:{INK};stroke-width:1.5}}", ".deleted{stroke-dasharray:5 3}", ".node{font-weight:bold;text-anchor:middle;font-size:13px}",
+        f".ring{{fill:{PAPER};stroke:{INK};stroke-width:1.5}}", ".deleted{stroke-dasharray:5 3}",
+        ".node{font-weight:bold;text-anchor:middle;font-size:13px}",
         ".word{text-anchor:middle;font-size:12px}", ".dim{font-size:11px}"]

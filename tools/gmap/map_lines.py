@@ -1,6 +1,8 @@
 """The lines of a map's picture: a line for each link between two darts, and for a link that has none an end with a bar, a number or a cross."""
 from gmap.faces import beyond, leads
-from gmap.layout import DISC, joined, minus, plus, unit
+from gmap.layout import joined
+from gmap.plane import minus, plus, unit
+from gmap.polygon import DISC
 from gmap.svg import point, polyline, wide
 
 STUB = 9.0  # length of a line that ends in a bar or a number
