@@ -381,6 +381,16 @@ class Use(Case):
             drawn.add(data_of(out))
         self.assertEqual(len(drawn), 1)
 
+    def test_last_bits(self):
+        """Libraries that differ in the last bits of a sine, a cosine, an angle or a length give the same bytes."""
+        for k in (-1, 1):
+            with contextlib.ExitStack() as stack:
+                for name, exact in (("sin", math.sin), ("cos", math.cos), ("atan2", math.atan2), ("hypot", math.hypot)):
+                    stack.enter_context(unittest.mock.patch.object(math, name, lambda *x, exact=exact: exact(*x) * (1 + k * 4e-16)))
+                for operation in names():
+                    dart = int(re.search("^dart (.*)", data_of(f"schemes/{operation}.outcome").decode(), re.M).group(1))
+                    self.assertEqual(draw_map.drawn(sample(operation), dart).encode(), data_of(f"schemes/pictures/{operation}-sample.svg"), operation)
+
     def test_apply_draws(self):
         done = run("tools/apply", "schemes/maps/bend.map", "split-edge", "2", "--draw", self.path("a.svg"))
         self.assertEqual((done.returncode, done.stderr), (0, ""))
