@@ -7,5 +7,4 @@ pub mod CycleTestLaws
 pub mod CycleSearchLaws
 pub mod CycleIsLaws
 pub mod FaultLaws
-pub mod NodeLaws
 pub mod SmallLaws

@@ -3,5 +3,4 @@ pub mod Tree
 pub mod Hook
 pub mod Cycles
 pub mod Incidence
-pub mod Nodes
 pub mod Verdict

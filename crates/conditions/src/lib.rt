@@ -3,7 +3,6 @@ pub mod arcs;
 pub mod cycles;
 pub mod hook;
 pub mod incidence;
-pub mod nodes;
 pub mod tree;
 
 use arcs::wide;

@@ -1,4 +1,4 @@
--- From one phase of an edit to the next, and what its ends come to.
+-- The laws of `settle` and `apply`: from one phase of an edit to the next, and what its ends come to.
 -- Assumes nothing.
 use Prim.Native.Nat.{ℕ, _*_, _≤_, _<_}
 use mathlib.Core.Path.{_≡_, refl, sym, ap₂, _∙_, subst}
@@ -22,19 +22,19 @@ use Rattle.model.specs.declared.Answer.the-variants.{Edited, NoMatch, NoRoom}
 use Rattle.model.proofs.AcceptedLaws.{small}
 use Rattle.model.proofs.MatchLaws.{match-assigns}
 use Rattle.model.proofs.MatchIff.{good-orbit}
-use Rattle.conditions.specs.Nodes.{isKind, Listed}
+use Rattle.edit.specs.Nodes.{isKind, Listed}
 use Rattle.conditions.specs.Tree.{TreeOf}
 use Rattle.conditions.specs.declared.tree.Tree.{Tree}
 use Rattle.conditions.proofs.CodeLaws.{coded}
-use Rattle.edit.specs.Store.{Taken, Walked}
-use Rattle.edit.specs.Walk as W
-use Rattle.edit.specs.Columns as C
-use Rattle.edit.specs.Grant as G
-use Rattle.edit.specs.Links as L
-use Rattle.edit.specs.Links.{orbitFor}
+use Rattle.orbit.specs.Store.{Taken, Walked}
+use Rattle.orbit.specs.Walk as W
+use Rattle.matching.specs.Assign as C
+use Rattle.rewriting.specs.Slots as G
+use Rattle.rewriting.specs.Links as L
+use Rattle.rewriting.specs.Links.{orbitFor}
 use Rattle.edit.specs.Apply.{At, Walking, Settling, Applied, rewritten}
-use Rattle.edit.proofs.RootedLaws.{rooted}
-use Rattle.edit.proofs.WalkLaws.{walked-kept}
+use Rattle.matching.proofs.RootedLaws.{rooted}
+use Rattle.orbit.proofs.WalkLaws.{walked-kept}
 
 module _ (slots : ℕ) (t : List ℕ) (S : Scheme) (d : ℕ) (A : At slots t S d) where
   pub places-few : S .places ≤ 4

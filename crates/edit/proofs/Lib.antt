@@ -1,15 +1,2 @@
-pub mod StoreLaws
-pub mod WalkLaws
-pub mod LinkLaws
-pub mod WriteLaws
-pub mod EditedLaws
-pub mod ColumnLaws
-pub mod GrantLaws
-pub mod BlockLaws
-pub mod GiveLaws
-pub mod ArcTestLaws
-pub mod PlacedLaws
-pub mod GrownLaws
-pub mod MatchedLaws
-pub mod RootedLaws
+pub mod NodeLaws
 pub mod ApplyLaws

@@ -20,9 +20,8 @@ use Rattle.model.specs.declared.Answer.{Answer}
 use Rattle.model.specs.declared.Answer.the-variants.{Edited}
 use Rattle.table.specs.Words.{Sized}
 use Rattle.conditions.specs.Arcs.{Coded}
-use Rattle.edit.specs.Store.{Taken, Walked}
-use Rattle.edit.specs.Phases.{Assigned}
-use Rattle.edit.specs.Links.{orbitFor}
+use Rattle.orbit.specs.Store.{Taken, Walked, Assigned}
+use Rattle.rewriting.specs.Links.{orbitFor}
 
 -- an accepted scheme, and a live dart of a table that is well-formed for it
 pub record At (slots : ℕ) (t : List ℕ) (S : Scheme) (d : ℕ) : Type 0 where

@@ -1,14 +1,11 @@
 // Applying an accepted scheme at a dart: refusals 9 and 10, and the published rewriting.
-mod assign;
-mod links;
-mod orbit;
-mod slots;
-mod store;
+pub mod nodes;
 
-use conditions::nodes::of_kind;
+use conditions::arcs::wide;
 use conditions::tree::Tree;
 use model::Answer;
 use model::Scheme;
+use nodes::of_kind;
 ghost use mathlib.Core.Path.{_≡_};
 ghost use Prim.Native.Nat.{_*_};
 ghost use lib.ListN.{length};
@@ -16,12 +13,6 @@ ghost use Rattle.base.specs.Below.{countBelow};
 ghost use Rattle.model.specs.Map.{view, unused};
 ghost use Rattle.conditions.specs.Tree.{TreeOf};
 ghost use Rattle.edit.specs.Apply.{At, Settling, Applied};
-
-pub(crate) fn wide(x: u8) -> usize
-    ensures { λ r. ⌜ r ≡ x ⌝ }
-{
-    x as usize
-}
 
 // The new darts and the new links of a match, where `room` slots are enough.
 fn settle<'a>(
@@ -46,8 +37,8 @@ fn settle<'a>(
     if room < size * many {
         return Answer::NoRoom;
     }
-    slots::give(slots, table, store, size, &new.node, many, cols);
-    links::rewrite(slots, table, store, size, kinds, codes, c, cols);
+    rewriting::slots::give(slots, table, store, size, &new.node, many, cols);
+    rewriting::links::rewrite(slots, table, store, size, kinds, codes, c, cols);
     Answer::Edited {
         orbit: size as u32,
         added: (size * many) as u32,
@@ -71,11 +62,11 @@ pub fn apply(
     requires { ⌜ length (now store) ≡ 16 * slots ⌝ }
     ensures { λ r. ⌜ Applied slots (now (table .entry)) s d r (now (table .exit)) ⌝ }
 {
-    store::unmark(slots, store);
+    orbit::store::unmark(slots, store);
     let k = wide(s.places);
     let size = orbit::walk(slots, table, &s.orbit, k, store, d);
     let mut cols = [0usize; 16];
-    if !assign::assign(
+    if !matching::assign(
         slots,
         table,
         store,

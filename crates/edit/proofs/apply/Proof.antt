@@ -3,7 +3,7 @@
 use mathlib.Core.Path.{refl, _∙_}
 use borrow.Author.Needs.{needs}
 use borrow.Author.Tests.{not-true, not-false}
-use Rattle.edit.proofs.StoreLaws.{unmarked-blank}
+use Rattle.orbit.proofs.StoreLaws.{unmarked-blank}
 use Rattle.edit.proofs.ApplyLaws.{no-match, walk-ready, walking, match-ready, settle-ready}
 use Rattle.edit.proofs.apply.Statement.{statement}
 use Rattle.edit.proofs.apply.Tie as tie
@@ -29,7 +29,7 @@ walk-requires c κs =
     let w = c .before .before .before .before in
     let u = w .before .before .before in
     let p = u .before .before .before .before .pre in (
-      rw (w .wide .ensures) (walk-ready _ _ _ _ (p .0)),
+      rw (w .wide .ensures .0) (walk-ready _ _ _ _ (p .0)),
       ((p .0 .slot, p .0 .alive), rw (u .unmark .ensures) (unmarked-blank _ _ (p .1 .1 .1))),
     )
 
@@ -37,7 +37,7 @@ assign-requires : tie.Need-assign-requires
 assign-requires c κs =
     let l = walk-done c in
     let p = start l .pre in
-    match-ready (walking _ _ _ _ _ _ _ (p .0) (places l .wide .ensures) (l .walk .ensures .0) (l .walk .ensures .1)) (p .1 .0) _ refl
+    match-ready (walking _ _ _ _ _ _ _ (p .0) (places l .wide .ensures .0) (l .walk .ensures .0) (l .walk .ensures .1)) (p .1 .0) _ refl
 
 same-length : tie.Need-same-length
 same-length c = search needs
@@ -50,7 +50,7 @@ returns c =
     let a = c .before .before .before in
     let l = walk-done (a .before) in
     let p = start l .pre in
-    let w = walking _ _ _ _ _ _ _ (p .0) (places l .wide .ensures) (l .walk .ensures .0) (l .walk .ensures .1) in
+    let w = walking _ _ _ _ _ _ _ (p .0) (places l .wide .ensures .0) (l .walk .ensures .0) (l .walk .ensures .1) in
     no-match _ _ _ _ (a .assign .ensures .at (match-ready w (p .1 .0) _ refl)) (not-true _ (c .if1 .taken))
 
 wide-requires-2 : tie.Need-wide-requires-2
@@ -63,8 +63,8 @@ settle-requires c κs =
     let a = e .before .before .before in
     let l = walk-done (a .before) in
     let p = start l .pre in
-    let w = walking _ _ _ _ _ _ _ (p .0) (places l .wide .ensures) (l .walk .ensures .0) (l .walk .ensures .1) in
-    settle-ready w (p .1 .0) _ _ _ (a .assign .ensures .at (match-ready w (p .1 .0) _ refl)) (not-false _ (e .if1 .left)) _ (n .wide2 .ensures) _ (p .1 .1 .0)
+    let w = walking _ _ _ _ _ _ _ (p .0) (places l .wide .ensures .0) (l .walk .ensures .0) (l .walk .ensures .1) in
+    settle-ready w (p .1 .0) _ _ _ (a .assign .ensures .at (match-ready w (p .1 .0) _ refl)) (not-false _ (e .if1 .left)) _ (n .wide2 .ensures .0) _ (p .1 .1 .0)
 
 same-length-3 : tie.Need-same-length-3
 same-length-3 c = search needs
@@ -84,8 +84,8 @@ returns-2 c =
     let a = e .before .before .before in
     let l = walk-done (a .before) in
     let p = start l .pre in
-    let w = walking _ _ _ _ _ _ _ (p .0) (places l .wide .ensures) (l .walk .ensures .0) (l .walk .ensures .1) in
-    r .settle .ensures (settle-ready w (p .1 .0) _ _ _ (a .assign .ensures .at (match-ready w (p .1 .0) _ refl)) (not-false _ (e .if1 .left)) _ (n .wide2 .ensures) _ (p .1 .1 .0))
+    let w = walking _ _ _ _ _ _ _ (p .0) (places l .wide .ensures .0) (l .walk .ensures .0) (l .walk .ensures .1) in
+    r .settle .ensures (settle-ready w (p .1 .0) _ _ _ (a .assign .ensures .at (match-ready w (p .1 .0) _ refl)) (not-false _ (e .if1 .left)) _ (n .wide2 .ensures .0) _ (p .1 .1 .0))
 
 pub apply-spec : {M : Type 1} → statement M
 apply-spec =

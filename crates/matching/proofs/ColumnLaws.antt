@@ -1,0 +1,136 @@
+-- The laws of `columns::column`: a column while its darts take their places.
+-- Assumes nothing.
+use Prim.Native.Nat.{ℕ, _+_, _*_, _-_, _≤_, _<_}
+use mathlib.Core.Path.{_≡_, refl, sym, ap, _∙_, subst}
+use mathlib.Core.Logic.{_≢_, by-cases}
+use mathlib.Core.Bool.{true, false, true≢false}
+use mathlib.Core.List.{List}
+use native.Mathlib.Decide.{ℕ-discrete}
+use native.Mathlib.Omega.{arith}
+use lib.ListN.{getD}
+use Rattle.base.proofs.TestLaws.{same-test}
+use Rattle.model.specs.Map.{Map}
+use Rattle.orbit.specs.Store.{mark, place, next, dartAt, Taken, Kept}
+use Rattle.orbit.specs.Places.{pushed, Pushed}
+use Rattle.matching.specs.Columns.{Longer, Linked, Column, Columned}
+use Rattle.orbit.proofs.StoreLaws.{pushed-other, pushed-place-other, pushed-place, among-at, among-of}
+
+-- ---- a store with further places
+
+-- a column that begins at a place is read there
+pub dart-place : (N : ℕ) (s : List ℕ) (e r base : ℕ) → base ≡ N + e → dartAt s base r ≡ place N s (e + r)
+unfolding dartAt place
+dart-place N s e r base h = let same : base + r ≡ N + (e + r) = omega arith in ap (λ (k : ℕ). getD s k 0) same
+
+module _ (N : ℕ) (s s′ : List ℕ) (end : ℕ) (l : Longer N s s′ end) where
+  pub longer-dart : (from r : ℕ) → N ≤ from → from + r < N + end → dartAt s′ from r ≡ dartAt s from r
+  longer-dart from r h k =
+      let e : from ≡ N + (from - N) = omega arith in
+      dart-place N s′ (from - N) r from e ∙ l .places (from - N + r) (omega arith) ∙ sym (dart-place N s (from - N) r from e)
+
+  pub longer-less : (few : ℕ) → few ≤ end → Longer N s s′ few
+  longer-less few h = record { places = λ e k. l .places e (omega arith); rest = l .rest }
+
+  pub longer-trans : (s″ : List ℕ) → Longer N s′ s″ end → Longer N s s″ end
+  longer-trans s″ k = record { places = λ e h. k .places e h ∙ l .places e h; rest = λ i h. k .rest i h ∙ l .rest i h }
+
+  module _ (end′ : ℕ) (t : Taken N s end) (t′ : Taken N s′ end′) (more : end ≤ end′) where
+    -- a slot with a place keeps its mark
+    pub longer-mark : (x : ℕ) → x < N → 1 ≤ mark s x → mark s′ x ≡ mark s x
+    longer-mark x h m =
+        let f = t .found x h m in
+        let at : place N s′ (mark s x - 1) ≡ x = l .places (mark s x - 1) (omega (arith, f .0)) ∙ f .1 in
+        let back : mark s′ (place N s′ (mark s x - 1)) ≡ mark s x - 1 + 1 = t′ .back (mark s x - 1) (omega (arith, f .0)) in
+        let same : mark s′ x ≡ mark s′ (place N s′ (mark s x - 1)) = ap (mark s′) (sym at) in
+        omega arith
+
+    -- a slot at one of the first places stood there
+    pub longer-found : (x : ℕ) → x < N → 1 ≤ mark s′ x → mark s′ x ≤ end → mark s x ≡ mark s′ x
+    longer-found x h m k =
+        let f = t′ .found x h m in
+        let at : place N s (mark s′ x - 1) ≡ x = sym (l .places (mark s′ x - 1) (omega arith)) ∙ f .1 in
+        let back : mark s (place N s (mark s′ x - 1)) ≡ mark s′ x - 1 + 1 = t .back (mark s′ x - 1) (omega arith) in
+        let same : mark s x ≡ mark s (place N s (mark s′ x - 1)) = ap (mark s) (sym at) in
+        omega arith
+
+    pub longer-kept : Kept N s s′ end
+    unfolding next
+    longer-kept = record {
+      long = t′ .long ∙ sym (t .long);
+      places = l .places;
+      marks = λ x h. same-test _ _
+          (λ a. let p = among-at s′ end x a in let e = longer-found x h (p .0) (p .1) in among-of s end x (omega arith) (omega arith))
+          (λ a. let p = among-at s end x a in let e = longer-mark x h (p .0) in among-of s′ end x (omega arith) (omega arith));
+      ranks = λ x h a. longer-mark x h (among-at s end x a .0);
+      nexts = λ r p h k. l .rest (4 * N + 4 * r + p) (omega arith);
+    }
+
+-- ---- one dart more
+
+pub mark-read : (s : List ℕ) (y w : ℕ) → w ≡ getD s y 0 → w ≡ 0 → mark s y ≡ 0
+unfolding mark
+mark-read s y w e z = sym e ∙ z
+
+module _ (m : Map) (i from : ℕ) (s : List ℕ) (end : ℕ) where
+  pub column-none : Taken (m .slots) s end → Column m i from s s end 0
+  column-none t = record {
+    taken = let same : end + 0 ≡ end = omega arith in rw same t;
+    longer = record { places = λ e h. refl; rest = λ k h. refl };
+    darts = λ q h. absurd (omega arith);
+  }
+
+  module _ (s′ : List ℕ) (r : ℕ) (c : Column m i from s s′ end r) (from-place : m .slots ≤ from) (inside : from + r < m .slots + end) where
+    read : (x : ℕ) → x ≡ getD s′ (from + r) 0 → x ≡ dartAt s from r
+    unfolding dartAt
+    read x e = e ∙ longer-dart (m .slots) s s′ end (c .longer) from r from-place inside
+
+    pub column-slot : (x : ℕ) → x ≡ getD s′ (from + r) 0 → x < m .slots
+    column-slot x e =
+        let N = m .slots in
+        let at : dartAt s′ from r ≡ place N s′ (from - N + r) = dart-place N s′ (from - N) r from (omega arith) in
+        let d : dartAt s′ from r ≡ dartAt s from r = longer-dart N s s′ end (c .longer) from r from-place inside in
+        let b : place N s′ (from - N + r) < N = c .taken .slot (from - N + r) (omega arith) in
+        let q = read x e in
+        omega arith
+
+    module _ (x y : ℕ) (a : x ≡ getD s′ (from + r) 0) (b : y ≡ m .link i x) where
+      at : y ≡ m .link i (dartAt s from r)
+      at = b ∙ ap (m .link i) (read x a)
+
+      pub column-below : (size : ℕ) → r < size → Linked m i s from size → y < m .slots
+      column-below size h o = rw at (o .slot r h)
+
+      pub column-clash : (size w : ℕ) → r < size → w ≡ getD s′ y 0 → (w ≡ 0 → ⊥) → Columned m i from s s′ end size false
+      unfolding mark
+      column-clash size w h e ne = record {
+        done = λ q. absurd (true≢false (sym q));
+        clash = λ q. (
+          r,
+          h,
+          c,
+          (let z : w ≡ mark s′ (m .link i (dartAt s from r)) = e ∙ ap (λ (k : ℕ). getD s′ k 0) at in subst (λ (k : ℕ). 1 ≤ k) z (positive w ne)),
+        );
+      }
+        where
+          positive : (w : ℕ) → (w ≡ 0 → ⊥) → 1 ≤ w
+          positive w ne = by-cases (ℕ-discrete w 0) (λ q. absurd (ne q)) (λ q. omega arith)
+
+      pub column-more : (s″ : List ℕ) → y < m .slots → Pushed (m .slots) s′ (end + r) y s″ → Column m i from s s″ end (r + 1)
+      column-more s″ l p =
+          let N = m .slots in
+          let fits = p .taken .fits in
+          let t : Taken N (pushed N s′ (end + r) y) (end + r + 1) = subst (λ (z : List ℕ). Taken N z (end + r + 1)) (p .is) (p .taken) in
+          let place-other : (e : ℕ) → e ≢ end + r → place N s″ e ≡ place N s′ e = λ e ne. ap (λ (z : List ℕ). place N z e) (p .is) ∙ pushed-place-other N s′ (end + r) y e l ne in
+          record {
+            taken = let same : end + (r + 1) ≡ end + r + 1 = omega arith in rw same (p .taken);
+            longer = record {
+              places = λ e h. place-other e (λ q. absurd (omega arith)) ∙ c .longer .places e h;
+              rest = λ k h. ap (λ (z : List ℕ). getD z k 0) (p .is) ∙ pushed-other N s′ (end + r) y k (λ q. absurd (omega arith)) (λ q. absurd (omega arith)) ∙ c .longer .rest k h;
+            };
+            darts = λ q h. by-cases (ℕ-discrete q r)
+                (λ e. rw e (ap (λ (z : List ℕ). place N z (end + r)) (p .is) ∙ pushed-place N s′ (end + r) y (c .taken) l ∙ at))
+                (λ ne. place-other (end + q) (λ e. ne (omega arith)) ∙ c .darts q (omega arith));
+          }
+
+  pub column-done : (s′ : List ℕ) (r : ℕ) → Column m i from s s′ end r → (size : ℕ) → r ≤ size → size ≤ r → Columned m i from s s′ end size true
+  column-done s′ r c size h l = record { done = λ q. let same : r ≡ size = omega arith in rw (← same) c; clash = λ q. absurd (true≢false q) }

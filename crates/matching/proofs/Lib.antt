@@ -1,0 +1,5 @@
+pub mod ColumnLaws
+pub mod ColumnTreeLaws
+pub mod ArcTestLaws
+pub mod AssignLaws
+pub mod RootedLaws

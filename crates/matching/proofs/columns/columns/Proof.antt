@@ -1,0 +1,155 @@
+-- `matching::columns::columns` meets its contract. The loop's invariant: the first k entries of the tree have their columns, of which the last ends at `end`.
+-- Assumes nothing.
+use Prim.Native.Nat.{_*_, _-_, _≤_, _<_}
+use mathlib.Core.Path.{_≡_}
+use native.Mathlib.Omega.{arith}
+use denote.Ref.{now}
+use borrow.Author.Needs.{needs}
+use borrow.Author.Tests.{not-true, not-false}
+use Rattle.model.specs.Map.{view}
+use Rattle.matching.specs.Columns.{Grown}
+use Rattle.matching.proofs.ColumnTreeLaws.{grown-one, node-fits, parent-fits, column-asks, columns-more, columns-clash, columns-done}
+use Rattle.matching.proofs.columns.columns.Statement.{statement}
+use Rattle.matching.proofs.columns.columns.Tie as tie
+
+abbrev Inv-loop : tie.InvT-loop
+Inv-loop slots table store₀ size nodes parents dims count cols₀ end₀ k₀ store cols end k =
+    (1 ≤ k) × (k ≤ count) × (end ≡ k * size) × Grown (view slots table) nodes parents dims store₀ store cols size k
+
+abbrev μ-loop : tie.MeasureT-loop
+μ-loop slots table store₀ size nodes parents dims count cols₀ end₀ k₀ store cols end k = count - k
+
+parent : (c : tie.After-wide Inv-loop μ-loop) → c .wide .result < 16
+parent c =
+    let l = c .before .before in
+    let a = l .before .before .before .before in
+    parent-fits _ _ _ _ _ _ _ _ (a .pre .1) _ _ (l .loop-test .taken) (l .before .loop .inv .0) (c .wide .ensures .0)
+
+node : (c : tie.After-wide3 Inv-loop μ-loop) → c .wide3 .result < 16
+node c =
+    let l = c .before .before .before .before .before .before .before .before .before .before .before .before in
+    let a = l .before .before .before .before in
+    node-fits _ _ _ _ _ _ _ _ (a .pre .1) _ _ (l .loop-test .taken) (c .wide3 .ensures .0)
+
+element-write-cols : tie.Need-element-write-cols Inv-loop μ-loop
+element-write-cols c = search needs
+
+loop-holds : tie.Need-loop-holds Inv-loop μ-loop
+loop-holds c =
+    let p = c .before .before .pre in
+    (omega arith, p .1 .rooted .some, omega arith, grown-one _ _ _ _ _ _ _ _ (p .1) (now (c .before .before .args .cols)) (p .0))
+
+element-copy-out-wide : tie.Need-element-copy-out-wide Inv-loop μ-loop
+element-copy-out-wide c = search needs
+
+wide-requires : tie.Need-wide-requires Inv-loop μ-loop
+wide-requires c κs = search needs
+
+mul-from : tie.Need-mul-from Inv-loop μ-loop
+mul-from c = omega (arith, parent c)
+
+element-copy-out-from : tie.Need-element-copy-out-from Inv-loop μ-loop
+element-copy-out-from c = omega (arith, parent c)
+
+element-copy-out-wide-2 : tie.Need-element-copy-out-wide-2 Inv-loop μ-loop
+element-copy-out-wide-2 c = search needs
+
+wide-requires-2 : tie.Need-wide-requires-2 Inv-loop μ-loop
+wide-requires-2 c κs = search needs
+
+column-requires : tie.Need-column-requires Inv-loop μ-loop
+column-requires c κs =
+    let w = c .before .before .before .before in
+    let l = w .before .before in
+    let inv = l .before .loop .inv in
+    let a = l .before .before .before .before in
+    column-asks _ _ _ _ _ _ _ _ _ _ _ (inv .3) (inv .0) (l .loop-test .taken) _ _ _ (w .wide .ensures .0) (c .wide2 .ensures .0) (inv .2) (a .pre .1)
+
+same-length : tie.Need-same-length Inv-loop μ-loop
+same-length c = search needs
+
+returns : tie.Need-returns Inv-loop μ-loop
+returns c =
+    let k = c .before .before .before in
+    let d = k .before in
+    let w = d .before .before .before .before in
+    let l = w .before .before in
+    let inv = l .before .loop .inv in
+    columns-clash _ _ _ _ _ _ _ _ _ _ _ (inv .3) (inv .0) (l .loop-test .taken) _ _ _ (w .wide .ensures .0) (d .wide2 .ensures .0) (inv .2) _ _ (k .column .ensures) (not-true _ (c .if1 .taken))
+
+add-cols : tie.Need-add-cols Inv-loop μ-loop
+add-cols c = search needs
+
+element-copy-out-wide-3 : tie.Need-element-copy-out-wide-3 Inv-loop μ-loop
+element-copy-out-wide-3 c = search needs
+
+wide-requires-3 : tie.Need-wide-requires-3 Inv-loop μ-loop
+wide-requires-3 c κs = search needs
+
+mul-cols : tie.Need-mul-cols Inv-loop μ-loop
+mul-cols c = omega (arith, node c)
+
+element-write-cols-2 : tie.Need-element-write-cols-2 Inv-loop μ-loop
+element-write-cols-2 c = omega (arith, node c)
+
+add-end : tie.Need-add-end Inv-loop μ-loop
+add-end c = search needs
+
+add-k : tie.Need-add-k Inv-loop μ-loop
+add-k c = search needs
+
+loop-less : tie.Need-loop-less Inv-loop μ-loop
+loop-less c = omega arith
+
+loop-again : tie.Need-loop-again Inv-loop μ-loop
+loop-again c =
+    let e = c .before .before in
+    let k = e .before .before .before in
+    let d = k .before in
+    let w = d .before .before .before .before in
+    let l = w .before .before in
+    let inv = l .before .loop .inv in
+    let a = l .before .before .before .before in (
+      omega arith,
+      omega arith,
+      omega arith,
+      columns-more _ _ _ _ _ _ _ _ _ _ _ (inv .3) (inv .0) (l .loop-test .taken) _ _ _ (w .wide .ensures .0) (d .wide2 .ensures .0) (inv .2) (a .pre .1)
+          _ _ (c .wide3 .ensures .0) _ (k .column .ensures) (not-false _ (e .if1 .left)),
+    )
+
+same-length-2 : tie.Need-same-length-2 Inv-loop μ-loop
+same-length-2 c = search needs
+
+returns-2 : tie.Need-returns-2 Inv-loop μ-loop
+returns-2 c =
+    let inv = c .before .loop .inv in
+    columns-done _ _ _ _ _ _ _ _ _ _ _ (inv .1) (c .loop-test .left) (inv .3)
+
+pub columns-spec : {M : Type 1} → statement M
+columns-spec =
+    tie.close
+    (tie.spec
+    Inv-loop
+    μ-loop
+    element-write-cols
+    loop-holds
+    element-copy-out-wide
+    wide-requires
+    mul-from
+    element-copy-out-from
+    element-copy-out-wide-2
+    wide-requires-2
+    column-requires
+    same-length
+    returns
+    add-cols
+    element-copy-out-wide-3
+    wide-requires-3
+    mul-cols
+    element-write-cols-2
+    add-end
+    add-k
+    loop-less
+    loop-again
+    same-length-2
+    returns-2)

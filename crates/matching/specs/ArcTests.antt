@@ -1,0 +1,72 @@
+-- The tests of the arcs over the whole orbit, once the columns of all left nodes stand in the store.
+-- Assumes nothing.
+use Prim.Native.Nat.{ℕ, _+_, _*_, _-_, _/_, _%_, _≤_, _<_}
+use mathlib.Core.Path.{_≡_}
+use mathlib.Core.Bool.{Bool, true, not, cond}
+use mathlib.Core.List.{List}
+use lib.ListN.{length, getD}
+use lib.Dec.{eqb, ltb}
+use Rattle.base.specs.Test.{_and_, _or_}
+use Rattle.base.specs.Below.{allBelow}
+use Rattle.model.specs.Map.{Map}
+use Rattle.table.specs.Words.{Sized}
+use Rattle.orbit.specs.Store.{next, dartAt}
+
+-- the column at `from` holds slots
+pub record Slots (N : ℕ) (s : List ℕ) (from size : ℕ) : Type 0 where
+  pub slot : (r : ℕ) → r < size → dartAt s from r < N
+
+-- the i-links of the column at `from` can be compared with the column at `to`
+pub record Testable (N : ℕ) (t s : List ℕ) (size i from to : ℕ) : Type 0 where
+  pub sized : Sized N t
+  pub long : length s ≡ 16 * N
+  pub dim : i < 4
+  pub few : size ≤ N
+  pub fromInside : from + size ≤ 2 * N
+  pub toInside : to + size ≤ 2 * N
+  pub slots : Slots N s from size
+
+-- the links at position p lead from the first `size` places to such places
+pub record Turns (N : ℕ) (s : List ℕ) (p size : ℕ) : Type 0 where
+  pub place : (r : ℕ) → r < size → next N s r p < size
+
+-- for each place r of the orbit, the i-link leads from the dart in the column at `from` to the one at place `to r` of the column at `base`
+unfoldable pub follows : Map → List ℕ → ℕ → ℕ → ℕ → ℕ → (ℕ → ℕ) → Bool
+follows m s size i from base to = allBelow size (λ r. eqb (m .link i (dartAt s from r)) (dartAt s base (to r)))
+
+module _ (m : Map) (s : List ℕ) (size : ℕ) (dims cols : List ℕ) (j i from : ℕ) where
+  -- the explicit arc of entry j at dimension i, to a node: it is tested from the later of its two columns, and an arc of the tree not at all
+  unfoldable pub explicitTest : ℕ → Bool
+  explicitTest t = ltb from (getD cols t 0) or (not (eqb j 0) and eqb (getD dims j 0) i) or follows m s size i from (getD cols t 0) (λ r. r)
+
+  -- the implicit arc of entry j at dimension i, at a position; those of node 0 hold in any orbit
+  unfoldable pub implicitTest : ℕ → Bool
+  implicitTest p = eqb j 0 or follows m s size i from from (λ r. next (m .slots) s r p)
+
+  -- the arc with this code
+  unfoldable pub codeTest : ℕ → Bool
+  codeTest code = cond (eqb code 255) true (cond (ltb code 16) (explicitTest code) (implicitTest (code - 16)))
+
+module _ (m : Map) (s : List ℕ) (size : ℕ) (nodes dims codes cols : List ℕ) where
+  -- the arc of entry j at dimension i, if it has one
+  unfoldable pub arcTest : ℕ → ℕ → Bool
+  arcTest j i = codeTest m s size dims cols j i (getD cols (getD nodes j 0) 0) (getD codes (4 * getD nodes j 0 + i) 0)
+
+  -- every arc below a bound, where k stands for entry k / 4 at dimension k % 4
+  unfoldable pub arcsTest : ℕ → Bool
+  arcsTest bound = allBelow bound (λ k. arcTest (k / 4) (k % 4))
+
+-- the columns and codes are such that an arc can be tested
+pub record Firm (N : ℕ) (t s : List ℕ) (size : ℕ) (nodes codes cols : List ℕ) (count : ℕ) : Type 0 where
+  pub sized : Sized N t
+  pub long : length s ≡ 16 * N
+  pub few : size ≤ N
+  pub entries : count ≤ 16
+  pub node : (j : ℕ) → j < count → getD nodes j 0 < 16
+  pub column : (j : ℕ) → j < count → getD cols (getD nodes j 0) 0 + size ≤ 2 * N
+  pub slots : (j : ℕ) → j < count → Slots N s (getD cols (getD nodes j 0) 0) size
+  pub target : (j i : ℕ) → j < count → i < 4 → getD codes (4 * getD nodes j 0 + i) 0 < 16
+      → getD cols (getD codes (4 * getD nodes j 0 + i) 0) 0 + size ≤ 2 * N
+  pub turn : (j i : ℕ) → j < count → i < 4 → 16 ≤ getD codes (4 * getD nodes j 0 + i) 0
+      → (getD codes (4 * getD nodes j 0 + i) 0 ≡ 255 → ⊥) → (getD codes (4 * getD nodes j 0 + i) 0 < 20)
+      × Turns N s (getD codes (4 * getD nodes j 0 + i) 0 - 16) size

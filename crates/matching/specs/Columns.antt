@@ -1,0 +1,80 @@
+-- The columns of the left nodes along the tree: what they start from, one column, and all of them.
+-- Assumes nothing.
+use Prim.Native.Nat.{ℕ, _+_, _*_, _≤_, _<_}
+use mathlib.Core.Path.{_≡_}
+use mathlib.Core.Bool.{Bool, true, false}
+use mathlib.Core.List.{List}
+use lib.ListN.{length, getD}
+use Rattle.model.specs.Map.{Map, view}
+use Rattle.model.specs.WellFormed.{WellFormed}
+use Rattle.model.specs.Scheme.{left, orbitDim, has}
+use Rattle.model.specs.Conditions.{explicit, arcAt}
+use Rattle.model.specs.Accepted.{Accepted}
+use Rattle.model.specs.Orbit.{orbit}
+use Rattle.model.specs.Match.{matches}
+use Rattle.model.specs.declared.Scheme.{Scheme}
+use Rattle.table.specs.Words.{Sized}
+use Rattle.orbit.specs.Store.{mark, place, dartAt, Taken, Walked}
+
+-- a tree of left arcs over all left nodes: entry k is a node that an arc joins to the node of an earlier entry
+pub record Rooted (S : Scheme) (size : ℕ) (node parent dim : List ℕ) : Type 0 where
+  pub some : 1 ≤ size
+  pub few : size ≤ 16
+  pub root : getD node 0 0 ≡ 0
+  pub onLeft : (k : ℕ) → k < size → (getD node k 0 < S .nodes) × (has S left (getD node k 0) ≡ true)
+  pub arc : (k : ℕ) → 1 ≤ k → k < size → (getD dim k 0 ≤ S .n) × (arcAt S left (getD parent k 0) (getD dim k 0) ≡ explicit (getD node k 0))
+  pub earlier : (k : ℕ) → 1 ≤ k → k < size → (j : ℕ) × (j < k) × (getD node j 0 ≡ getD parent k 0)
+  pub once : (j k : ℕ) → j < size → k < size → getD node j 0 ≡ getD node k 0 → j ≡ k
+  pub every : (s : ℕ) → s < S .nodes → has S left s ≡ true → (k : ℕ) × (k < size) × (getD node k 0 ≡ s)
+
+-- an accepted scheme with its tree, a table that is well-formed for it, and in the store the orbit of a live dart
+pub record BeforeMatching (N : ℕ) (t s : List ℕ) (size : ℕ) (nodes parents dims : List ℕ) (count : ℕ) : Type 0 where
+  pub scheme : Scheme
+  pub dart : ℕ
+  pub accepted : Accepted scheme
+  pub sized : Sized N t
+  pub well : WellFormed (scheme .n) (view N t)
+  pub below : dart < N
+  pub alive : view N t .state dart ≡ 1
+  pub walked : Walked (view N t) (scheme .places) (orbitDim scheme) dart s size
+  pub taken : Taken N s size
+  pub rooted : Rooted scheme count nodes parents dims
+
+-- whether there is a match at the orbit of d
+abbrev pub matchesAt : Map → Scheme → ℕ → Bool
+matchesAt m S d = matches m S (orbit m (S .places) (orbitDim S) d)
+
+-- s′ has what s has at its first `end` places and behind the places
+pub record Longer (N : ℕ) (s s′ : List ℕ) (end : ℕ) : Type 0 where
+  pub places : (e : ℕ) → e < end → place N s′ e ≡ place N s e
+  pub rest : (i : ℕ) → 2 * N ≤ i → getD s′ i 0 ≡ getD s i 0
+
+-- the i-links lead from the column at `from` to slots
+pub record Linked (m : Map) (i : ℕ) (s : List ℕ) (from size : ℕ) : Type 0 where
+  pub slot : (r : ℕ) → r < size → m .link i (dartAt s from r) < m .slots
+
+-- from the places `end` on stand the first r darts of a column: those to which the i-links of the column at `from` lead
+pub record Column (m : Map) (i from : ℕ) (s s′ : List ℕ) (end r : ℕ) : Type 0 where
+  pub taken : Taken (m .slots) s′ (end + r)
+  pub longer : Longer (m .slots) s s′ end
+  pub darts : (q : ℕ) → q < r → place (m .slots) s′ (end + q) ≡ m .link i (dartAt s from q)
+
+-- a column of `size` darts was added, or else the next of its darts has a place already
+pub record Columned (m : Map) (i from : ℕ) (s s′ : List ℕ) (end size : ℕ) (whole : Bool) : Type 0 where
+  pub done : whole ≡ true → Column m i from s s′ end size
+  pub clash : whole ≡ false → (r : ℕ) × (r < size) × Column m i from s s′ end r × (1 ≤ mark s′ (m .link i (dartAt s from r)))
+
+-- the first k entries of the tree have their columns, and each but the first was made from its parent's
+pub record Grown (m : Map) (nodes parents dims : List ℕ) (s s′ cols : List ℕ) (size k : ℕ) : Type 0 where
+  pub wide : length cols ≡ 16
+  pub taken : Taken (m .slots) s′ (k * size)
+  pub longer : Longer (m .slots) s s′ size
+  pub alive : (e : ℕ) → e < k * size → m .state (place (m .slots) s′ e) ≡ 1
+  pub begins : (j : ℕ) → j < k → getD cols (getD nodes j 0) 0 ≡ m .slots + j * size
+  pub steps : (j r : ℕ) → 1 ≤ j → j < k → r < size
+      → dartAt s′ (getD cols (getD nodes j 0) 0) r ≡ m .link (getD dims j 0) (dartAt s′ (getD cols (getD parents j 0) 0) r)
+
+-- all entries have their columns, or else there is no match
+pub record ColumnedAll (N : ℕ) (t : List ℕ) (nodes parents dims : List ℕ) (s s′ cols : List ℕ) (size count : ℕ) (whole : Bool) : Type 0 where
+  pub done : whole ≡ true → Grown (view N t) nodes parents dims s s′ cols size count
+  pub none : whole ≡ false → (R : BeforeMatching N t s size nodes parents dims count) → matchesAt (view N t) (R .scheme) (R .dart) ≡ false

@@ -1,0 +1,71 @@
+// The darts of the left nodes: a column of places for each, along the tree of left arcs.
+use conditions::arcs::wide;
+use orbit::store::push;
+use orbit::store::word;
+use table::words::link;
+ghost use mathlib.Core.Path.{_≡_};
+ghost use Prim.Native.Nat.{_+_, _≤_};
+ghost use lib.ListN.{length};
+ghost use Rattle.model.specs.Map.{view};
+ghost use Rattle.table.specs.Words.{Sized};
+ghost use Rattle.orbit.specs.Store.{Taken};
+ghost use Rattle.matching.specs.Columns.{BeforeMatching, Linked, Columned, ColumnedAll};
+
+// A new column from the place `end` on, over the i-links of the column at `from`; false where a dart has a place already.
+fn column(
+    slots: usize,
+    table: &[u32],
+    store: &mut [u32],
+    i: usize,
+    from: usize,
+    end: usize,
+    size: usize,
+) -> bool
+    requires { ⌜ Sized slots (now table) ⌝ }
+    requires { ⌜ Taken slots (now store) end ⌝ }
+    requires { ⌜ (i ≤ 3) × (size ≤ slots) × (slots ≤ from) × (from + size ≤ slots + end) ⌝ }
+    requires { ⌜ Linked (view slots (now table)) i (now store) from size ⌝ }
+    ensures { λ r. ⌜ Columned (view slots (now (table .entry))) i from (now (store .entry)) (now (store .exit)) end size r ⌝ }
+{
+    let mut r = 0;
+    while r < size {
+        let y = link(slots, table, i, word(store, from + r));
+        if word(store, y) != 0 {
+            return false;
+        }
+        push(slots, store, end + r, y);
+        r += 1;
+    }
+    true
+}
+
+// The columns of all entries of the tree; false where two pairs fall on one dart.
+pub(crate) fn columns(
+    slots: usize,
+    table: &[u32],
+    store: &mut [u32],
+    size: usize,
+    nodes: &[u8; 16],
+    parents: &[u8; 16],
+    dims: &[u8; 16],
+    count: usize,
+    cols: &mut [usize; 16],
+) -> bool
+    requires { ⌜ length (now cols) ≡ 16 ⌝ }
+    requires { ⌜ BeforeMatching slots (now table) (now store) size (now nodes) (now parents) (now dims) count ⌝ }
+    ensures { λ r. ⌜ ColumnedAll slots (now (table .entry)) (now (nodes .entry)) (now (parents .entry)) (now (dims .entry)) (now (store .entry)) (now (store .exit)) (now (cols .exit)) size count r ⌝ }
+{
+    cols[0] = slots;
+    let mut end = size;
+    let mut k = 1;
+    while k < count {
+        let from = cols[wide(parents[k])];
+        if !column(slots, table, store, wide(dims[k]), from, end, size) {
+            return false;
+        }
+        cols[wide(nodes[k])] = slots + end;
+        end += size;
+        k += 1;
+    }
+    true
+}

@@ -1,0 +1,203 @@
+-- The laws of `follow`, `expand` and `walk`: a turn of each loop, on plain values; and what the walk found still holds after the later phases.
+-- Assumes nothing.
+use Prim.Native.Nat.{ℕ, _+_, _*_, _-_, _≤_, _<_}
+use mathlib.Core.Path.{_≡_, refl, sym, ap, _∙_, subst}
+use mathlib.Core.Logic.{_≢_, by-cases}
+use mathlib.Core.Bool.{true}
+use mathlib.Core.List.{List}
+use native.Mathlib.Decide.{decLt}
+use native.Mathlib.Omega.{arith}
+use lib.ListN.{getD, set}
+use lib.Seq.{getD-set-same, getD-set-other}
+use borrow.Author.Count.{below-more}
+use Rattle.base.proofs.TestLaws.{same-test}
+use Rattle.base.proofs.BelowLaws.{count-same}
+use Rattle.model.specs.Map.{Map}
+use Rattle.model.specs.WellFormed.{WellFormed}
+use Rattle.model.specs.Orbit.{orbit, InOrbit, itself, onward}
+use Rattle.model.proofs.OrbitLaws.{reached-dart, orbit-iff}
+use Rattle.orbit.specs.Store.{mark, place, next, marked, among, Taken, Walked, Kept}
+use Rattle.orbit.specs.Places.{Pushed}
+use Rattle.orbit.specs.Walk.{MoreTaken, Followed, Expanded}
+use Rattle.orbit.proofs.StoreLaws.{place-set-behind, taken-set-behind, pushed-place, pushed-place-other, pushed-other, among-at, among-of, among-all}
+
+-- ---- `follow`
+
+module _ (N : ℕ) (s : List ℕ) (end at y : ℕ) (behind : 2 * N ≤ at) (inside : at < 16 * N) where
+  -- the place v of y is kept in the word `at`
+  kept-place : (a : List ℕ) (e v : ℕ) → MoreTaken N s end a e → ((j : ℕ) → end ≤ j → j < e → place N a j ≡ y)
+      → ((i : ℕ) → 2 * N ≤ i → getD a i 0 ≡ getD s i 0) → v < e → place N a v ≡ y → Followed N s end at y (set a at v) e
+  kept-place a e v g new others l q =
+      let here : getD (set a at v) at 0 ≡ v = getD-set-same a at v 0 (omega (arith, g .taken .long)) in
+      let same : (j : ℕ) → j < e → place N (set a at v) j ≡ place N a j = λ j h. place-set-behind N a at v behind j (omega (arith, g .taken .fits)) in
+      record {
+        grown = record {
+          taken = taken-set-behind N a at v behind e (g .taken);
+          longer = g .longer;
+          places = λ j h. same j (omega (arith, g .longer)) ∙ g .places j h;
+        };
+        new = λ j h k. same j k ∙ new j h k;
+        leads = (rw here l, ap (place N (set a at v)) here ∙ same v l ∙ q);
+        others = λ i h ne. getD-set-other a at i v 0 ne ∙ others i h;
+      }
+
+  module _ (t : Taken N s end) (l : y < N) where
+    pub followed-old : {a : List ℕ} {w : ℕ} → w ≡ mark s y → w ≢ 0 → a ≡ set s at (w - 1) → Followed N s end at y a end
+    followed-old {a} {w} q ne e =
+        let f = t .found y l (omega arith) in
+        let here : place N s (w - 1) ≡ y = ap (λ (z : ℕ). place N s (z - 1)) q ∙ f .1 in
+        rw e (kept-place s end (w - 1) (record { taken = t; longer = omega arith; places = λ j h. refl })
+        (λ j h k. absurd (omega arith)) (λ i h. refl) (omega (arith, f .0)) here)
+
+    pub followed-new : {a b : List ℕ} → Pushed N s end y a → b ≡ set a at end → Followed N s end at y b (end + 1)
+    followed-new {a} {b} p e =
+        let here : place N a end ≡ y = ap (λ (z : List ℕ). place N z end) (p .is) ∙ pushed-place N s end y t l in
+        rw e (kept-place a (end + 1) end
+        (record {
+          taken = p .taken;
+          longer = omega arith;
+          places = λ j h. ap (λ (z : List ℕ). place N z j) (p .is) ∙ pushed-place-other N s end y j l (λ q. absurd (omega arith));
+        })
+        (λ j h k. let w : j ≡ end = omega arith in rw w here)
+        (λ i h. ap (λ (z : List ℕ). getD z i 0) (p .is) ∙ pushed-other N s end y i (λ q. absurd (omega arith)) (λ q. absurd (omega (arith, p .taken .fits))))
+        (omega arith) here)
+
+-- ---- `expand`
+
+module _ (m : Map) (dim : ℕ → ℕ) (head : ℕ) (s : List ℕ) (tail : ℕ) where
+  pub expanded-none : Taken (m .slots) s tail → Expanded m 0 dim head s tail s tail
+  expanded-none t = record {
+    grown = record { taken = t; longer = omega arith; places = λ e h. refl };
+    new = λ e h k. absurd (omega arith);
+    links = λ p h. absurd (omega arith);
+    earlier = λ r p h k. refl;
+  }
+
+  -- one link more, to y
+  pub expanded-more : (p x y : ℕ) (a : List ℕ) (e : ℕ) (b : List ℕ) (e′ : ℕ) → p < 4 → x ≡ place (m .slots) s head → y ≡ m .link (dim p) x
+      → Expanded m p dim head s tail a e → Followed (m .slots) a e (4 * m .slots + 4 * head + p) y b e′
+      → Expanded m (p + 1) dim head s tail b e′
+  unfolding next
+  expanded-more p x₀ y a e b e′ few ex ey x f =
+      let g = x .grown in
+      let h = f .grown in
+      let led : y ≡ m .link (dim p) (place (m .slots) s head) = ey ∙ ap (m .link (dim p)) ex in
+      record {
+        grown = record { taken = h .taken; longer = omega arith; places = λ j l. h .places j (omega arith) ∙ g .places j l };
+        new = λ j l u. by-cases (decLt j e)
+            (λ v. let w = x .new j l v in (w .0, omega (arith, w .1), h .places j v ∙ w .2))
+            (λ v. (p, omega arith, f .new j (omega arith) u ∙ led));
+        links = below-more _ p
+            (λ q l.
+            let w = x .links q l in
+            let same : getD b (4 * m .slots + 4 * head + q) 0 ≡ getD a (4 * m .slots + 4 * head + q) 0 = f .others _ (omega arith) (λ z. absurd (omega arith)) in
+            (omega (arith, w .0), ap (place (m .slots) b) same ∙ h .places _ (w .0) ∙ w .1))
+            (f .leads .0, f .leads .1 ∙ led);
+        earlier = λ r q l u. f .others _ (omega arith) (λ z. absurd (omega arith)) ∙ x .earlier r q l u;
+      }
+
+-- ---- `walk`
+
+module _ (m : Map) (k : ℕ) (dim : ℕ → ℕ) (d : ℕ) where
+  -- at the loop's head: what stands at a place is reached, and the links of the first `head` darts lead to places
+  pub record Walking (s : List ℕ) (head tail : ℕ) : Type 0 where
+    pub taken : Taken (m .slots) s tail
+    pub some : 1 ≤ tail
+    pub passed : head ≤ tail
+    pub start : place (m .slots) s 0 ≡ d
+    pub sound : (e : ℕ) → e < tail → InOrbit m k dim d (place (m .slots) s e)
+    pub links : (r : ℕ) → r < head → (p : ℕ) → p < k → (next (m .slots) s r p < tail)
+        × (place (m .slots) s (next (m .slots) s r p) ≡ m .link (dim p) (place (m .slots) s r))
+
+  pub walking-first : (s s′ : List ℕ) → Taken (m .slots) s 0 → d < m .slots → Pushed (m .slots) s 0 d s′ → Walking s′ 0 1
+  walking-first s s′ t l p =
+      let here : place (m .slots) s′ 0 ≡ d = ap (λ (z : List ℕ). place (m .slots) z 0) (p .is) ∙ pushed-place (m .slots) s 0 d t l in
+      record {
+        taken = p .taken;
+        some = omega arith;
+        passed = omega arith;
+        start = here;
+        sound = λ e h. let w : e ≡ 0 = omega arith in rw (w, here) itself;
+        links = λ r h. absurd (omega arith);
+      }
+
+  pub walking-more : (s : List ℕ) (head tail : ℕ) (s′ : List ℕ) (tail′ : ℕ) → k ≤ 4 → head < tail → Walking s head tail
+      → Expanded m k dim head s tail s′ tail′ → Walking s′ (head + 1) tail′
+  walking-more s head tail s′ tail′ few l w x =
+      let g = x .grown in
+      record {
+        taken = g .taken;
+        some = omega arith;
+        passed = omega arith;
+        start = g .places 0 (omega arith) ∙ w .start;
+        sound = λ e h. by-cases (decLt e tail)
+            (λ v. rw (g .places e v) (w .sound e v))
+            (λ v. let n = x .new e (omega arith) h in rw (n .2) (onward (w .sound head l) (n .0) (n .1) refl));
+        links = below-more _ head
+            (λ r h p b.
+            let same : next (m .slots) s′ r p ≡ next (m .slots) s r p = x .earlier r p h (omega arith) in
+            let o = w .links r h p b in
+            (omega (arith, o .0), ap (place (m .slots) s′) same ∙ g .places _ (o .0) ∙ o .1 ∙ ap (m .link (dim p)) (sym (g .places r (omega arith)))))
+            (λ p b. let o = x .links p b in (o .0, o .1 ∙ ap (m .link (dim p)) (sym (g .places head l))));
+      }
+
+  module _ (n : ℕ) (w : WellFormed n m) (dims : (p : ℕ) → p < k → dim p ≤ n) (h : d < m .slots) (l : m .state d ≡ 1) where
+    -- what stands at a place is a live dart
+    pub walking-live : (s : List ℕ) (head tail e : ℕ) → Walking s head tail → e < tail → m .state (place (m .slots) s e) ≡ 1
+    walking-live s head tail e v b = reached-dart m k dim d n w dims h l (v .sound e b) .1
+
+    -- every place is passed
+    module _ (s : List ℕ) (head tail : ℕ) (v : Walking s head tail) (all : tail ≤ head) where
+      stands : {x : ℕ} → InOrbit m k dim d x → (e : ℕ) × (e < tail) × (place (m .slots) s e ≡ x)
+      stands itself = (0, v .some, v .start)
+      stands (onward {x} {y} r p b q) =
+          let i = stands r in
+          let o = v .links (i .0) (omega (arith, i .1)) p b in
+          (next (m .slots) s (i .0) p, o .0, o .1 ∙ ap (m .link (dim p)) (i .2) ∙ q)
+
+      is-orbit : (x : ℕ) → x < m .slots → among s tail x ≡ orbit m k dim d x
+      is-orbit x b = same-test _ _
+          (λ a. let u = among-at s tail x a in
+          let f = v .taken .found x b (u .0) in
+          orbit-iff m k dim d n w dims h l x .1 (subst (InOrbit m k dim d) (f .1) (v .sound (mark s x - 1) (omega arith))))
+          (λ o. let i = stands (orbit-iff m k dim d n w dims h l x .0 o) in
+          let mx : mark s x ≡ i .0 + 1 = ap (mark s) (sym (i .2)) ∙ v .taken .back (i .0) (i .1) in
+          among-of s tail x (omega arith) (omega (arith, i .1)))
+
+      pub walking-done : Walked m k dim d s tail
+      walking-done = record {
+        some = v .some;
+        fits = v .taken .fits;
+        slot = v .taken .slot;
+        back = v .taken .back;
+        is = is-orbit;
+        found = λ x b a. v .taken .found x b (among-at s tail x a .0) .1;
+        links = λ r p b. v .links r (omega arith) p;
+        counted = count-same (m .slots) (orbit m k dim d) (marked s)
+            (λ x b. sym (is-orbit x b) ∙ among-all (m .slots) s tail (v .taken) x b) ∙ v .taken .total;
+      }
+
+-- ---- after the walk
+
+-- a phase that keeps the orbit's places, marks and links keeps what the walk found
+pub walked-kept : (m : Map) (k : ℕ) (dim : ℕ → ℕ) (d : ℕ) (s s′ : List ℕ) (size : ℕ) → k ≤ 4 → Walked m k dim d s size → Kept (m .slots) s s′ size
+    → Walked m k dim d s′ size
+walked-kept m k dim d s s′ size few w c =
+    let N = m .slots in
+    record {
+      some = w .some;
+      fits = w .fits;
+      slot = λ r h. rw (c .places r h) (w .slot r h);
+      back = λ r h.
+          let there : among s size (place N s r) ≡ true = among-of s size (place N s r) (omega (arith, w .back r h)) (omega (arith, w .back r h)) in
+          ap (mark s′) (c .places r h) ∙ c .ranks (place N s r) (w .slot r h) there ∙ w .back r h;
+      is = λ x h. c .marks x h ∙ w .is x h;
+      found = λ x h a.
+          let there : among s size x ≡ true = sym (c .marks x h) ∙ a in
+          ap (λ (z : ℕ). place N s′ (z - 1)) (c .ranks x h there) ∙ c .places (mark s x - 1) (omega (arith, among-at s size x there)) ∙ w .found x h there;
+      links = λ r p h b.
+          let o = w .links r p h b in
+          let same : next N s′ r p ≡ next N s r p = c .nexts r p h (omega arith) in
+          (omega (arith, o .0), ap (place N s′) same ∙ c .places (next N s r p) (o .0) ∙ o .1 ∙ ap (m .link (dim p)) (sym (c .places r h)));
+      counted = w .counted;
+    }

@@ -1,0 +1,123 @@
+-- `orbit::expand` meets its contract. The loop's invariant is the contract itself, at the first p links.
+-- Assumes nothing.
+use Prim.Native.Nat.{_-_, _≤_, _<_}
+use mathlib.Core.Path.{_≡_, ap, _∙_}
+use native.Mathlib.Omega.{arith}
+use lib.ListN.{getD}
+use denote.Ref.{now}
+use Rattle.model.specs.Map.{view}
+use Rattle.orbit.specs.Store.{place}
+use Rattle.orbit.specs.Walk.{Expanded}
+use Rattle.orbit.proofs.WalkLaws.{expanded-none, expanded-more}
+use Rattle.orbit.proofs.expand.Statement.{statement}
+use Rattle.orbit.proofs.expand.Tie as tie
+
+abbrev Inv-loop : tie.InvT-loop
+Inv-loop slots table dims k store₀ head tail x at end₀ p₀ store end p =
+    Expanded (view slots table) p (λ q. getD dims q 0) head store₀ tail store end × (p ≤ k)
+
+abbrev μ-loop : tie.MeasureT-loop
+μ-loop slots table dims k store₀ head tail x at end₀ p₀ store end p = k - p
+
+abbrev start : tie.After-word Inv-loop μ-loop → tie.Start Inv-loop μ-loop
+start c = c .before .before .before .before
+
+-- the dart at place `head`
+x-is : (c : tie.After-word Inv-loop μ-loop) → let a = start c .args in c .word .result ≡ place (a .slots) (now (a .store)) (a .head)
+unfolding place
+x-is c = c .word .ensures
+
+x-slot : (c : tie.After-word Inv-loop μ-loop) → c .word .result < start c .args .slots
+x-slot c = let b = start c in let a = b .args in omega (arith, x-is c, b .pre .1 .0 .slot (a .head) (b .pre .1 .1 .0))
+
+-- in the loop: the dimension at position p, and the dart to which that link leads
+dim-le : (c : tie.In-loop Inv-loop μ-loop) → getD (now (start (c .before .before) .args .dims)) (c .before .loop .p) 0 ≤ 3
+dim-le c = let r = start (c .before .before) .pre .0 in omega (arith, r .dim (c .before .loop .p) (c .loop-test .taken), r .small)
+
+y-slot : (c : tie.In-loop Inv-loop μ-loop) → let a = start (c .before .before) .args in
+    view (a .slots) (now (a .table)) .link (getD (now (a .dims)) (c .before .loop .p) 0) (c .before .before .word .result) < a .slots
+y-slot c =
+    let w = c .before .before in
+    let b = start w in
+    let a = b .args in
+    b .pre .0 .well .below (w .word .result) (x-slot w) (ap (view (a .slots) (now (a .table)) .state) (x-is w) ∙ b .pre .1 .1 .1) _
+    (b .pre .0 .dim (c .before .loop .p) (c .loop-test .taken))
+
+add-word : tie.Need-add-word Inv-loop μ-loop
+add-word c = omega arith
+
+word-requires : tie.Need-word-requires Inv-loop μ-loop
+word-requires c κs = omega arith
+
+mul-at : tie.Need-mul-at Inv-loop μ-loop
+mul-at c = omega arith
+
+mul-at-2 : tie.Need-mul-at-2 Inv-loop μ-loop
+mul-at-2 c = omega arith
+
+add-at : tie.Need-add-at Inv-loop μ-loop
+add-at c = omega arith
+
+loop-holds : tie.Need-loop-holds Inv-loop μ-loop
+loop-holds c = (expanded-none _ _ _ _ _ (start c .pre .1 .0), omega arith)
+
+element-copy-out-i : tie.Need-element-copy-out-i Inv-loop μ-loop
+element-copy-out-i c = omega arith
+
+cast-i : tie.Need-cast-i Inv-loop μ-loop
+cast-i c = omega (arith, dim-le (c .before))
+
+link-requires : tie.Need-link-requires Inv-loop μ-loop
+link-requires c κs =
+    let l = c .before in
+    (start (l .before .before) .pre .0 .sized, (x-slot (l .before .before), dim-le l))
+
+add-follow : tie.Need-add-follow Inv-loop μ-loop
+add-follow c = omega arith
+
+follow-requires : tie.Need-follow-requires Inv-loop μ-loop
+follow-requires c κs =
+    let l = c .before .before .before in
+    let b = start (l .before .before) in
+    (b .pre .0 .sized .few, (l .before .loop .inv .0 .grown .taken, (omega (arith, y-slot l, c .before .link .ensures), omega arith, omega arith)))
+
+add-p : tie.Need-add-p Inv-loop μ-loop
+add-p c = omega arith
+
+loop-less : tie.Need-loop-less Inv-loop μ-loop
+loop-less c = omega arith
+
+loop-again : tie.Need-loop-again Inv-loop μ-loop
+loop-again c =
+    let k = c .before .before .before .before in
+    let l = k .before .before in
+    (expanded-more _ _ _ _ _ _ _ _ _ _ _ _ (omega arith) (x-is (l .before .before)) (k .link .ensures) (l .before .loop .inv .0) (c .before .before .follow .ensures), omega arith)
+
+same-length : tie.Need-same-length Inv-loop μ-loop
+same-length c = omega arith
+
+returns : tie.Need-returns Inv-loop μ-loop
+returns c = let e : c .before .loop .p ≡ start (c .before .before) .args .k = omega arith in rw (← e) (c .before .loop .inv .0)
+
+pub expand-spec : {M : Type 1} → statement M
+expand-spec =
+    tie.close
+    (tie.spec
+    Inv-loop
+    μ-loop
+    add-word
+    word-requires
+    mul-at
+    mul-at-2
+    add-at
+    loop-holds
+    element-copy-out-i
+    cast-i
+    link-requires
+    add-follow
+    follow-requires
+    add-p
+    loop-less
+    loop-again
+    same-length
+    returns)

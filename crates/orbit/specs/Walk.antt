@@ -1,0 +1,41 @@
+-- What the walk of an orbit is given, and what a step of it does to the store.
+-- Assumes nothing.
+use Prim.Native.Nat.{ℕ, _*_, _≤_, _<_}
+use mathlib.Core.Path.{_≡_}
+use mathlib.Core.Logic.{_≢_}
+use mathlib.Core.List.{List}
+use lib.ListN.{getD}
+use Rattle.model.specs.Map.{Map, view}
+use Rattle.model.specs.WellFormed.{WellFormed}
+use Rattle.table.specs.Words.{Sized}
+use Rattle.orbit.specs.Store.{place, next, Taken}
+
+-- the table is well-formed for some n, for which the first k of `dims` are dimensions
+pub record BeforeWalking (slots : ℕ) (t dims : List ℕ) (k : ℕ) : Type 0 where
+  pub sized : Sized slots t
+  pub n : ℕ
+  pub small : n ≤ 3
+  pub well : WellFormed n (view slots t)
+  pub few : k ≤ 4
+  pub dim : (p : ℕ) → p < k → getD dims p 0 ≤ n
+
+-- the first `end` places stay, and those up to `end′` are taken too
+pub record MoreTaken (N : ℕ) (s : List ℕ) (end : ℕ) (s′ : List ℕ) (end′ : ℕ) : Type 0 where
+  pub taken : Taken N s′ end′
+  pub longer : end ≤ end′
+  pub places : (e : ℕ) → e < end → place N s′ e ≡ place N s e
+
+-- slot y has a place, which the word `at` names, and no other slot took one
+pub record Followed (N : ℕ) (s : List ℕ) (end at y : ℕ) (s′ : List ℕ) (end′ : ℕ) : Type 0 where
+  pub grown : MoreTaken N s end s′ end′
+  pub new : (e : ℕ) → end ≤ e → e < end′ → place N s′ e ≡ y
+  pub leads : (getD s′ at 0 < end′) × (place N s′ (getD s′ at 0) ≡ y)
+  pub others : (i : ℕ) → 2 * N ≤ i → i ≢ at → getD s′ i 0 ≡ getD s i 0
+
+-- the first k links of the dart at place `head` were followed
+pub record Expanded (m : Map) (k : ℕ) (dim : ℕ → ℕ) (head : ℕ) (s : List ℕ) (tail : ℕ) (s′ : List ℕ) (tail′ : ℕ) : Type 0 where
+  pub grown : MoreTaken (m .slots) s tail s′ tail′
+  pub new : (e : ℕ) → tail ≤ e → e < tail′ → (p : ℕ) × (p < k) × (place (m .slots) s′ e ≡ m .link (dim p) (place (m .slots) s head))
+  pub links : (p : ℕ) → p < k → (next (m .slots) s′ head p < tail′)
+      × (place (m .slots) s′ (next (m .slots) s′ head p) ≡ m .link (dim p) (place (m .slots) s head))
+  pub earlier : (r p : ℕ) → r < head → p < 4 → next (m .slots) s′ r p ≡ next (m .slots) s r p

@@ -1,0 +1,323 @@
+-- The laws of `links::rewrite`: after the loops the table is that of the edited map: slot by slot and column by column, the word that stands
+-- there is the model's. The darts of all pairs are different slots, so each word is written once.
+-- Assumes nothing.
+use Prim.Native.Nat.{ℕ, _+_, _*_, _-_, _/_, _%_, _<_}
+use mathlib.Core.Path.{_≡_, refl, sym, ap, _∙_, subst}
+use mathlib.Core.Logic.{_⊎_, ⊎-elim}
+use mathlib.Core.Bool.{Bool, true, false, true≢false}
+use mathlib.Core.Option.{Option, none, some}
+use mathlib.Core.List.{List}
+use native.Mathlib.Omega.{arith}
+use lib.ListN.{length, getD}
+use lib.Dec.{leb}
+use borrow.Author.Tests.{eqb-true, eq-eqb, lt-ltb, ltb-true, le-leb, leb-true, leb-false}
+use Rattle.base.proofs.TestLaws.{and-left, and-right, and-of, true-or-false}
+use Rattle.base.proofs.FirstLaws.{some-not-none}
+use Rattle.model.specs.Map.{Map, view, tableSize, tableOf}
+use Rattle.model.specs.Scheme.{left, right, orbitDim, has, deleted, added}
+use Rattle.model.specs.Conditions.{Arc, absent, explicit, implicit, arcAt}
+use Rattle.model.specs.Edit.{Pair, dartOf, pairOf, edited}
+use Rattle.model.specs.declared.Scheme.{Scheme}
+use Rattle.model.proofs.MapLaws.{words-are}
+use Rattle.model.proofs.AcceptedLaws.{small, left-or-added}
+use Rattle.model.proofs.ArcLaws.{explicit-end, implicit-from, absent-from}
+use Rattle.model.proofs.OrbitLaws.{orbit-slot}
+use Rattle.model.proofs.RankLaws.{left-not-added}
+use Rattle.model.proofs.EditLaws as E
+use Rattle.table.specs.Words.{wordAt}
+use Rattle.table.proofs.WordLaws.{word-state, word-link, word-tag}
+use Rattle.orbit.specs.Store.{mark, place, next, among}
+use Rattle.model.specs.Codes.{arcCode}
+use Rattle.rewriting.specs.Links.{orbitFor, relinked, cleared, Turnable, Legible, Columns, Codes, BeforeRewriting, editedBy}
+use Rattle.rewriting.proofs.LinkWriteLaws.{pairDart, Different, relinked-long, relinked-leaves, relinked-node, relinked-position, relinked-none, cleared-long, cleared-leaves, cleared-sets}
+
+module _ {slots : ℕ} {table store : List ℕ} {size : ℕ} {kinds codes : List ℕ} {c : ℕ} {cols : List ℕ}
+    (R : BeforeRewriting slots table store size kinds codes c cols) where
+  abbrev S : Scheme
+  S = R .scheme
+
+  abbrev m : Map
+  m = view slots (R .before)
+
+  abbrev O : ℕ → Bool
+  O = orbitFor m S (R .dart)
+
+  abbrev new : Map
+  new = edited m S O
+
+  -- the dart of a pair, by the orbit dart and by its place
+  abbrev D : ℕ → ℕ → ℕ
+  D u v = dartOf m S O u v
+
+  abbrev dart : ℕ → ℕ → ℕ
+  dart v r = pairDart slots store size cols v r
+
+  abbrev P : ℕ → ℕ
+  P r = place slots store r
+
+  slot : (u : ℕ) → O u ≡ true → u < slots
+  slot = orbit-slot m (S .places) (orbitDim S) (R .dart)
+
+  sides : (v : ℕ) → v < S .nodes → (has S left v ≡ true) ⊎ (added S v ≡ true)
+  sides = left-or-added S (R .accepted .shaped)
+
+  node : {v : ℕ} → v < c → v < S .nodes
+  node {v} h = subst (λ (n : ℕ). v < n) (R .nodes) h
+
+  counted : {v : ℕ} → v < S .nodes → v < c
+  counted {v} h = subst (λ (n : ℕ). v < n) (sym (R .nodes)) h
+
+  -- ---- the orbit's darts by place
+
+  place-in : (r : ℕ) → r < size → O (P r) ≡ true
+  unfolding among
+  place-in r h =
+      let b = R .walked .back r h in
+      sym (R .walked .is (P r) (R .walked .slot r h))
+      ∙ and-of (lt-ltb 0 (mark store (P r)) (omega arith)) (le-leb (mark store (P r)) size (omega arith))
+
+  place-of : (u : ℕ) → O u ≡ true → (r : ℕ) × (r < size) × (P r ≡ u)
+  unfolding among
+  place-of u e =
+      let h = slot u e in
+      let a = R .walked .is u h ∙ e in
+      let low = ltb-true 0 (mark store u) (and-left _ _ a) in
+      let high = leb-true (mark store u) size (and-right _ _ a) in
+      (mark store u - 1, omega arith, R .walked .found u h a)
+
+  place-once : (q r : ℕ) → q < size → r < size → P q ≡ P r → q ≡ r
+  place-once q r h l e =
+      let a = R .walked .back q h in
+      let b = R .walked .back r l in
+      let same = ap (mark store) e in
+      omega arith
+
+  dart-is : (v r : ℕ) → v < S .nodes → r < size → dart v r ≡ D (P r) v
+  dart-is = R .darts .dart
+
+  different : Different slots store size cols c
+  different = record {
+    slot = λ v r hv hr. subst (λ (x : ℕ). x < slots) (sym (dart-is v r (node hv) hr))
+        (E.dart-slot m S O slot sides (R .match) (R .room) (P r) v (place-in r hr) (node hv));
+    once = λ v q w r hv hq hw hr e.
+        let d = E.dart-injective m S O slot sides (R .match) (R .room) (P q) v (P r) w (place-in q hq) (place-in r hr) (node hv) (node hw)
+        (sym (dart-is v q (node hv) hq) ∙ e ∙ dart-is w r (node hw) hr) in
+        (d .1, place-once q r hq hr (d .0));
+  }
+
+  -- ---- what makes the loops safe
+
+  pub columns : Columns slots store size c cols
+  columns = record {
+    few = let few = R .accepted .shaped .nodesFew in let same = R .nodes in omega arith;
+    at = λ v h. record {
+      inside = let i = R .darts .inside v (node h) .1 in let long = R .stored in omega arith;
+      slot = λ r b. different .slot v r h b;
+    };
+  }
+
+  legible : (v i : ℕ) → v < S .nodes → (a : Arc) → arcAt S right v i ≡ a → Legible slots store size cols (arcCode a)
+  legible v i h absent e = record { node = λ l. absurd (omega arith); position = λ l k. absurd (omega arith) }
+  legible v i h (explicit t) e =
+      let b = explicit-end S right (R .accepted .sides right) v i t e .0 in
+      let few = R .accepted .shaped .nodesFew in
+      let long = R .stored in
+      record { node = λ l. let w = R .darts .inside t b .1 in omega arith; position = λ l k. absurd (omega arith) }
+  legible v i h (implicit p) e =
+      let b = implicit-from S right v i p e .0 in
+      let same : p ≡ 16 + p - 16 = omega arith in
+      record {
+        node = λ l. absurd (omega arith);
+        position = λ l k. subst (Turnable slots store size) same record {
+          long = R .stored;
+          fits = R .walked .fits;
+          position = let few = R .accepted .shaped .placesFew in let n3 = small S (R .accepted .shaped) in omega arith;
+          place = λ r w. R .walked .links r p w b .0;
+        };
+      }
+
+  code-is : (v i : ℕ) → v < S .nodes → i < 4 → getD codes (4 * v + i) 0 ≡ arcCode (arcAt S right v i)
+  code-is v i h l =
+      let few = R .accepted .shaped .nodesFew in
+      R .coded .at v i h l
+
+  pub coding : Codes slots store size codes c cols
+  coding = record {
+    at = λ k h.
+        let v : k / 4 < S .nodes = node (omega arith) in
+        let same : 4 * (k / 4) + k % 4 ≡ k = omega arith in
+        subst (Legible slots store size cols) (sym (code-is (k / 4) (k % 4) v (omega arith)) ∙ ap (λ (j : ℕ). getD codes j 0) same)
+        (legible (k / 4) (k % 4) v (arcAt S right (k / 4) (k % 4)) refl);
+  }
+
+  -- ---- the table after the loops
+
+  abbrev linked : List ℕ
+  linked = relinked slots store size cols codes (4 * c) table
+
+  abbrev after : List ℕ
+  after = cleared store size cols kinds c linked
+
+  linked-long : length linked ≡ tableSize slots
+  linked-long = relinked-long slots store size cols codes (4 * c) table (R .sized .long)
+
+  after-long : length after ≡ tableSize slots
+  after-long = cleared-long slots store size cols kinds c linked linked-long
+
+  -- the pair of a dart is found
+  not-none : (u v : ℕ) → O u ≡ true → v < S .nodes → pairOf m S O (D u v) ≡ none → ⊥
+  not-none u v e h n = some-not-none (E.pair-of m S O slot sides (R .match) (R .room) u v e h) n
+
+  -- a slot that is no pair's dart
+  untouched : (x : ℕ) → pairOf m S O x ≡ none → (d : ℕ) → d < 6 → wordAt after x d ≡ wordAt (R .before) x d
+  untouched x e d h =
+      cleared-leaves slots store size cols kinds c x d h (λ v r hv k hr w. off v r hv hr w) linked linked-long
+      ∙ relinked-leaves slots store size cols codes (4 * c) x d h (λ k r hk hr w z. off (k / 4) r (omega arith) hr w) table (R .sized .long)
+      ∙ R .given .other x d h (λ a. not-none (a .dart) (a .node) (a .inOrbit) (a .below) (ap (pairOf m S O) (a .same) ∙ e))
+    where
+      off : (v r : ℕ) → v < c → r < size → dart v r ≡ x → ⊥
+      off v r hv hr w = not-none (P r) v (place-in r hr) (node hv) (ap (pairOf m S O) (sym (dart-is v r (node hv) hr) ∙ w) ∙ e)
+
+  -- the dart of a pair whose node is deleted
+  gone : (v r : ℕ) → v < S .nodes → r < size → deleted S v ≡ true → (d : ℕ) → d < 6 → wordAt after (D (P r) v) d ≡ 0
+  gone v r hv hr k d h =
+      ap (λ (x : ℕ). wordAt after x d) (sym (dart-is v r hv hr))
+      ∙ cleared-sets slots store size cols kinds c different v r d (counted hv) hr h (ap (λ (l : List ℕ). getD l v 0) (R .kinded) ∙ eqb-true _ _ k) linked linked-long
+
+  -- ---- the dart of a pair whose node is on the right
+
+  module _ (v r : ℕ) (hv : v < S .nodes) (hr : r < size) where
+    -- its words before the links are written
+    old : added S v ≡ false → (d : ℕ) → d < 6 → wordAt table (D (P r) v) d ≡ wordAt (R .before) (D (P r) v) d
+    old n d h = R .given .other (D (P r) v) d h (λ a.
+        let q = E.dart-injective m S O slot sides (R .match) (R .room) (a .dart) (a .node) (P r) v (a .inOrbit) (place-in r hr) (a .below) hv (a .same) in
+        true≢false (sym (a .isAdded) ∙ ap (added S) (q .1) ∙ n))
+
+    module _ (k : deleted S v ≡ false) where
+      spared : (d : ℕ) → d < 6 → wordAt after (dart v r) d ≡ wordAt linked (dart v r) d
+      spared d h = cleared-leaves slots store size cols kinds c (dart v r) d h
+          (λ w q hw one hq z.
+          let same = different .once w q v r hw hq (counted hv) hr z .0 in
+          true≢false (sym (eq-eqb _ _ (ap (λ (l : List ℕ). getD l w 0) (sym (R .kinded)) ∙ one)) ∙ ap (deleted S) same ∙ k))
+          linked linked-long
+
+      -- a column that holds no link
+      unlinked : (d : ℕ) → d < 6 → ((i : ℕ) → i < 4 → d ≡ 1 + i → ⊥) → wordAt after (D (P r) v) d ≡ wordAt table (D (P r) v) d
+      unlinked d h no-link =
+          ap (λ (x : ℕ). wordAt after x d) (sym (dart-is v r hv hr))
+          ∙ spared d h
+          ∙ relinked-leaves slots store size cols codes (4 * c) (dart v r) d h (λ j q hj hq w z. no-link (j % 4) (omega arith) z) table (R .sized .long)
+          ∙ ap (λ (x : ℕ). wordAt table x d) (dart-is v r hv hr)
+
+      state-stays : wordAt after (D (P r) v) 0 ≡ new .state (D (P r) v)
+      state-stays =
+          unlinked 0 (omega arith) (λ i l z. omega arith)
+          ∙ ⊎-elim
+          (λ l. old (left-not-added S v l) 0 (omega arith) ∙ word-state slots (R .before) (D (P r) v) ∙ E.left-alive m S O slot sides (R .match) (R .room) (P r) v (place-in r hr) hv l)
+          (λ a. R .given .state (P r) v (place-in r hr) hv a)
+          (sides v hv)
+          ∙ sym (E.state-pair m S O slot sides (R .match) (R .room) (P r) v (place-in r hr) hv k)
+
+      tag-stays : wordAt after (D (P r) v) 5 ≡ new .tag (D (P r) v)
+      tag-stays =
+          unlinked 5 (omega arith) (λ i l z. omega arith)
+          ∙ ⊎-elim
+          (λ l. old (left-not-added S v l) 5 (omega arith) ∙ word-tag slots (R .before) (D (P r) v)
+          ∙ sym (E.tag-kept m S O slot sides (R .match) (R .room) (P r) v (place-in r hr) hv k (left-not-added S v l)))
+          (λ a. R .given .tag (P r) v (place-in r hr) hv a ∙ sym (E.tag-new m S O slot sides (R .match) (R .room) (P r) v (place-in r hr) hv k a))
+          (sides v hv)
+
+      -- where the right side names no i-arc: a preserved dart keeps the link, and of an added one it is α3 with n = 2, which is the dart itself
+      link-absent : (i : ℕ) → i < 4 → arcAt S right v i ≡ absent → wordAt table (D (P r) v) (1 + i) ≡ new .link i (D (P r) v)
+      link-absent i l a = ⊎-elim
+          (λ z. old (left-not-added S v z) (1 + i) (omega arith) ∙ word-link slots (R .before) (D (P r) v) i
+          ∙ sym (E.link-kept m S O slot sides (R .match) (R .room) (P r) v (place-in r hr) hv k i (left-not-added S v z) a))
+          (λ z. ⊎-elim
+          (λ w.
+          let some-arc = R .accepted .allRight v i hv (leb-true i (S .n) w) z in
+          let no-arc = absent-from S right v i a in
+          absurd (omega arith))
+          (λ w.
+          let third : i ≡ 3 = third-is i l (leb-false i (S .n) w) in
+          ap (λ (j : ℕ). wordAt table (D (P r) v) (1 + j)) third ∙ R .given .own (P r) v (place-in r hr) hv z
+          ∙ sym (E.link-own m S O slot sides (R .match) (R .room) (P r) v (place-in r hr) hv k i z a))
+          (true-or-false (leb i (S .n))))
+          (sides v hv)
+        where
+          third-is : (i : ℕ) → i < 4 → S .n < i → i ≡ 3
+          third-is i l g = ⊎-elim (λ e. omega arith) (λ e. omega arith) (R .accepted .shaped .dimension)
+
+      link-linked : (i : ℕ) → i < 4 → (a : Arc) → arcAt S right v i ≡ a → wordAt linked (dart v r) (1 + i) ≡ new .link i (D (P r) v)
+      link-linked i l absent a =
+          relinked-none slots store size cols codes c different v i r (counted hv) l hr 255 (code-is v i hv l ∙ ap arcCode a) table (R .sized .long) (omega arith)
+          ∙ ap (λ (x : ℕ). wordAt table x (1 + i)) (dart-is v r hv hr) ∙ link-absent i l a
+      link-linked i l (explicit t) a =
+          let b = explicit-end S right (R .accepted .sides right) v i t a .0 in
+          let few = R .accepted .shaped .nodesFew in
+          relinked-node slots store size cols codes c different v i r (counted hv) l hr t (code-is v i hv l ∙ ap arcCode a) table (R .sized .long) (omega arith)
+          ∙ dart-is t r b hr ∙ sym (E.link-explicit m S O slot sides (R .match) (R .room) (P r) v (place-in r hr) hv k i t a)
+      link-linked i l (implicit p) a =
+          let b = implicit-from S right v i p a .0 in
+          let few = R .accepted .shaped .placesFew in
+          let n3 = small S (R .accepted .shaped) in
+          let same : 16 + p - 16 ≡ p = omega arith in
+          let w = R .walked .links r p hr b in
+          relinked-position slots store size cols codes c different v i r (counted hv) l hr (16 + p) (code-is v i hv l ∙ ap arcCode a) table (R .sized .long) (omega arith) (omega arith)
+          ∙ ap (λ (q : ℕ). dart v (next slots store r q)) same ∙ dart-is v (next slots store r p) hv (w .0) ∙ ap (λ (u : ℕ). D u v) (w .1)
+          ∙ sym (E.link-implicit m S O slot sides (R .match) (R .room) (P r) v (place-in r hr) hv k i p a)
+
+      link-stays : (i : ℕ) → i < 4 → wordAt after (D (P r) v) (1 + i) ≡ new .link i (D (P r) v)
+      link-stays i l =
+          ap (λ (x : ℕ). wordAt after x (1 + i)) (sym (dart-is v r hv hr)) ∙ spared (1 + i) (omega arith) ∙ link-linked i l (arcAt S right v i) refl
+
+  -- ---- every slot
+
+  -- x is no pair's dart, or that of a pair whose node is deleted, or of another
+  data Role (x : ℕ) : Type 0 where
+    noPair : pairOf m S O x ≡ none → Role x
+    deletedPair : (v r : ℕ) → v < S .nodes → r < size → deleted S v ≡ true → D (P r) v ≡ x → Role x
+    rightPair : (v r : ℕ) → v < S .nodes → r < size → deleted S v ≡ false → D (P r) v ≡ x → Role x
+
+  role : (x : ℕ) → Role x
+  role x = go (pairOf m S O x) refl
+    where
+      go : (p : Option Pair) → pairOf m S O x ≡ p → Role x
+      go none e = noPair e
+      go (some p) e =
+          let q = E.pair-at m S O slot sides (R .match) (R .room) x p e in
+          let w = place-of (p .dart) (q .0) in
+          let same = ap (λ (u : ℕ). D u (p .node)) (w .2) ∙ q .2 in
+          ⊎-elim
+          (λ k. deletedPair (p .node) (w .0) (q .1) (w .1) k same)
+          (λ k. rightPair (p .node) (w .0) (q .1) (w .1) k same)
+          (true-or-false (deleted S (p .node)))
+
+  state-is : (x : ℕ) → Role x → wordAt after x 0 ≡ new .state x
+  state-is x (noPair e) = untouched x e 0 (omega arith) ∙ word-state slots (R .before) x ∙ sym (E.state-other m S O slot sides (R .match) (R .room) x e)
+  state-is x (deletedPair v r hv hr k e) = subst (λ (y : ℕ). wordAt after y 0 ≡ new .state y) e
+      (gone v r hv hr k 0 (omega arith) ∙ sym (E.state-deleted m S O slot sides (R .match) (R .room) (P r) v (place-in r hr) hv k))
+  state-is x (rightPair v r hv hr k e) = subst (λ (y : ℕ). wordAt after y 0 ≡ new .state y) e (state-stays v r hv hr k)
+
+  link-is : (i x : ℕ) → i < 4 → Role x → wordAt after x (1 + i) ≡ new .link i x
+  link-is i x l (noPair e) =
+      untouched x e (1 + i) (omega arith) ∙ word-link slots (R .before) x i ∙ sym (E.link-other m S O slot sides (R .match) (R .room) i x e)
+  link-is i x l (deletedPair v r hv hr k e) = subst (λ (y : ℕ). wordAt after y (1 + i) ≡ new .link i y) e
+      (gone v r hv hr k (1 + i) (omega arith) ∙ sym (E.link-deleted m S O slot sides (R .match) (R .room) (P r) v (place-in r hr) hv i k))
+  link-is i x l (rightPair v r hv hr k e) = subst (λ (y : ℕ). wordAt after y (1 + i) ≡ new .link i y) e (link-stays v r hv hr k i l)
+
+  tag-is : (x : ℕ) → Role x → wordAt after x 5 ≡ new .tag x
+  tag-is x (noPair e) = untouched x e 5 (omega arith) ∙ word-tag slots (R .before) x ∙ sym (E.tag-other m S O slot sides (R .match) (R .room) x e)
+  tag-is x (deletedPair v r hv hr k e) = subst (λ (y : ℕ). wordAt after y 5 ≡ new .tag y) e
+      (gone v r hv hr k 5 (omega arith) ∙ sym (E.tag-deleted m S O slot sides (R .match) (R .room) (P r) v (place-in r hr) hv k))
+  tag-is x (rightPair v r hv hr k e) = subst (λ (y : ℕ). wordAt after y 5 ≡ new .tag y) e (tag-stays v r hv hr k)
+
+  edited-words : after ≡ tableOf new
+  unfolding edited
+  edited-words = words-are new after after-long
+      (λ x h. sym (word-state slots after x) ∙ state-is x (role x))
+      (λ i x l h. sym (word-link slots after x i) ∙ link-is i x l (role x))
+      (λ x h. sym (word-tag slots after x) ∙ tag-is x (role x))
+
+  pub rewritten : (t t′ : List ℕ) → t ≡ relinked slots store size cols codes (4 * c) table → t′ ≡ cleared store size cols kinds c t
+      → t′ ≡ tableOf (editedBy R)
+  rewritten t t′ e f = f ∙ ap (cleared store size cols kinds c) e ∙ edited-words

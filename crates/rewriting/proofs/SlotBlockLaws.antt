@@ -1,0 +1,231 @@
+-- The laws of `slots::mark_bits` and `slots::block`: the orbit darts taken ascending, from a binary digit for each.
+-- Assumes nothing.
+use Prim.Native.Nat.{ℕ, _+_, _*_, _-_, _/_, _%_, _^_, _≤_, _<_}
+use mathlib.Core.Path.{_≡_, refl, sym, ap, ap₂, _∙_, subst}
+use mathlib.Core.Logic.{inl, by-cases}
+use mathlib.Core.Bool.{Bool, true, false, true≢false}
+use mathlib.Core.List.{List}
+use native.Mathlib.Decide.{ℕ-discrete, decLt}
+use native.Mathlib.Omega.{arith}
+use lib.Count.{trailingZeros}
+use lib.Dec.{leb}
+use lib.ListN.{getD, set, replicate, length-set, length-replicate, getD-replicate}
+use lib.Pow.{pow-pos}
+use lib.Seq.{getD-set-same, getD-set-other}
+use borrow.Author.Tests.{ltb-true, lt-ltb, leb-true, le-leb}
+use Rattle.base.specs.Test.{_and_, bit}
+use Rattle.base.specs.Below.{countBelow}
+use Rattle.base.specs.Binary.{binary}
+use Rattle.base.proofs.TestLaws.{and-left, and-right, and-of, impossible, same-test}
+use Rattle.base.proofs.BelowLaws.{count-step, count-gap}
+use Rattle.base.proofs.BinaryLaws.{binary-same, binary-below, binary-more, binary-none, binary-zero, binary-lowest, shifted}
+use Rattle.model.specs.declared.Scheme.{Scheme}
+use Rattle.orbit.specs.Store.{mark, place}
+use Rattle.rewriting.specs.Slots.{Grant, Granting, Turn, early, Placed, NoDigits, Digits, Block}
+use Rattle.orbit.proofs.StoreLaws.{among-at, among-of}
+
+-- ---- a digit for each of the first places
+
+early-at : (N : ℕ) (s : List ℕ) (r x : ℕ) → early N s r x ≡ true → (x < N) × (1 ≤ mark s x) × (mark s x ≤ r)
+unfolding early
+early-at N s r x e = let m = among-at s r x (and-right _ _ e) in (ltb-true x N (and-left _ _ e), m .0, m .1)
+
+early-of : (N : ℕ) (s : List ℕ) (r x : ℕ) → x < N → 1 ≤ mark s x → mark s x ≤ r → early N s r x ≡ true
+unfolding early
+early-of N s r x h l m = and-of (lt-ltb x N h) (among-of s r x l m)
+
+pub blank : NoDigits (replicate 16 0)
+blank = record { long = length-replicate {A = ℕ} 16 0; zeros = λ w h. getD-replicate 16 w 0 0 h }
+
+pub digits-none : (N : ℕ) (s bits : List ℕ) → NoDigits bits → Digits (early N s 0) bits
+digits-none N s bits z = record {
+  long = z .long;
+  at = λ w h. z .zeros w h ∙ sym (binary-zero 64 _ (λ k l. impossible _ (λ e. let m = early-at N s 0 (64 * w + k) e in omega arith)));
+}
+
+module _ (N : ℕ) (s : List ℕ) (size : ℕ) (P : Placed N s size) (r : ℕ) (h : r < size) where
+  fresh : early N s r (place N s r) ≡ false
+  fresh = impossible _ (λ e. let m = early-at N s r (place N s r) e in omega (arith, P .back r h))
+
+  here : early N s (r + 1) (place N s r) ≡ true
+  here = early-of N s (r + 1) (place N s r) (P .slot r h) (omega (arith, P .back r h)) (omega (arith, P .back r h))
+
+  -- no other slot has that mark
+  elsewhere : (x : ℕ) → (x ≡ place N s r → ⊥) → early N s (r + 1) x ≡ early N s r x
+  elsewhere x ne = same-test _ _
+      (λ e. let m = early-at N s (r + 1) x e in by-cases (ℕ-discrete (mark s x) (r + 1))
+      (λ q. let k : mark s x - 1 ≡ r = omega arith in
+      absurd (ne (sym (P .found x (m .0) (among-of s size x (m .1) (omega arith))) ∙ ap (place N s) k)))
+      (λ q. early-of N s r x (m .0) (m .1) (omega arith)))
+      (λ e. let m = early-at N s r x e in early-of N s (r + 1) x (m .0) (m .1) (omega arith))
+
+  word-fits : place N s r / 64 < 16
+  word-fits = omega (arith, P .slot r h, P .few)
+
+  module _ (bits : List ℕ) (d : Digits (early N s r) bits) where
+    abbrev digit : ℕ
+    digit = place N s r % 64
+
+    -- the slots of the word in which the dart stands
+    added-digit : (w : ℕ) → w ≡ place N s r / 64 → getD bits w 0 + 2 ^ digit ≡ binary 64 (λ k. early N s (r + 1) (64 * w + k))
+    added-digit w e =
+        let l : w < 16 = omega (arith, word-fits) in
+        let u : 64 * w + digit ≡ place N s r = omega arith in
+        ap (λ (n : ℕ). n + 2 ^ digit) (d .at w l) ∙ sym (binary-more 64 _ _ digit (omega arith)
+        (ap (early N s r) u ∙ fresh) (ap (early N s (r + 1)) u ∙ here) (λ j g ne. elsewhere (64 * w + j) (λ q. ne (omega arith))))
+
+    digit-room : getD bits (place N s r / 64) 0 + 2 ^ digit < 2 ^ 64
+    digit-room = rw (added-digit (place N s r / 64) refl) (binary-below 64 _)
+
+    digits-more : (i n : ℕ) → i ≡ place N s r / 64 → n ≡ getD bits (place N s r / 64) 0 + 2 ^ digit → Digits (early N s (r + 1)) (set bits i n)
+    digits-more i n p q = record {
+      long = length-set bits i n ∙ d .long;
+      at = λ w l. by-cases (ℕ-discrete w i)
+          (λ e. let z : w ≡ place N s r / 64 = e ∙ p in
+          ap (λ (k : ℕ). getD (set bits i n) k 0) e ∙ getD-set-same bits i n 0 (omega (arith, d .long))
+          ∙ q ∙ ap (λ (k : ℕ). getD bits k 0 + 2 ^ digit) (sym z) ∙ added-digit w z)
+          (λ ne. getD-set-other bits i w n 0 ne ∙ d .at w l
+          ∙ binary-same 64 _ _ (λ k g. sym (elsewhere (64 * w + k) (λ z. ne (omega arith)))));
+    }
+
+    -- the same as the code has it, with u for the dart
+    module _ (u : ℕ) (e : u ≡ getD s (N + r) 0) where
+      dart-is : u ≡ place N s r
+      unfolding place
+      dart-is = e
+
+      shift : (1 * 2 ^ (u % 64)) % 2 ^ 64 ≡ 2 ^ digit
+      shift = shifted (u % 64) (omega arith) ∙ ap (λ (k : ℕ). 2 ^ (k % 64)) dart-is
+
+      word-is : u / 64 ≡ place N s r / 64
+      word-is = ap (λ (k : ℕ). k / 64) dart-is
+
+      pub mark-word : u / 64 < 16
+      mark-word = omega (arith, word-fits, word-is)
+
+      sum-is : getD bits (u / 64) 0 + (1 * 2 ^ (u % 64)) % 2 ^ 64 ≡ getD bits (place N s r / 64) 0 + 2 ^ digit
+      sum-is = ap₂ (λ (k a : ℕ). getD bits k 0 + a) word-is shift
+
+      pub mark-room : getD bits (u / 64) 0 + (1 * 2 ^ (u % 64)) % 2 ^ 64 < 2 ^ 64
+      mark-room = rw sum-is digit-room
+
+      pub mark-more : Digits (early N s (r + 1)) (set bits (u / 64) (getD bits (u / 64) 0 + (1 * 2 ^ (u % 64)) % 2 ^ 64))
+      mark-more = digits-more _ _ word-is sum-is
+
+-- in the end every orbit dart has its digit
+pub early-orbit : {N : ℕ} {S : Scheme} {O : ℕ → Bool} {t s : List ℕ} {size many : ℕ} → Grant N S O t s size many → (x : ℕ) → early N s size x ≡ O x
+early-orbit {N} {S} {O} {t} {s} {size} G x = same-test _ _
+    (λ e. let m = early-at N s size x e in sym (G .is x (m .0)) ∙ among-of s size x (m .1) (m .2))
+    (λ e. let m = G .placed x e in early-of N s size x (G .slot x e) (m .0) (m .1))
+
+-- ---- the darts of one word of digits
+
+-- the orbit darts of the word below 64 × w + passed have their pairs; `rest` has a digit for each of the others
+pub record Passed (N : ℕ) (S : Scheme) (O : ℕ → Bool) (t₀ s₀ : List ℕ) (size many w rest from : ℕ) (t s : List ℕ) : Type 0 where
+  pub passed : ℕ
+  pub few : passed ≤ 64
+  pub digits : rest ≡ binary 64 (λ k. leb passed k and O (64 * w + k))
+  pub granting : Granting N S O t₀ s₀ size (countBelow (64 * w + passed) O * many) from t s
+
+pub passed-none : {N : ℕ} {t s : List ℕ} {size many w number free : ℕ} (B : Block N t s size many w number free)
+    → Passed N (B .scheme) (B .orbit) (B .table) (B .store) size many w number free t s
+passed-none {N} {t} {s} {size} {many} {w} {number} {free} B =
+    let z : 64 * w ≡ 64 * w + 0 = omega arith in
+    record {
+      passed = 0;
+      few = omega arith;
+      digits = B .digits ∙ binary-same 64 _ _ (λ k l. same-test _ _ (λ e. and-of (le-leb 0 k (omega arith)) e) (λ e. and-right _ _ e));
+      granting = subst (λ (x : ℕ). Granting N (B .scheme) (B .orbit) (B .table) (B .store) size (countBelow x (B .orbit) * many) free t s) z (B .granting);
+    }
+
+module _ {N : ℕ} {S : Scheme} {O : ℕ → Bool} {t₀ s₀ : List ℕ} {size many w rest from : ℕ} {t s : List ℕ} (G : Grant N S O t₀ s₀ size many)
+    (p : Passed N S O t₀ s₀ size many w rest from t s) where
+  same-count : (j : ℕ) → p .passed ≤ j → ((k : ℕ) → p .passed ≤ k → k < j → O (64 * w + k) ≡ false)
+      → Granting N S O t₀ s₀ size (countBelow (64 * w + j) O * many) from t s
+  same-count j h f =
+      let c : countBelow (64 * w + j) O ≡ countBelow (64 * w + p .passed) O = count-gap O (64 * w + p .passed) (64 * w + j) (omega arith)
+      (λ z l g. let k : 64 * w + (z - 64 * w) ≡ z = omega arith in ap O (sym k) ∙ f (z - 64 * w) (omega arith) (omega arith)) in
+      rw c (p .granting)
+
+  pub passed-all : rest ≡ 0 → Granting N S O t₀ s₀ size (countBelow (64 * w + 64) O * many) from t s
+  passed-all e = same-count 64 (p .few)
+      (λ k l h. impossible _ (λ q. true≢false (sym (and-of (le-leb (p .passed) k l) q) ∙ binary-none 64 _ (sym (p .digits) ∙ e) k h)))
+
+  module _ (some : rest ≡ 0 → ⊥) (j : ℕ) (is : j ≡ trailingZeros 64 rest) where
+    lowest-digit : (j < 64) × ((leb (p .passed) j and O (64 * w + j)) ≡ true) × ((i : ℕ) → i < j → (leb (p .passed) i and O (64 * w + i)) ≡ false)
+    lowest-digit =
+        let q : j ≡ trailingZeros 64 (binary 64 (λ k. leb (p .passed) k and O (64 * w + k))) = is ∙ ap (trailingZeros 64) (p .digits) in
+        rw q (binary-lowest 64 (λ k. leb (p .passed) k and O (64 * w + k)) (omega (arith, p .digits)))
+
+    pub in-word : j < 64
+    in-word = lowest-digit .0
+
+    in-orbit : O (64 * w + j) ≡ true
+    in-orbit = and-right _ _ (lowest-digit .1)
+
+    late : p .passed ≤ j
+    late = leb-true (p .passed) j (and-left _ _ (lowest-digit .1))
+
+    skipped : (k : ℕ) → p .passed ≤ k → k < j → O (64 * w + k) ≡ false
+    skipped k l h = impossible _ (λ q. true≢false (sym (and-of (le-leb (p .passed) k l) q) ∙ lowest-digit .2 k h))
+
+    rest-is : rest ≡ binary 64 (λ k. leb (j + 1) k and O (64 * w + k)) + 2 ^ j
+    rest-is = p .digits ∙ binary-more 64 _ _ j in-word
+        (impossible _ (λ e. let l = leb-true (j + 1) j (and-left _ _ e) in omega arith))
+        (lowest-digit .1)
+        (λ k l ne. same-test _ _
+        (λ e. by-cases (decLt k j)
+        (λ b. absurd (true≢false (sym e ∙ lowest-digit .2 k b)))
+        (λ b. and-of (le-leb (j + 1) k (omega arith)) (and-right _ _ e)))
+        (λ e. let b = leb-true (j + 1) k (and-left _ _ e) in and-of (le-leb (p .passed) k (omega (arith, late))) (and-right _ _ e)))
+
+    -- the digit taken off, as the machine does it
+    pub digit-less : ((1 * 2 ^ j) % 2 ^ 64 ≤ rest) × (rest - (1 * 2 ^ j) % 2 ^ 64 < rest)
+    digit-less =
+        let e = shifted j in-word in
+        let l = pow-pos j in
+        rw e (omega (arith, rest-is), omega (arith, rest-is))
+
+    pub dart-fits : 64 * w + j < N
+    dart-fits = G .slot (64 * w + j) in-orbit
+
+    next : Granting N S O t₀ s₀ size (countBelow (64 * w + j) O * many) from t s
+    next = same-count j late skipped
+
+    same-mark : mark s (64 * w + j) ≡ mark s₀ (64 * w + j)
+    unfolding mark
+    same-mark = p .granting .kept (64 * w + j) (inl (omega (arith, G .slot (64 * w + j) in-orbit)))
+
+    pub mark-some : (k : ℕ) → k ≡ getD s (64 * w + j) 0 → 1 ≤ k
+    unfolding mark
+    mark-some k q = omega (arith, same-mark, G .placed (64 * w + j) in-orbit)
+
+    pub turn-of : (k : ℕ) → k ≡ getD s (64 * w + j) 0 → Turn N t s size many (64 * w + j) (k - 1) from
+    unfolding mark
+    turn-of k q = record {
+      scheme = S;
+      orbit = O;
+      table = t₀;
+      store = s₀;
+      grant = G;
+      inOrbit = in-orbit;
+      place = omega (arith, mark-some k q, same-mark);
+      granting = next;
+    }
+
+    -- after the pairs of the lowest dart that is left
+    pub passed-more : (k rest′ from′ : ℕ) (t′ s′ : List ℕ) → k ≡ getD s (64 * w + j) 0 → rest′ ≡ rest - (1 * 2 ^ j) % 2 ^ 64
+        → ((T : Turn N t s size many (64 * w + j) (k - 1) from)
+        → Granting N (T .scheme) (T .orbit) (T .table) (T .store) size (countBelow (64 * w + j) (T .orbit) * many + many) from′ t′ s′)
+        → Passed N S O t₀ s₀ size many w rest′ from′ t′ s′
+    unfolding turn-of
+    passed-more k rest′ from′ t′ s′ q e f =
+        let c : countBelow (64 * w + j + 1) O ≡ countBelow (64 * w + j) O + 1 = count-step (64 * w + j) O ∙ ap (λ (b : Bool). countBelow (64 * w + j) O + bit b) in-orbit in
+        let a : 64 * w + (j + 1) ≡ 64 * w + j + 1 = omega arith in
+        let d : (countBelow (64 * w + j) O + 1) * many ≡ countBelow (64 * w + j) O * many + many = omega arith in
+        record {
+          passed = j + 1;
+          few = omega (arith, in-word);
+          digits = let h = shifted j in-word in omega (arith, rest-is);
+          granting = rw (a, c, d) (f (turn-of k q));
+        }

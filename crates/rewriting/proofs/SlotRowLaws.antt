@@ -1,0 +1,300 @@
+-- The laws of `slots::lowest`, `slots::revive` and `slots::row`, which give slots to the added pairs one after the other: what the first pairs got stays as it is, and the lowest slot that is left is that of the next rank.
+-- Assumes nothing.
+use Prim.Native.Nat.{ℕ, _+_, _*_, _-_, _≤_, _<_}
+use mathlib.Core.Path.{_≡_, refl, sym, ap, ap₂, _∙_, subst}
+use mathlib.Core.Logic.{_⊎_, inl, inr, ⊎-elim, by-cases}
+use mathlib.Core.Bool.{Bool, true}
+use mathlib.Core.Option.{Option, Option·getD}
+use mathlib.Core.List.{List}
+use native.Mathlib.Nat.{add-zero, mul-le-mul-right, lt-of-lt-of-le}
+use native.Mathlib.Decide.{ℕ-discrete, decLt}
+use native.Mathlib.Omega.{arith}
+use lib.ListN.{length, getD, set, length-set}
+use lib.Seq.{getD-set-same, getD-set-other}
+use borrow.Author.Tests.{eqb-true, eq-eqb, ne-eqb}
+use Rattle.base.specs.Test.{bit}
+use Rattle.base.specs.Below.{countBelow}
+use Rattle.base.proofs.BelowLaws.{count-le, count-lt, count-injective, count-reaches, count-step, count-gap}
+use Rattle.base.proofs.FirstLaws.{nth-is}
+use Rattle.base.proofs.RowLaws.{digits}
+use Rattle.model.specs.Map.{view, unused}
+use Rattle.model.specs.Scheme.{added}
+use Rattle.model.specs.Edit.{orbitSize, addedDarts, rank, freeSlot, dartOf}
+use Rattle.model.specs.declared.Scheme.{Scheme}
+use Rattle.model.proofs.RankLaws.{rank-low, rank-once, dart-added}
+use Rattle.table.specs.Words.{Sized, wordAt, put}
+use Rattle.table.proofs.WordLaws.{length-put, put-same, put-other}
+use Rattle.orbit.specs.Store.{mark, dartAt}
+use Rattle.rewriting.specs.Slots.{Room, Lowest, revived, columnStart, Grant, Due, Granting, Turn}
+
+-- ---- the scan for an unused slot
+
+-- no slot from `from` to before y is unused
+pub record Scanned (N : ℕ) (t : List ℕ) (from y : ℕ) : Type 0 where
+  pub late : from ≤ y
+  pub none : (z : ℕ) → from ≤ z → z < y → view N t .state z ≡ 0 → ⊥
+
+pub scan-start : (N : ℕ) (t : List ℕ) (from : ℕ) → Scanned N t from from
+scan-start N t from = record { late = omega arith; none = λ z g h. absurd (omega arith) }
+
+module _ {N : ℕ} {t : List ℕ} {from y : ℕ} (p : Scanned N t from y) where
+  -- the scan does not pass the unused slot that there is
+  pub scan-inside : Room N t from → y < N
+  scan-inside R = by-cases (decLt (R .slot) y) (λ h. absurd (p .none (R .slot) (R .late) h (R .is))) (λ h. omega (arith, R .fits))
+
+  pub scan-more : (k y′ : ℕ) → k ≡ view N t .state y → (k ≡ 0 → ⊥) → y′ ≡ y + 1 → Scanned N t from y′
+  scan-more k y′ e n q = record {
+    late = omega (arith, p .late);
+    none = λ z g h f. by-cases (ℕ-discrete z y) (λ w. n (e ∙ ap (view N t .state) (sym w) ∙ f)) (λ w. p .none z g (omega arith) f);
+  }
+
+  pub scan-found : (k : ℕ) → Room N t from → k ≡ view N t .state y → k ≡ 0 → Lowest N t from y
+  scan-found k R e z = record { fits = scan-inside R; late = p .late; is = sym e ∙ z; first = p .none }
+
+-- ---- one slot
+
+pub revived-of : (t t₁ t₂ t₃ : List ℕ) (y v : ℕ) → t₁ ≡ put t y 0 1 → t₂ ≡ put t₁ y 4 y → t₃ ≡ put t₂ y 5 v → t₃ ≡ revived t y v
+unfolding revived
+revived-of t t₁ t₂ t₃ y v e f g =
+    g ∙ ap (λ (l : List ℕ). put l y 5 v) (f ∙ ap (λ (l : List ℕ). put l y 4 y) e)
+
+state-word : (N : ℕ) (t : List ℕ) (x : ℕ) → wordAt t x 0 ≡ view N t .state x
+unfolding wordAt
+state-word N t x = ap (λ (z : ℕ). getD t z 0) (add-zero (6 * x))
+
+module _ (t : List ℕ) (y v : ℕ) where
+  pub length-revived : length (revived t y v) ≡ length t
+  unfolding revived
+  length-revived = length-put _ y 5 v ∙ length-put _ y 4 y ∙ length-put t y 0 1
+
+  -- a word of another slot, or a link of dimension 0 to 2
+  revived-other : (x c : ℕ) → c < 6 → (x ≡ y → ⊥) ⊎ ((1 ≤ c) × (c ≤ 3)) → wordAt (revived t y v) x c ≡ wordAt t x c
+  unfolding revived
+  revived-other x c h a = put-other _ y 5 v x c (omega arith) h (apart 5 (λ l k e. omega arith))
+      ∙ put-other _ y 4 y x c (omega arith) h (apart 4 (λ l k e. omega arith))
+      ∙ put-other t y 0 1 x c (omega arith) h (apart 0 (λ l k e. omega arith))
+    where
+      apart : (d : ℕ) → (1 ≤ c → c ≤ 3 → c ≡ d → ⊥) → (x ≡ y → ⊥) ⊎ (c ≡ d → ⊥)
+      apart d f = ⊎-elim (λ (n : x ≡ y → ⊥). inl n) (λ (w : (1 ≤ c) × (c ≤ 3)). inr (f (w .0) (w .1))) a
+
+  module _ (fits : 6 * y + 6 ≤ length t) where
+    revived-state : wordAt (revived t y v) y 0 ≡ 1
+    unfolding revived
+    revived-state = put-other _ y 5 v y 0 (omega arith) (omega arith) (inr (λ e. omega arith))
+        ∙ put-other _ y 4 y y 0 (omega arith) (omega arith) (inr (λ e. omega arith))
+        ∙ put-same t y 0 1 (omega arith)
+
+    revived-own : wordAt (revived t y v) y 4 ≡ y
+    unfolding revived
+    revived-own = put-other _ y 5 v y 4 (omega arith) (omega arith) (inr (λ e. omega arith))
+        ∙ put-same (put t y 0 1) y 4 y (omega (arith, length-put t y 0 1))
+
+    revived-tag : wordAt (revived t y v) y 5 ≡ v
+    unfolding revived
+    revived-tag = put-same (put (put t y 0 1) y 4 y) y 5 v (omega (arith, length-put (put t y 0 1) y 4 y, length-put t y 0 1))
+
+-- ---- one pair
+
+module _ {N : ℕ} {S : Scheme} {O : ℕ → Bool} {t₀ s₀ : List ℕ} {size many : ℕ} (G : Grant N S O t₀ s₀ size many) where
+  pub granting-none : Granting N S O t₀ s₀ size 0 0 t₀ s₀
+  unfolding countBelow
+  granting-none = record {
+    tableLong = refl;
+    storeLong = refl;
+    taken = refl;
+    low = λ u v d. absurd (omega (arith, d .early));
+    was = λ u v d. absurd (omega (arith, d .early));
+    state = λ u v d. absurd (omega (arith, d .early));
+    own = λ u v d. absurd (omega (arith, d .early));
+    tag = λ u v d. absurd (omega (arith, d .early));
+    links = λ y c l h. refl;
+    other = λ y c h f. refl;
+    dart = λ u v d. absurd (omega (arith, d .early));
+    kept = λ i w. refl;
+  }
+
+  -- as many columns as there are added nodes lie in N words
+  pub cells : many * size ≤ N
+  unfolding addedDarts orbitSize
+  cells =
+      let r = G .room in
+      let e : countBelow N O * countBelow (S .nodes) (added S) ≡ size * many = ap₂ _*_ (G .counted) (sym (G .every)) in
+      omega (arith, count-le N (unused (view N t₀)))
+
+  -- the word of the store that holds the dart of (u, v)
+  abbrev cell : ℕ → ℕ → ℕ
+  cell u v = columnStart N size (countBelow v (added S)) + (mark s₀ u - 1)
+
+  -- the column of an added node ends within N words
+  pub column-within : (v : ℕ) → v < S .nodes → added S v ≡ true → (countBelow v (added S) < many) × (countBelow v (added S) * size + size ≤ N)
+  column-within v h a =
+      let l : countBelow v (added S) < many = rw (G .every) (count-lt (added S) v (S .nodes) h a) in
+      let c = mul-le-mul-right size l in
+      (l, omega (arith, cells))
+
+  cell-fits : (u v : ℕ) → O u ≡ true → v < S .nodes → added S v ≡ true → (2 * N ≤ cell u v) × (cell u v < 3 * N)
+  cell-fits u v e h a = let p = G .placed u e in (omega arith, omega (arith, column-within v h a))
+
+  cell-once : (u v x w : ℕ) → O u ≡ true → O x ≡ true → added S v ≡ true → added S w ≡ true → cell u v ≡ cell x w → (u ≡ x) × (v ≡ w)
+  cell-once u v x w e f a b q =
+      let p = G .placed u e in
+      let r = G .placed x f in
+      let d = digits size (countBelow v (added S)) (mark s₀ u - 1) (countBelow w (added S)) (mark s₀ x - 1) (omega arith) (omega arith) (omega arith) in
+      (G .once u x e f (omega (arith, d .1)), count-injective (added S) v w a b (d .0))
+
+  module _ {done free : ℕ} {t s : List ℕ} (g : Granting N S O t₀ s₀ size done free t s) where
+    -- a slot from `free` on is as it was
+    ahead : (y : ℕ) → free ≤ y → view N t .state y ≡ view N t₀ .state y
+    ahead y h = sym (state-word N t y) ∙ g .other y 0 (omega arith) (λ u v d e. omega (arith, g .low u v d)) ∙ state-word N t₀ y
+
+    pub granting-sized : Sized N t
+    granting-sized = record { few = G .sized .few; long = g .tableLong ∙ G .sized .long }
+
+    -- while there is room, a slot from `free` on is unused
+    pub room-ahead : done < countBelow N (unused (view N t₀)) → Room N t free
+    room-ahead h =
+        let r = count-reaches (unused (view N t₀)) N done h in
+        let late : free ≤ r .0 = by-cases (decLt (r .0) free)
+        (λ l. absurd (omega (arith, count-lt (unused (view N t₀)) (r .0) free l (r .2), g .taken, r .3)))
+        (λ l. omega arith) in
+        record { slot = r .0; fits = r .1; late = late; is = ahead (r .0) late ∙ eqb-true _ _ (r .2) }
+
+    -- the orbit's darts are none of the slots given
+    pub orbit-word : (u c : ℕ) → O u ≡ true → c < 6 → wordAt t u c ≡ wordAt t₀ u c
+    orbit-word u c e h = g .other u c h
+        (λ x v d q. let z : view N t₀ .state u ≡ 0 = ap (view N t₀ .state) (sym q) ∙ g .was x v d in omega (arith, G .alive u e))
+
+    module _ {y : ℕ} (L : Lowest N t free y) where
+      was-unused : view N t₀ .state y ≡ 0
+      was-unused = sym (ahead y (L .late)) ∙ L .is
+
+      -- as many were unused below y as pairs have their slot
+      count-below : countBelow y (unused (view N t₀)) ≡ done
+      count-below = count-gap (unused (view N t₀)) free y (L .late)
+          (λ z l h. ne-eqb _ _ (λ e. L .first z l h (ahead z l ∙ e))) ∙ g .taken
+
+      slot-next : freeSlot (view N t₀) done ≡ y
+      unfolding freeSlot
+      slot-next = ap (λ (o : Option ℕ). Option·getD o 0) (nth-is N (unused (view N t₀)) done y (L .fits) (eq-eqb _ _ was-unused) count-below)
+
+  -- the next pair takes the lowest slot that is left
+  module _ {done free : ℕ} {t s : List ℕ} (g : Granting N S O t₀ s₀ size done free t s) {y : ℕ} (L : Lowest N t free y)
+      (u v : ℕ) (e : O u ≡ true) (h : v < S .nodes) (a : added S v ≡ true) (next : rank S O u v ≡ done) where
+    here : dartOf (view N t₀) S O u v ≡ y
+    here = dart-added (view N t₀) S O u v a ∙ ap (freeSlot (view N t₀)) next ∙ slot-next g L
+
+    due : Due (view N t₀) S O (done + 1) u v
+    due = record { inOrbit = e; below = h; isAdded = a; early = omega arith }
+
+    later : (x w : ℕ) → Due (view N t₀) S O done x w → Due (view N t₀) S O (done + 1) x w
+    later x w d = record { inOrbit = d .inOrbit; below = d .below; isAdded = d .isAdded; early = omega (arith, d .early) }
+
+    -- a pair that has its slot now had it before, or is this one
+    old-or-new : (x w : ℕ) → Due (view N t₀) S O (done + 1) x w → Due (view N t₀) S O done x w ⊎ ((x ≡ u) × (w ≡ v))
+    old-or-new x w d = by-cases (decLt (rank S O x w) done)
+        (λ l. inl (record { inOrbit = d .inOrbit; below = d .below; isAdded = d .isAdded; early = l }))
+        (λ l. inr (rank-once (view N t₀) S O x w u v (d .inOrbit) e (d .below) h (d .isAdded) a (omega (arith, d .early))))
+
+    same : (x w : ℕ) → x ≡ u → w ≡ v → dartOf (view N t₀) S O x w ≡ y
+    same x w p q = ap₂ (dartOf (view N t₀) S O) p q ∙ here
+
+    other-slot : (x w : ℕ) → Due (view N t₀) S O done x w → dartOf (view N t₀) S O x w ≡ y → ⊥
+    other-slot x w d q = omega (arith, g .low x w d, L .late)
+
+    other-cell : (x w : ℕ) → Due (view N t₀) S O done x w → cell x w ≡ cell u v → ⊥
+    other-cell x w d q =
+        let c = cell-once x w u v (d .inOrbit) e (d .isAdded) a q in
+        let r : rank S O x w ≡ done = ap₂ (rank S O) (c .0) (c .1) ∙ next in
+        omega (arith, d .early)
+
+    fits : 6 * y + 6 ≤ length t
+    fits = omega (arith, L .fits, g .tableLong, G .sized .long)
+
+    cell-in : cell u v < length s
+    cell-in = omega (arith, cell-fits u v e h a .1, g .storeLong, G .long)
+
+    -- a word of a slot that a pair has
+    given-word : (w i : ℕ) (f : ℕ → ℕ → ℕ) → wordAt (revived t y w) y i ≡ f u y
+        → ((x z : ℕ) → Due (view N t₀) S O done x z → wordAt t (dartOf (view N t₀) S O x z) i ≡ f x (dartOf (view N t₀) S O x z)) → i < 6
+        → (x z : ℕ) → Due (view N t₀) S O (done + 1) x z → wordAt (revived t y w) (dartOf (view N t₀) S O x z) i ≡ f x (dartOf (view N t₀) S O x z)
+    given-word w i f new old l x z d = ⊎-elim
+        (λ (b : Due (view N t₀) S O done x z). revived-other t y w _ i l (inl (other-slot x z b)) ∙ old x z b)
+        (λ (b : (x ≡ u) × (z ≡ v)). let q = same x z (b .0) (b .1) in
+        ap (λ (k : ℕ). wordAt (revived t y w) k i) q ∙ new ∙ sym (ap₂ f (b .0) q))
+        (old-or-new x z d)
+
+    pub granting-more : (w i : ℕ) → w ≡ view N t₀ .tag u → i ≡ cell u v → Granting N S O t₀ s₀ size (done + 1) (y + 1) (revived t y w) (set s i y)
+    unfolding dartAt
+    granting-more w i tag-is cell-is = record {
+      tableLong = length-revived t y w ∙ g .tableLong;
+      storeLong = length-set s i y ∙ g .storeLong;
+      taken = count-step y (unused (view N t₀)) ∙ ap₂ (λ (k : ℕ) (b : Bool). k + bit b) (count-below g L) (eq-eqb _ _ (was-unused g L));
+      low = λ x z d. ⊎-elim
+          (λ (b : Due (view N t₀) S O done x z). omega (arith, g .low x z b, L .late))
+          (λ (b : (x ≡ u) × (z ≡ v)). omega (arith, same x z (b .0) (b .1)))
+          (old-or-new x z d);
+      was = λ x z d. ⊎-elim
+          (λ (b : Due (view N t₀) S O done x z). g .was x z b)
+          (λ (b : (x ≡ u) × (z ≡ v)). ap (view N t₀ .state) (same x z (b .0) (b .1)) ∙ was-unused g L)
+          (old-or-new x z d);
+      state = given-word w 0 (λ x z. 1) (revived-state t y w fits) (g .state) (omega arith);
+      own = given-word w 4 (λ x z. z) (revived-own t y w fits) (g .own) (omega arith);
+      tag = given-word w 5 (λ x z. view N t₀ .tag x) (revived-tag t y w fits ∙ tag-is) (g .tag) (omega arith);
+      links = λ x c l k. revived-other t y w x c (omega arith) (inr (l, k)) ∙ g .links x c l k;
+      other = λ x c l f. revived-other t y w x c l (inl (λ q. f u v due (here ∙ sym q))) ∙ g .other x c l (λ x z d. f x z (later x z d));
+      dart = λ x z d. ⊎-elim
+          (λ (b : Due (view N t₀) S O done x z). getD-set-other s i (cell x z) y 0 (λ q. other-cell x z b (q ∙ cell-is)) ∙ g .dart x z b)
+          (λ (b : (x ≡ u) × (z ≡ v)). ap (λ (k : ℕ). getD (set s i y) k 0) (ap₂ cell (b .0) (b .1) ∙ sym cell-is)
+          ∙ getD-set-same s i y 0 (omega (arith, cell-in)) ∙ sym (same x z (b .0) (b .1)))
+          (old-or-new x z d);
+      kept = λ k b. getD-set-other s i k y 0
+          (λ q. let c = cell-fits u v e h a in ⊎-elim (λ (l : k < 2 * N). omega arith) (λ (l : 3 * N ≤ k). omega arith) b) ∙ g .kept k b;
+    }
+
+-- ---- the pairs of one orbit dart
+
+module _ {N : ℕ} {t s : List ℕ} {size many u r free : ℕ} (T : Turn N t s size many u r free) where
+  -- the tag of the orbit dart is as it was
+  pub turn-tag : view N t .tag u ≡ view N (T .table) .tag u
+  unfolding wordAt
+  turn-tag = orbit-word (T .grant) (T .granting) u 5 (T .inOrbit) (omega arith)
+
+  -- after the last of its pairs
+  pub turn-done : {a from : ℕ} {t′ s′ : List ℕ} → a ≤ many → many ≤ a
+      → Granting N (T .scheme) (T .orbit) (T .table) (T .store) size (countBelow u (T .orbit) * many + a) from t′ s′
+      → Granting N (T .scheme) (T .orbit) (T .table) (T .store) size (countBelow u (T .orbit) * many + many) from t′ s′
+  turn-done {a} {from} {t′} {s′} h l g =
+      let e : a ≡ many = omega arith in
+      subst (λ (k : ℕ). Granting N (T .scheme) (T .orbit) (T .table) (T .store) size (countBelow u (T .orbit) * many + k) from t′ s′) e g
+
+  module _ (a : ℕ) (l : a < many) where
+    -- the a-th added node
+    node : (v : ℕ) × (v < T .scheme .nodes) × (added (T .scheme) v ≡ true) × (countBelow v (added (T .scheme)) ≡ a)
+    node = count-reaches (added (T .scheme)) (T .scheme .nodes) a (rw (← T .grant .every) l)
+
+    node-rank : rank (T .scheme) (T .orbit) u (node .0) ≡ countBelow u (T .orbit) * many + a
+    unfolding rank
+    node-rank = ap₂ (λ (k c : ℕ). countBelow u (T .orbit) * k + c) (sym (T .grant .every)) (node .3)
+
+    pub turn-cell : a * size + r < N
+    turn-cell =
+        let p = T .grant .placed u (T .inOrbit) in
+        let c = mul-le-mul-right size l in
+        omega (arith, cells (T .grant), T .place)
+
+    module _ {from : ℕ} {t′ s′ : List ℕ}
+        (g : Granting N (T .scheme) (T .orbit) (T .table) (T .store) size (countBelow u (T .orbit) * many + a) from t′ s′) where
+      pub turn-room : Room N t′ from
+      turn-room =
+          let n = node in
+          let b = rank-low (view N (T .table)) (T .scheme) (T .orbit) (T .grant .slot) u (n .0) (T .inOrbit) (n .1) (n .2) in
+          room-ahead (T .grant) g (subst (λ (k : ℕ). k < countBelow N (unused (view N (T .table)))) node-rank (lt-of-lt-of-le b (T .grant .room)))
+
+      pub turn-more : (y w : ℕ) (t″ s″ : List ℕ) → Lowest N t′ from y → w ≡ view N t .tag u → t″ ≡ revived t′ y w → s″ ≡ set s′ (2 * N + a * size + r) y
+          → Granting N (T .scheme) (T .orbit) (T .table) (T .store) size (countBelow u (T .orbit) * many + (a + 1)) (y + 1) t″ s″
+      turn-more y w t″ s″ L e p q =
+          let n = node in
+          let i : 2 * N + a * size + r ≡ columnStart N size (countBelow (n .0) (added (T .scheme))) + (mark (T .store) u - 1) =
+          ap₂ (λ (k c : ℕ). 2 * N + k * size + c) (sym (n .3)) (omega (arith, T .place)) in
+          let j : countBelow u (T .orbit) * many + a + 1 ≡ countBelow u (T .orbit) * many + (a + 1) = omega arith in
+          rw (p, q, ← j) (granting-more (T .grant) g L u (n .0) (T .inOrbit) (n .1) (n .2) node-rank w (2 * N + a * size + r) (e ∙ turn-tag) i)

@@ -1,0 +1,66 @@
+-- `rewriting::links::erase` meets its contract. The loop's invariant: the records of the first r darts are zero.
+-- Assumes nothing.
+use Prim.Native.Nat.{_-_}
+use borrow.Author.Needs.{needs}
+use Rattle.orbit.specs.Store.{dartAt}
+use Rattle.rewriting.specs.Links.{zeroed, erased}
+use Rattle.rewriting.proofs.LinkLaws.{Stage, stage-none, stage-more, stage-length, stage-done, slot-at, zeroed-at}
+use Rattle.rewriting.proofs.links.erase.Statement.{statement}
+use Rattle.rewriting.proofs.links.erase.Tie as tie
+
+abbrev Inv-loop : tie.InvT-loop
+Inv-loop slots table₀ store size base r₀ table r = Stage slots table₀ (λ k. zeroed (dartAt store base k)) size r table
+
+abbrev μ-loop : tie.MeasureT-loop
+μ-loop slots table₀ store size base r₀ table r = size - r
+
+loop-holds : tie.Need-loop-holds Inv-loop μ-loop
+loop-holds c = stage-none (c .before .before .pre .0)
+
+add-word : tie.Need-add-word Inv-loop μ-loop
+add-word c = search needs
+
+word-requires : tie.Need-word-requires Inv-loop μ-loop
+word-requires c κs = search needs
+
+blank-requires : tie.Need-blank-requires Inv-loop μ-loop
+blank-requires c κs =
+    let w = c .before in
+    let l = w .before .before in
+    (l .loop .inv .sized, slot-at (l .before .before .before .pre .1) _ _ (w .before .loop-test .taken) (w .word .ensures))
+
+add-r : tie.Need-add-r Inv-loop μ-loop
+add-r c = search needs
+
+loop-less : tie.Need-loop-less Inv-loop μ-loop
+loop-less c = search needs
+
+loop-again : tie.Need-loop-again Inv-loop μ-loop
+unfolding dartAt
+loop-again c =
+    let w = c .before .before .before .before in
+    stage-more (w .before .before .loop .inv) (w .before .loop-test .taken) (c .before .before .blank .kept .1 .0)
+    (zeroed-at _ _ _ _ (c .before .before .blank .ensures) (w .word .ensures))
+
+same-length : tie.Need-same-length Inv-loop μ-loop
+same-length c = stage-length (c .before .loop .inv) (c .before .before .before .before .pre .0)
+
+returns : tie.Need-returns Inv-loop μ-loop
+unfolding erased
+returns c = stage-done (c .before .loop .inv) (c .loop-test .left)
+
+pub erase-spec : {M : Type 1} → statement M
+erase-spec =
+    tie.close
+    (tie.spec
+    Inv-loop
+    μ-loop
+    loop-holds
+    add-word
+    word-requires
+    blank-requires
+    add-r
+    loop-less
+    loop-again
+    same-length
+    returns)

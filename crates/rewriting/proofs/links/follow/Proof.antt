@@ -1,0 +1,54 @@
+-- `rewriting::links::follow` meets its contract. Each return is one of the kinds of arcs.
+-- Assumes nothing.
+use mathlib.Core.Path.{refl}
+use borrow.Author.Needs.{needs}
+use Rattle.rewriting.proofs.LinkLaws.{by-node, by-position, by-none}
+use Rattle.rewriting.proofs.links.follow.Statement.{statement}
+use Rattle.rewriting.proofs.links.follow.Tie as tie
+
+mul-join : tie.Need-mul-join
+mul-join c = search needs
+
+element-copy-out-join : tie.Need-element-copy-out-join
+element-copy-out-join c = search needs
+
+join-requires : tie.Need-join-requires
+join-requires c κs =
+    let pre = c .before .before .before .before .before .pre in
+    (pre .0, (pre .1 .0, (pre .1 .1 .0 .node (c .before .before .if1 .taken), pre .1 .1 .1)))
+
+turn-requires : tie.Need-turn-requires
+turn-requires c κs =
+    let pre = c .before .before .before .before .before .pre in
+    (pre .0, (pre .1 .0, (pre .1 .1 .0 .position (c .before .before .if1 .left) (c .before .if2 .taken), pre .1 .1 .1)))
+
+same-length : tie.Need-same-length
+same-length c = search needs
+
+returns : tie.Need-returns
+returns c = by-node _ _ _ _ _ _ _ _ _ (c .before .before .before .before .before .if1 .taken) (c .before .before .join .ensures)
+
+same-length-2 : tie.Need-same-length-2
+same-length-2 c = search needs
+
+returns-2 : tie.Need-returns-2
+returns-2 c =
+    let b = c .before .before .before .before in
+    by-position _ _ _ _ _ _ _ _ _ (b .before .if1 .left) (b .if2 .taken) (c .before .before .turn .ensures)
+
+returns-3 : tie.Need-returns-3
+returns-3 c = by-none _ _ _ _ _ _ _ _ _ (c .if2 .left) refl
+
+pub follow-spec : {M : Type 1} → statement M
+follow-spec =
+    tie.close
+    (tie.spec
+    mul-join
+    element-copy-out-join
+    join-requires
+    turn-requires
+    same-length
+    returns
+    same-length-2
+    returns-2
+    returns-3)

@@ -1,0 +1,83 @@
+-- `rewriting::links::join` meets its contract. The loop's invariant: the column is written for the first r darts.
+-- Assumes nothing.
+use Prim.Native.Nat.{_-_}
+use mathlib.Core.Path.{refl}
+use borrow.Author.Needs.{needs}
+use Rattle.table.specs.Words.{put}
+use Rattle.orbit.specs.Store.{dartAt}
+use Rattle.rewriting.specs.Links.{overwritten}
+use Rattle.rewriting.proofs.LinkLaws.{Stage, stage-none, stage-more, stage-length, stage-done, put-at, slot-at}
+use Rattle.rewriting.proofs.links.join.Statement.{statement}
+use Rattle.rewriting.proofs.links.join.Tie as tie
+
+abbrev Inv-loop : tie.InvT-loop
+Inv-loop slots table₀ store size c from to r₀ table r =
+    Stage slots table₀ (λ k t. put t (dartAt store from k) c (dartAt store to k)) size r table
+
+abbrev μ-loop : tie.MeasureT-loop
+μ-loop slots table₀ store size c from to r₀ table r = size - r
+
+loop-holds : tie.Need-loop-holds Inv-loop μ-loop
+loop-holds c = stage-none (c .before .before .pre .0)
+
+add-word : tie.Need-add-word Inv-loop μ-loop
+add-word c = search needs
+
+word-requires : tie.Need-word-requires Inv-loop μ-loop
+word-requires c κs = search needs
+
+add-put : tie.Need-add-put Inv-loop μ-loop
+add-put c = search needs
+
+mul-put : tie.Need-mul-put Inv-loop μ-loop
+mul-put c = search needs
+
+shared-slice-read-put : tie.Need-shared-slice-read-put Inv-loop μ-loop
+shared-slice-read-put c = search needs
+
+put-requires : tie.Need-put-requires Inv-loop μ-loop
+put-requires c κs =
+    let w = c .before .before in
+    let l = w .before .before in
+    let pre = l .before .before .before .pre in
+    (l .loop .inv .sized, (slot-at (pre .1 .0) _ _ (w .before .loop-test .taken) (w .word .ensures), pre .1 .1 .1))
+
+add-r : tie.Need-add-r Inv-loop μ-loop
+add-r c = search needs
+
+loop-less : tie.Need-loop-less Inv-loop μ-loop
+loop-less c = search needs
+
+loop-again : tie.Need-loop-again Inv-loop μ-loop
+unfolding dartAt
+loop-again c =
+    let w = c .before .before .before .before .before in
+    let l = w .before .before in
+    stage-more (l .loop .inv) (w .before .loop-test .taken) (c .before .before .put .kept .1 .0)
+    (put-at _ _ _ _ _ _ _ (c .before .before .put .ensures) (w .word .ensures) refl)
+
+same-length : tie.Need-same-length Inv-loop μ-loop
+same-length c = stage-length (c .before .loop .inv) (c .before .before .before .before .pre .0)
+
+returns : tie.Need-returns Inv-loop μ-loop
+unfolding overwritten
+returns c = stage-done (c .before .loop .inv) (c .loop-test .left)
+
+pub join-spec : {M : Type 1} → statement M
+join-spec =
+    tie.close
+    (tie.spec
+    Inv-loop
+    μ-loop
+    loop-holds
+    add-word
+    word-requires
+    add-put
+    mul-put
+    shared-slice-read-put
+    put-requires
+    add-r
+    loop-less
+    loop-again
+    same-length
+    returns)

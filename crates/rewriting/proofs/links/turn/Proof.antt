@@ -1,0 +1,112 @@
+-- `rewriting::links::turn` meets its contract. The loop's invariant: the column is written for the first r darts.
+-- Assumes nothing.
+use Prim.Native.Nat.{_-_, _<_}
+use native.Mathlib.Omega.{arith}
+use borrow.Author.Needs.{needs}
+use denote.Ref.{now}
+use Rattle.table.specs.Words.{put}
+use Rattle.orbit.specs.Store.{next, dartAt}
+use Rattle.rewriting.specs.Links.{overwritten}
+use Rattle.rewriting.proofs.LinkLaws.{Stage, stage-none, stage-more, stage-length, stage-done, put-at, slot-at, place-at, turned-at}
+use Rattle.rewriting.proofs.links.turn.Statement.{statement}
+use Rattle.rewriting.proofs.links.turn.Tie as tie
+
+abbrev Inv-loop : tie.InvT-loop
+Inv-loop slots table₀ store size c base p r₀ table r =
+    Stage slots table₀ (λ k t. put t (dartAt store base k) c (dartAt store base (next slots store k p))) size r table
+
+abbrev μ-loop : tie.MeasureT-loop
+μ-loop slots table₀ store size c base p r₀ table r = size - r
+
+loop-holds : tie.Need-loop-holds Inv-loop μ-loop
+loop-holds c = stage-none (c .before .before .pre .0)
+
+add-word : tie.Need-add-word Inv-loop μ-loop
+add-word c = search needs
+
+word-requires : tie.Need-word-requires Inv-loop μ-loop
+word-requires c κs = search needs
+
+mul-word : tie.Need-mul-word Inv-loop μ-loop
+mul-word c = search needs
+
+mul-word-2 : tie.Need-mul-word-2 Inv-loop μ-loop
+mul-word-2 c = search needs
+
+add-word-2 : tie.Need-add-word-2 Inv-loop μ-loop
+add-word-2 c = search needs
+
+add-word-3 : tie.Need-add-word-3 Inv-loop μ-loop
+add-word-3 c = search needs
+
+word-requires-2 : tie.Need-word-requires-2 Inv-loop μ-loop
+word-requires-2 c κs = search needs
+
+-- the place to which the link leads
+place : (c : tie.After-word2 Inv-loop μ-loop) → c .word2 .result < c .before .before .before .before .before .before .args .size
+place c =
+    let l = c .before .before .before in
+    place-at _ _ _ _ _ (c .word2 .ensures) _ (l .before .before .before .pre .1 .1 .0) (c .before .before .loop-test .taken)
+
+add-put : tie.Need-add-put Inv-loop μ-loop
+add-put c = omega (arith, place (c .before))
+
+mul-put : tie.Need-mul-put Inv-loop μ-loop
+mul-put c = omega (arith, place (c .before))
+
+shared-slice-read-put : tie.Need-shared-slice-read-put Inv-loop μ-loop
+shared-slice-read-put c = omega (arith, place (c .before .before))
+
+put-requires : tie.Need-put-requires Inv-loop μ-loop
+put-requires c κs =
+    let w = c .before .before .before in
+    let l = w .before .before in
+    let pre = l .before .before .before .pre in
+    (l .loop .inv .sized, (slot-at (pre .1 .0) _ _ (w .before .loop-test .taken) (w .word .ensures), pre .1 .1 .1))
+
+add-r : tie.Need-add-r Inv-loop μ-loop
+add-r c = search needs
+
+loop-less : tie.Need-loop-less Inv-loop μ-loop
+loop-less c = search needs
+
+loop-again : tie.Need-loop-again Inv-loop μ-loop
+unfolding dartAt
+loop-again c =
+    let w = c .before .before .before .before .before .before in
+    let l = w .before .before in
+    let a = l .before .before .before .args in
+    stage-more (l .loop .inv) (w .before .loop-test .taken) (c .before .before .put .kept .1 .0)
+    (put-at _ _ _ _ _ _ _ (c .before .before .put .ensures) (w .word .ensures)
+    (turned-at (a .slots) (now (a .store)) (l .loop .r) (a .p) _ (c .before .before .before .before .before .word2 .ensures) (a .base)))
+
+same-length : tie.Need-same-length Inv-loop μ-loop
+same-length c = stage-length (c .before .loop .inv) (c .before .before .before .before .pre .0)
+
+returns : tie.Need-returns Inv-loop μ-loop
+unfolding overwritten
+returns c = stage-done (c .before .loop .inv) (c .loop-test .left)
+
+pub turn-spec : {M : Type 1} → statement M
+turn-spec =
+    tie.close
+    (tie.spec
+    Inv-loop
+    μ-loop
+    loop-holds
+    add-word
+    word-requires
+    mul-word
+    mul-word-2
+    add-word-2
+    add-word-3
+    word-requires-2
+    add-put
+    mul-put
+    shared-slice-read-put
+    put-requires
+    add-r
+    loop-less
+    loop-again
+    same-length
+    returns)

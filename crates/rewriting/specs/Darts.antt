@@ -1,0 +1,37 @@
+-- The darts of all pairs: in the columns of the store, and those of the added pairs in the table. `slots` leaves them so, and `links`
+-- starts from it; m is the map before the edit, S the accepted scheme, O the orbit.
+-- Assumes nothing.
+use Prim.Native.Nat.{ℕ, _+_, _*_, _≤_, _<_}
+use mathlib.Core.Path.{_≡_}
+use mathlib.Core.Bool.{Bool, true}
+use mathlib.Core.List.{List}
+use lib.ListN.{length, getD}
+use Rattle.model.specs.Map.{Map}
+use Rattle.model.specs.Scheme.{added}
+use Rattle.model.specs.Edit.{dartOf}
+use Rattle.model.specs.declared.Scheme.{Scheme}
+use Rattle.table.specs.Words.{wordAt}
+use Rattle.orbit.specs.Store.{place, dartAt}
+
+-- the darts of all pairs stand in columns
+pub record Darts (m : Map) (S : Scheme) (O : ℕ → Bool) (s cols : List ℕ) (size : ℕ) : Type 0 where
+  pub inside : (v : ℕ) → v < S .nodes → (m .slots ≤ getD cols v 0) × (getD cols v 0 + size ≤ 3 * m .slots)
+  pub dart : (v r : ℕ) → v < S .nodes → r < size → dartAt s (getD cols v 0) r ≡ dartOf m S O (place (m .slots) s r) v
+
+-- y is the dart of an added pair
+pub record AddedDart (m : Map) (S : Scheme) (O : ℕ → Bool) (y : ℕ) : Type 0 where
+  pub dart : ℕ
+  pub node : ℕ
+  pub inOrbit : O dart ≡ true
+  pub below : node < S .nodes
+  pub isAdded : added S node ≡ true
+  pub same : dartOf m S O dart node ≡ y
+
+-- the table t′ is t with the darts of the added pairs live, with a 3-link to themselves and the tag of the orbit dart
+pub record Given (m : Map) (S : Scheme) (O : ℕ → Bool) (t t′ : List ℕ) : Type 0 where
+  pub long : length t′ ≡ length t
+  pub state : (u s : ℕ) → O u ≡ true → s < S .nodes → added S s ≡ true → wordAt t′ (dartOf m S O u s) 0 ≡ 1
+  pub own : (u s : ℕ) → O u ≡ true → s < S .nodes → added S s ≡ true → wordAt t′ (dartOf m S O u s) 4 ≡ dartOf m S O u s
+  pub tag : (u s : ℕ) → O u ≡ true → s < S .nodes → added S s ≡ true → wordAt t′ (dartOf m S O u s) 5 ≡ m .tag u
+  pub links : (y c : ℕ) → 1 ≤ c → c ≤ 3 → wordAt t′ y c ≡ wordAt t y c
+  pub other : (y c : ℕ) → c < 6 → (AddedDart m S O y → ⊥) → wordAt t′ y c ≡ wordAt t y c

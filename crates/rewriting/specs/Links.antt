@@ -1,0 +1,111 @@
+-- The phase `links`: what its loops write, what makes them safe, and what it is handed.
+-- Assumes nothing.
+use Prim.Native.Nat.{ℕ, _+_, _*_, _-_, _/_, _%_, _≤_, _<_}
+use mathlib.Core.Path.{_≡_}
+use mathlib.Core.Bool.{Bool, cond}
+use mathlib.Core.List.{List}
+use lib.ListN.{length, getD}
+use lib.Dec.{eqb, ltb}
+use Rattle.base.specs.Below.{countBelow}
+use Rattle.base.specs.Steps.{steps}
+use Rattle.model.specs.Map.{Map, view, unused}
+use Rattle.model.specs.Scheme.{right, orbitDim}
+use Rattle.model.specs.Accepted.{Accepted}
+use Rattle.model.specs.Orbit.{orbit}
+use Rattle.model.specs.Match.{image, Assignment}
+use Rattle.model.specs.Edit.{addedDarts, edited}
+use Rattle.model.specs.declared.Scheme.{Scheme}
+use Rattle.table.specs.Words.{Sized, put}
+use Rattle.orbit.specs.Store.{next, dartAt, Walked}
+use Rattle.conditions.specs.Arcs.{Coded}
+use Rattle.rewriting.specs.Darts.{Darts, Given}
+
+-- ---- what is written
+
+-- word c of the slots `at 0` .. `at (n - 1)` becomes `v 0` .. `v (n - 1)`
+unfoldable pub overwritten : ℕ → (ℕ → ℕ) → (ℕ → ℕ) → ℕ → List ℕ → List ℕ
+overwritten c at v n = steps n (λ r t. put t (at r) c (v r))
+
+-- the record of slot x becomes six zeros
+unfoldable pub zeroed : ℕ → List ℕ → List ℕ
+zeroed x = steps 6 (λ c t. put t x c 0)
+
+-- the records of the slots `at 0` .. `at (n - 1)` become zeros
+unfoldable pub erased : (ℕ → ℕ) → ℕ → List ℕ → List ℕ
+erased at n = steps n (λ r. zeroed (at r))
+
+-- the records of the darts of the node whose column of the store begins at `base`, where its kind is deleted
+unfoldable pub clearedBy : List ℕ → ℕ → ℕ → ℕ → List ℕ → List ℕ
+clearedBy store size base kind t = cond (eqb kind 1) (erased (dartAt store base) size t) t
+
+module _ (store : List ℕ) (size : ℕ) (cols : List ℕ) where
+  -- the records of the darts of those of the first n nodes that are deleted
+  unfoldable pub cleared : List ℕ → ℕ → List ℕ → List ℕ
+  cleared kinds n = steps n (λ v. clearedBy store size (getD cols v 0) (getD kinds v 0))
+
+module _ (N : ℕ) (store : List ℕ) (size : ℕ) (cols : List ℕ) where
+  -- word c of the darts of the node whose column of the store begins at `base`, by the code of an arc
+  unfoldable pub followed : ℕ → ℕ → ℕ → List ℕ → List ℕ
+  followed c base code t =
+      cond (ltb code 16) (overwritten c (dartAt store base) (dartAt store (getD cols code 0)) size t)
+      (cond (ltb code 255) (overwritten c (dartAt store base) (λ r. dartAt store base (next N store r (code - 16))) size t) t)
+
+  -- the links of the darts of all nodes, by the first n codes of their arcs
+  unfoldable pub relinked : List ℕ → ℕ → List ℕ → List ℕ
+  relinked codes n = steps n (λ k. followed (1 + k % 4) (getD cols (k / 4) 0) (getD codes k 0))
+
+-- ---- what makes it safe
+
+-- from `base` on, the store holds `size` slots
+pub record HoldsSlots (N : ℕ) (store : List ℕ) (base size : ℕ) : Type 0 where
+  pub inside : base + size ≤ length store
+  pub slot : (r : ℕ) → r < size → dartAt store base r < N
+
+-- from each place, the link at position p leads to a place
+pub record Turnable (N : ℕ) (store : List ℕ) (size p : ℕ) : Type 0 where
+  pub long : length store ≡ 16 * N
+  pub fits : size ≤ N
+  pub position : p < 4
+  pub place : (r : ℕ) → r < size → next N store r p < size
+
+-- the code of an arc names a node that has a column, or a position whose links are known
+pub record Legible (N : ℕ) (store : List ℕ) (size : ℕ) (cols : List ℕ) (code : ℕ) : Type 0 where
+  pub node : code < 16 → getD cols code 0 + size ≤ length store
+  pub position : 16 ≤ code → code < 255 → Turnable N store size (code - 16)
+
+-- each of c nodes has a column
+pub record Columns (N : ℕ) (store : List ℕ) (size c : ℕ) (cols : List ℕ) : Type 0 where
+  pub few : c ≤ 16
+  pub at : (v : ℕ) → v < c → HoldsSlots N store (getD cols v 0) size
+
+-- each arc of c nodes has a code
+pub record Codes (N : ℕ) (store : List ℕ) (size : ℕ) (codes : List ℕ) (c : ℕ) (cols : List ℕ) : Type 0 where
+  pub at : (k : ℕ) → k < 4 * c → Legible N store size cols (getD codes k 0)
+
+-- ---- what the phase is handed
+
+-- the orbit of a dart for the orbit type of a scheme
+abbrev pub orbitFor : Map → Scheme → ℕ → ℕ → Bool
+orbitFor m S d = orbit m (S .places) (orbitDim S) d
+
+-- the scheme, the dart of the edit and the table before it, with what the earlier phases found and left
+pub record BeforeRewriting (slots : ℕ) (table store : List ℕ) (size : ℕ) (kinds codes : List ℕ) (c : ℕ) (cols : List ℕ) : Type 0 where
+  pub scheme : Scheme
+  pub dart : ℕ
+  pub before : List ℕ
+  pub accepted : Accepted scheme
+  pub sized : Sized slots table
+  pub stored : length store ≡ 16 * slots
+  pub walked : Walked (view slots before) (scheme .places) (orbitDim scheme) dart store size
+  pub darts : Darts (view slots before) scheme (orbitFor (view slots before) scheme dart) store cols size
+  pub match : Assignment (view slots before) scheme (orbitFor (view slots before) scheme dart) (image (view slots before) scheme)
+  pub room : addedDarts (view slots before) scheme (orbitFor (view slots before) scheme dart) ≤ countBelow slots (unused (view slots before))
+  pub given : Given (view slots before) scheme (orbitFor (view slots before) scheme dart) before table
+  pub nodes : c ≡ scheme .nodes
+  pub kinded : kinds ≡ scheme .kinds
+  pub coded : Coded scheme right codes
+
+-- the map after the edit
+abbrev pub editedBy : {slots : ℕ} {table store : List ℕ} {size : ℕ} {kinds codes : List ℕ} {c : ℕ} {cols : List ℕ}
+    → BeforeRewriting slots table store size kinds codes c cols → Map
+editedBy {slots} R = edited (view slots (R .before)) (R .scheme) (orbitFor (view slots (R .before)) (R .scheme) (R .dart))

@@ -1,0 +1,189 @@
+// The new links of preserved and added pairs, and zeros in deleted records. Every link from before the edit that is needed stands
+// in the store by place, so nothing is read from the table.
+use conditions::arcs::wide;
+use orbit::store::word;
+use table::words::put;
+ghost use mathlib.Core.Path.{_≡_};
+ghost use Prim.Native.Nat.{_+_, _*_, _≤_, _<_};
+ghost use lib.ListN.{length};
+ghost use Rattle.model.specs.Map.{tableOf};
+ghost use Rattle.table.specs.Words.{Sized};
+ghost use Rattle.orbit.specs.Store.{next, dartAt};
+ghost use Rattle.rewriting.specs.Links.{overwritten, zeroed, erased, followed, relinked, cleared, HoldsSlots, Turnable, Legible, Columns, Codes, BeforeRewriting, editedBy};
+
+// Word c of the darts of one node becomes the darts of another node, for the same orbit darts.
+fn join(
+    slots: usize,
+    table: &mut [u32],
+    store: &[u32],
+    size: usize,
+    c: usize,
+    from: usize,
+    to: usize,
+)
+    requires { ⌜ Sized slots (now table) ⌝ }
+    requires { ⌜ HoldsSlots slots (now store) from size ⌝ }
+    requires { ⌜ (to + size ≤ length (now store)) × (c < 6) ⌝ }
+    ensures { λ _. ⌜ now (table .exit) ≡ overwritten c (dartAt (now (store .entry)) from)
+        (dartAt (now (store .entry)) to) size (now (table .entry)) ⌝ }
+{
+    let mut r = 0;
+    while r < size {
+        let x = word(store, from + r);
+        put(slots, table, x, c, store[to + r]);
+        r += 1;
+    }
+}
+
+// Word c of the darts of one node becomes the node's darts for the orbit darts to which the links at position p lead.
+fn turn(
+    slots: usize,
+    table: &mut [u32],
+    store: &[u32],
+    size: usize,
+    c: usize,
+    base: usize,
+    p: usize,
+)
+    requires { ⌜ Sized slots (now table) ⌝ }
+    requires { ⌜ HoldsSlots slots (now store) base size ⌝ }
+    requires { ⌜ Turnable slots (now store) size p ⌝ }
+    requires { ⌜ c < 6 ⌝ }
+    ensures { λ _. ⌜ now (table .exit) ≡ overwritten c (dartAt (now (store .entry)) base)
+        (λ r. dartAt (now (store .entry)) base (next slots (now (store .entry)) r p)) size (now (table .entry)) ⌝ }
+{
+    let mut r = 0;
+    while r < size {
+        let x = word(store, base + r);
+        let q = word(store, 4 * slots + 4 * r + p);
+        put(slots, table, x, c, store[base + q]);
+        r += 1;
+    }
+}
+
+// The record of slot x becomes six zeros.
+fn blank(slots: usize, table: &mut [u32], x: usize)
+    requires { ⌜ Sized slots (now table) ⌝ }
+    requires { ⌜ x < slots ⌝ }
+    ensures { λ _. ⌜ now (table .exit) ≡ zeroed x (now (table .entry)) ⌝ }
+{
+    let mut c = 0;
+    while c < 6 {
+        put(slots, table, x, c, 0);
+        c += 1;
+    }
+}
+
+// The records of the darts of one node become zeros.
+fn erase(slots: usize, table: &mut [u32], store: &[u32], size: usize, base: usize)
+    requires { ⌜ Sized slots (now table) ⌝ }
+    requires { ⌜ HoldsSlots slots (now store) base size ⌝ }
+    ensures { λ _. ⌜ now (table .exit) ≡ erased (dartAt (now (store .entry)) base) size (now (table .entry)) ⌝ }
+{
+    let mut r = 0;
+    while r < size {
+        let x = word(store, base + r);
+        blank(slots, table, x);
+        r += 1;
+    }
+}
+
+// Word c of the darts of the node whose column of the store begins at `base`, by the code of an arc.
+fn follow(
+    slots: usize,
+    table: &mut [u32],
+    store: &[u32],
+    size: usize,
+    c: usize,
+    base: usize,
+    code: usize,
+    cols: &[usize; 16],
+)
+    requires { ⌜ Sized slots (now table) ⌝ }
+    requires { ⌜ HoldsSlots slots (now store) base size ⌝ }
+    requires { ⌜ Legible slots (now store) size (now cols) code ⌝ }
+    requires { ⌜ c < 6 ⌝ }
+    ensures { λ _. ⌜ now (table .exit) ≡ followed slots (now (store .entry)) size (now (cols .entry))
+        c base code (now (table .entry)) ⌝ }
+{
+    if code < 16 {
+        join(slots, table, store, size, c, base, cols[code]);
+    } else if code < 255 {
+        turn(slots, table, store, size, c, base, code - 16);
+    }
+}
+
+// The links of the darts of all pairs, by the codes of the right arcs.
+fn relink(
+    slots: usize,
+    table: &mut [u32],
+    store: &[u32],
+    size: usize,
+    codes: &[u8; 64],
+    c: usize,
+    cols: &[usize; 16],
+)
+    requires { ⌜ Sized slots (now table) ⌝ }
+    requires { ⌜ Columns slots (now store) size c (now cols) ⌝ }
+    requires { ⌜ Codes slots (now store) size (now codes) c (now cols) ⌝ }
+    ensures { λ _. ⌜ now (table .exit) ≡ relinked slots (now (store .entry)) size (now (cols .entry))
+        (now (codes .entry)) (4 * c) (now (table .entry)) ⌝ }
+{
+    let mut k = 0;
+    while k < 4 * c {
+        follow(
+            slots,
+            table,
+            store,
+            size,
+            1 + k % 4,
+            cols[k / 4],
+            wide(codes[k]),
+            cols,
+        );
+        k += 1;
+    }
+}
+
+// The records of the darts of deleted nodes become zeros.
+fn clear(
+    slots: usize,
+    table: &mut [u32],
+    store: &[u32],
+    size: usize,
+    kinds: &[u8; 16],
+    c: usize,
+    cols: &[usize; 16],
+)
+    requires { ⌜ Sized slots (now table) ⌝ }
+    requires { ⌜ Columns slots (now store) size c (now cols) ⌝ }
+    ensures { λ _. ⌜ now (table .exit) ≡ cleared (now (store .entry)) size (now (cols .entry))
+        (now (kinds .entry)) c (now (table .entry)) ⌝ }
+{
+    let mut v = 0;
+    while v < c {
+        if kinds[v] == 1 {
+            erase(slots, table, store, size, cols[v]);
+        }
+        v += 1;
+    }
+}
+
+// The table after the edit, from the table with the darts of the added pairs.
+pub fn rewrite(
+    slots: usize,
+    table: &mut [u32],
+    store: &[u32],
+    size: usize,
+    kinds: &[u8; 16],
+    codes: &[u8; 64],
+    c: usize,
+    cols: &[usize; 16],
+)
+    requires { ⌜ BeforeRewriting slots (now table) (now store) size (now kinds) (now codes) c (now cols) ⌝ }
+    ensures { λ _. ⌜ ((R : BeforeRewriting slots (now (table .entry)) (now (store .entry)) size (now (kinds .entry)) (now (codes .entry)) c (now (cols .entry)))
+        → now (table .exit) ≡ tableOf (editedBy R)) ⌝ }
+{
+    relink(slots, table, store, size, codes, c, cols);
+    clear(slots, table, store, size, kinds, c, cols);
+}

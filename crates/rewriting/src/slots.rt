@@ -1,0 +1,162 @@
+// The darts of the added pairs: each takes the lowest slot that is left of those unused before the edit, by orbit dart and then by node.
+use orbit::store::keep;
+use orbit::store::word;
+use table::words::put;
+use table::words::state;
+use table::words::tag;
+ghost use mathlib.Core.Path.{_≡_};
+ghost use Prim.Native.Nat.{_+_, _*_, _<_};
+ghost use lib.ListN.{length};
+ghost use Rattle.base.specs.Below.{countBelow};
+ghost use Rattle.model.specs.Map.{view};
+ghost use Rattle.model.specs.Scheme.{orbitDim};
+ghost use Rattle.model.specs.Orbit.{orbit};
+ghost use Rattle.table.specs.Words.{Sized};
+ghost use Rattle.rewriting.specs.Slots.{Room, Lowest, revived, Apart, ColumnsBegin, Turn, Granting, early, Placed, NoDigits, Digits, Block, BeforeGiving, Granted};
+
+// The lowest unused slot from `from` on. Four slots a turn: in a full table this scan is most of what an added dart costs.
+fn lowest(slots: usize, table: &[u32], from: usize) -> usize
+    requires { ⌜ Sized slots (now table) ⌝ }
+    requires { ⌜ Room slots (now table) from ⌝ }
+    ensures { λ r. ⌜ Lowest slots (now (table .entry)) from r ⌝ }
+{
+    let mut y = from;
+    while state(slots, table, y) != 0 {
+        if state(slots, table, y + 1) == 0 {
+            return y + 1;
+        }
+        if state(slots, table, y + 2) == 0 {
+            return y + 2;
+        }
+        if state(slots, table, y + 3) == 0 {
+            return y + 3;
+        }
+        y += 4;
+    }
+    y
+}
+
+// Slot y becomes live, with a 3-link to itself and the tag v.
+fn revive(slots: usize, table: &mut [u32], y: usize, v: u32)
+    requires { ⌜ Sized slots (now table) ⌝ }
+    requires { ⌜ y < slots ⌝ }
+    ensures { λ _. ⌜ now (table .exit) ≡ revived (now (table .entry)) y v ⌝ }
+{
+    put(slots, table, y, 0, 1);
+    put(slots, table, y, 4, y as u32);
+    put(slots, table, y, 5, v);
+}
+
+// The darts of the orbit dart u, at place r, with each added node. The answer is the slot past the last that was taken.
+fn row(
+    slots: usize,
+    table: &mut [u32],
+    store: &mut [u32],
+    size: usize,
+    many: usize,
+    u: usize,
+    r: usize,
+    free: usize,
+) -> usize
+    requires { ⌜ Turn slots (now table) (now store) size many u r free ⌝ }
+    ensures { λ f. ⌜ ((T : Turn slots (now (table .entry)) (now (store .entry)) size many u r free)
+        → Granting slots (T .scheme) (T .orbit) (T .table) (T .store) size (countBelow u (T .orbit) * many + many) f (now (table .exit)) (now (store .exit))) ⌝ }
+{
+    let v = tag(slots, table, u);
+    let mut from = free;
+    let mut a = 0;
+    while a < many {
+        let y = lowest(slots, table, from);
+        revive(slots, table, y, v);
+        keep(store, 2 * slots + a * size + r, y);
+        from = y + 1;
+        a += 1;
+    }
+    from
+}
+
+// The columns of the added nodes.
+fn columns(slots: usize, size: usize, added: &[u8; 16], many: usize, cols: &mut [usize; 16])
+    requires { ⌜ Apart slots size (now added) many ⌝ }
+    requires { ⌜ length (now cols) ≡ 16 ⌝ }
+    ensures { λ _. ⌜ ColumnsBegin slots size (now (added .entry)) many (now (cols .entry)) (now (cols .exit)) ⌝ }
+{
+    let mut a = 0;
+    while a < many {
+        let s = added[a] as usize;
+        cols[s] = 2 * slots + a * size;
+        a += 1;
+    }
+}
+
+// The darts at the first `size` places as binary digits, 64 slots a word, so that they can be taken ascending.
+fn mark_bits(slots: usize, store: &[u32], size: usize, bits: &mut [u64; 16])
+    requires { ⌜ Placed slots (now store) size ⌝ }
+    requires { ⌜ NoDigits (now bits) ⌝ }
+    ensures { λ _. ⌜ Digits (early slots (now (store .entry)) size) (now (bits .exit)) ⌝ }
+{
+    let mut r = 0;
+    while r < size {
+        let u = word(store, slots + r);
+        let w = u / 64;
+        bits[w] = bits[w] + (1 << (u % 64));
+        r += 1;
+    }
+}
+
+// The darts of all pairs of the orbit darts from 64 * w on whose digits are set in `digits`, ascending. The answer is as in `row`.
+fn block(
+    slots: usize,
+    table: &mut [u32],
+    store: &mut [u32],
+    size: usize,
+    many: usize,
+    w: usize,
+    digits: u64,
+    free: usize,
+) -> usize
+    requires { ⌜ Block slots (now table) (now store) size many w digits free ⌝ }
+    ensures { λ f. ⌜ ((B : Block slots (now (table .entry)) (now (store .entry)) size many w digits free)
+        → Granting slots (B .scheme) (B .orbit) (B .table) (B .store) size (countBelow (64 * w + 64) (B .orbit) * many) f (now (table .exit)) (now (store .exit))) ⌝ }
+{
+    let mut rest = digits;
+    let mut from = free;
+    while rest != 0 {
+        let t = u64::trailing_zeros(rest) as usize;
+        rest = rest - (1 << t);
+        let u = 64 * w + t;
+        let r = word(store, u) - 1;
+        from = row(slots, table, store, size, many, u, r, from);
+    }
+    from
+}
+
+// Gives each added pair its dart, in the table and in the store, and `cols` the columns of the added nodes.
+pub fn give(
+    slots: usize,
+    table: &mut [u32],
+    store: &mut [u32],
+    size: usize,
+    added: &[u8; 16],
+    many: usize,
+    cols: &mut [usize; 16],
+)
+    requires { ⌜ BeforeGiving slots (now table) (now store) size (now added) many (now cols) ⌝ }
+    ensures { λ _. ⌜ ((R : BeforeGiving slots (now (table .entry)) (now (store .entry)) size (now (added .entry)) many (now (cols .entry)))
+        → Granted (view slots (now (table .entry))) (R .scheme) (orbit (view slots (now (table .entry))) (R .scheme .places) (orbitDim (R .scheme)) (R .dart))
+        (now (table .entry)) (now (store .entry)) (now (table .exit)) (now (store .exit)) (now (cols .exit)) size) ⌝ }
+{
+    columns(slots, size, added, many, cols);
+    if many == 0 {
+        return;
+    }
+    let mut bits: [u64; 16] = [0; 16];
+    mark_bits(slots, store, size, &mut bits);
+    let mut free = 0;
+    let mut w = 0;
+    while w < 16 {
+        let digits = bits[w];
+        free = block(slots, table, store, size, many, w, digits, free);
+        w += 1;
+    }
+}
