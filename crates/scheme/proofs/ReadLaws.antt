@@ -1,16 +1,18 @@
 -- The parts of a scheme that was read, put together.
 -- Assumes nothing.
 use Prim.Native.Nat.{ℕ, _+_, _*_, _≤_}
-use mathlib.Core.Path.{_≡_, refl, sym, _∙_}
+use mathlib.Core.Path.{_≡_, refl, sym, ap, _∙_}
 use mathlib.Core.Logic.{_⊎_, inl, inr, ⊎-elim}
-use mathlib.Core.Bool.{Bool, true, false}
+use mathlib.Core.Bool.{Bool, true, false, cond}
 use mathlib.Core.List.{List}
 use native.Mathlib.Omega.{arith}
 use lib.ListN.{length, replicate}
+use lib.Dec.{eqb}
+use borrow.Author.Tests.{eqb-true}
 use Rattle.base.specs.Test.{_or_}
 use Rattle.base.specs.Below.{allBelow, anyBelow, countBelow}
 use Rattle.base.specs.Lists.{list, listFrom}
-use Rattle.base.proofs.TestLaws.{refuted}
+use Rattle.base.proofs.TestLaws.{true-or-false, refuted}
 use Rattle.model.specs.Bytes.{nodesOf, arcsAt, arcByte, arcCount}
 use Rattle.model.specs.Codes.{placedAt, targetsOf}
 use Rattle.model.specs.Scheme.{Side, left, right, orbitForm, nodeForm, arcsForm, arcsOf, inForm, schemeOf}
@@ -25,6 +27,11 @@ use Rattle.scheme.specs.declared.frame.Layout.{Layout}
 use Rattle.scheme.specs.declared.Reading.{Reading}
 use Rattle.scheme.proofs.FormLaws.{parts, whole}
 use Rattle.scheme.proofs.TwiceLaws.{twice-same}
+
+-- the kind that is not on a side, by a test that computes
+pub side-kind : (other : ℕ) → cond (eqb other 3) true (eqb other 1) ≡ true → (other ≡ 3) ⊎ (other ≡ 1)
+side-kind other e = ⊎-elim (λ t. inl (eqb-true other 3 t))
+    (λ t. inr (eqb-true other 1 (sym (ap (λ (c : Bool). cond c true (eqb other 1)) t) ∙ e))) (true-or-false (eqb other 3))
 
 -- ---- a part that is not in the form
 

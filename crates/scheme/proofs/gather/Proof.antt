@@ -1,7 +1,6 @@
 -- `scheme::gather` meets its contract.
 -- Assumes nothing.
 use mathlib.Core.Path.{_≡_, refl, sym, _∙_}
-use mathlib.Core.Logic.{inl, inr}
 use mathlib.Core.Bool.{true}
 use borrow.Author.Tests.{not-true, not-false}
 use denote.Ref.{now}
@@ -11,7 +10,7 @@ use Rattle.model.specs.Bytes.{nodesOf}
 use Rattle.model.specs.Scheme.{left, right, nodeForm}
 use Rattle.scheme.specs.Frame.{LaidOut}
 use Rattle.scheme.specs.Reading.{blank}
-use Rattle.scheme.proofs.ReadLaws.{no-orbit, no-nodes, no-arcs, placed-side, all-formed, counts, holds, blank-twice}
+use Rattle.scheme.proofs.ReadLaws.{no-orbit, no-nodes, no-arcs, side-kind, placed-side, all-formed, counts, holds, blank-twice}
 use Rattle.scheme.proofs.gather.Statement.{statement}
 use Rattle.scheme.proofs.gather.Tie as tie
 
@@ -74,7 +73,7 @@ read-arcs-requires c κs =
     let k = told (past-orbit e) in
     let p = k .before .before .before .before .before .pre in
     let nodes-read = e .before .before .read-nodes .ensures .1 (not-false _ (e .if2 .left)) in (
-      placed-side _ _ (laid k) (nodes e) (nodes-read .kindsIs) _ (inl refl) (nodes-read .placeIs),
+      placed-side _ _ (laid k) (nodes e) (nodes-read .kindsIs) _ (side-kind _ refl) (nodes-read .placeIs),
       (p .larcsIs, nodes-read .ltargetsIs, p .ltwiceIs ∙ blank-twice left),
     )
 
@@ -90,7 +89,7 @@ read-arcs-requires-2 c κs =
     let p = k .before .before .before .before .before .pre in
     let nodes-read = e .before .before .read-nodes .ensures .1 (not-false _ (e .if2 .left)) in
     let left-read = f .before .before .read-arcs .ensures .1 (not-false _ (f .if3 .left)) in (
-      placed-side _ _ (laid k) (nodes e) (nodes-read .kindsIs) _ (inr refl) (left-read .placeIs),
+      placed-side _ _ (laid k) (nodes e) (nodes-read .kindsIs) _ (side-kind _ refl) (left-read .placeIs),
       (p .rarcsIs, nodes-read .rtargetsIs, p .rtwiceIs ∙ blank-twice right),
     )
 
