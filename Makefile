@@ -1,5 +1,5 @@
 # Builds, checks and installs the kernel for a program in C to link: `cc $(pkg-config --cflags gmap) .. $(pkg-config --libs gmap)`.
-#   make            the archive, from proved crates: what is not proved yet is proved first, which takes a quarter of an hour
+#   make            the archive, from proved crates: what is not proved yet is proved first, which takes about five minutes
 #   make check      the tests (tests/run)
 #   make install    the archive, the header, the pkg-config file and the catalogue, below PREFIX (/usr/local); DESTDIR is put before it
 # ARCHIVE=FILE takes that archive in place of building one.
