@@ -1,27 +1,23 @@
 -- The numbers of a scheme's fault are small: a node below 16, dimensions up to 3.
 -- Assumes nothing.
 use Prim.Native.Nat.{ℕ, _≤_, _<_}
-use mathlib.Core.Path.{_≡_, refl, subst}
+use mathlib.Core.Path.{_≡_, subst}
 use mathlib.Core.Logic.{⊎-elim}
-use mathlib.Core.Option.{Option, none, some}
+use mathlib.Core.Option.{some}
 use native.Mathlib.Omega.{arith}
-use Rattle.base.proofs.FirstLaws.{some-not-none, or-else-cases, first-at, when-at, least-at}
-use Rattle.model.specs.Conditions.{hookFault, incidenceFault, cycleFault, noted, schemeFault}
+use Rattle.base.proofs.FirstLaws.{or-else-cases, first-at, when-at, least-at}
+use Rattle.model.specs.Conditions.{hookFault, incidenceFault, cycleFault, schemeFault}
 use Rattle.model.specs.Shaped.{Shaped}
 use Rattle.model.specs.declared.Scheme.{Scheme}
 use Rattle.model.specs.declared.Answer.{Answer}
 use Rattle.model.specs.declared.Answer.the-variants.{BadHook, BadIncidence, BadCycle}
 use Rattle.model.proofs.AcceptedLaws as AcceptedLaws
-use Rattle.model.proofs.AcceptedLaws.{node-small}
+use Rattle.model.proofs.AcceptedLaws.{node-small, noted-at}
 
 pub data SmallFault : Answer → Type 0 where
   hookSmall : {x : ℕ} → x < 16 → SmallFault (BadHook x)
   incidenceSmall : {x : ℕ} → x < 16 → SmallFault (BadIncidence x)
   cycleSmall : {x i j : ℕ} → x < 16 → i ≤ 3 → j ≤ 3 → SmallFault (BadCycle x i j)
-
-noted-at : (g : ℕ → Answer) (o : Option ℕ) (a : Answer) → noted g o ≡ some a → (x : ℕ) × (o ≡ some x) × (g x ≡ a)
-noted-at g none a e = absurd (some-not-none e refl)
-noted-at g (some x) a e = (x, refl, (cc))
 
 module _ (S : Scheme) (f : Shaped S) where
   hook-small : (x : ℕ) → hookFault S ≡ some x → x < 16

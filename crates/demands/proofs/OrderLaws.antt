@@ -13,7 +13,7 @@ use Rattle.base.specs.Test.{_and_}
 use Rattle.base.specs.Below.{countBelow}
 use Rattle.base.specs.First.{someIf, _orElse_}
 use Rattle.base.proofs.TestLaws.{and-left, and-right, and-of}
-use Rattle.base.proofs.FirstLaws.{some-not-none, or-else-last}
+use Rattle.base.proofs.FirstLaws.{or-else-last}
 use Rattle.model.specs.Map.{view, unused, live}
 use Rattle.model.specs.WellFormed.{WellFormed}
 use Rattle.model.specs.Scheme.{inForm, schemeOf}
@@ -28,7 +28,7 @@ use Rattle.model.specs.declared.Answer.the-variants.{Done, BadHook, BadIncidenc
 use Rattle.model.proofs.WellFormedLaws.{wellFormed-iff}
 use Rattle.model.proofs.SizeLaws.{sizes-iff}
 use Rattle.model.proofs.SchemeLaws.{shaped}
-use Rattle.model.proofs.AcceptedLaws.{accepted}
+use Rattle.model.proofs.AcceptedLaws.{accepted, noted-at, noted-none}
 use Rattle.demands.specs.Refusals.{Refusal, bare, FirstOf, Nothing, hookRefusal, incidenceRefusal, cycleRefusal, schemeRefusals, Matched, Crowded, Dart, tableRefusals, editRefusals, readRefusals, writeRefusals}
 use Rattle.demands.specs.Demands.{counts, Counted}
 use Rattle.demands.proofs.FaultLaws.{hook-found, hook-nowhere, incidence-found, incidence-nowhere, cycle-found, cycle-nowhere, orbit-of, orbit-one, matched-iff}
@@ -71,15 +71,6 @@ regroup : (a b c : Option Answer) → (a orElse b) orElse c ≡ a orElse (b orEl
 unfolding _orElse_
 regroup none b c = refl
 regroup (some x) b c = refl
-
--- a part of a chain that names a node
-noted-at : (f : ℕ → Answer) (o : Option ℕ) (a : Answer) → noted f o ≡ some a → (s : ℕ) × (o ≡ some s) × (f s ≡ a)
-noted-at f none a e = absurd (some-not-none e refl)
-noted-at f (some s) a e = (s, refl, cc)
-
-noted-none : (f : ℕ → Answer) (o : Option ℕ) → noted f o ≡ none → o ≡ none
-noted-none f none e = refl
-noted-none f (some s) e = absurd (some-not-none {o = some (f s)} {a = f s} refl e)
 
 -- a test is what it says
 itself : (b : Bool) → (b ≡ true) ↔ (b ≡ true)
