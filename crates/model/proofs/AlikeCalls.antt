@@ -16,9 +16,12 @@ use Rattle.model.specs.Map.{Map, view, tableOf, live}
 use Rattle.model.specs.WellFormed.{WellFormed, wellFormed}
 use Rattle.model.specs.Scheme.{schemeOf, orbitDim}
 use Rattle.model.specs.Accepted.{Accepted}
-use Rattle.model.specs.Edit.{orbitSize, addedDarts, deletedDarts, edited}
+use Rattle.model.specs.Edit.{edited}
 use Rattle.model.specs.File.{file, fileMap}
-use Rattle.model.specs.Calls.{sizesOk, tableFault, checkTable, bytesFault, fitFault, orbitOf, editFault, editAnswer, editTable, editStore, readFault, readAnswer, readTable, writeFault, writeAnswer, writeOut}
+use Rattle.model.specs.Site.{Site, siteWith}
+use Rattle.model.specs.Calls.{sizesOk, tableFault, checkTable, bytesFault, fitFault, siteFault, siteDone, siteOf}
+use Rattle.model.specs.Calls.{editFaultAt, editFault, editAnswer, editTable, editStore}
+use Rattle.model.specs.Calls.{readFaultAt, readFault, readAnswer, readTable, writeFaultAt, writeFault, writeAnswer, writeOut}
 use Rattle.model.specs.Alike.{Alike}
 use Rattle.model.specs.Sequence.{AlikeTables}
 use Rattle.model.specs.declared.Scheme.{Scheme}
@@ -27,24 +30,13 @@ use Rattle.model.specs.declared.Answer.the-variants.{Done, Edited, Writt
 use Rattle.model.proofs.WellFormedLaws.{wellFormed-iff}
 use Rattle.model.proofs.SchemeLaws.{shaped}
 use Rattle.model.proofs.AcceptedLaws.{accepted, small}
-use Rattle.model.proofs.MatchLaws.{GoodOrbit, match-assigns}
 use Rattle.model.proofs.MatchIff.{good-orbit}
-use Rattle.model.proofs.CallLaws.{Granted, passed, granted, edit-table, refused-table}
+use Rattle.model.proofs.CallLaws.{Granted, passed, granted, ready, edit-table, refused-table}
 use Rattle.model.proofs.HoldsLaws.{holds-free, dimension-small, table-length, edit-holds, store-zero, read-holds, written-file, writtenFile}
 use Rattle.model.proofs.AlikeLaws.{alike-refl, alike-sym, alike-trans, words-alike, same-live, same-room, same-orbit}
-use Rattle.model.proofs.AlikeMatch.{same-matches}
+use Rattle.model.proofs.AlikeMatch.{moved, same-matches}
 use Rattle.model.proofs.AlikeEdit.{same-size, same-added, same-deleted, edited-alike}
 use Rattle.model.proofs.FileLaws.{same-file}
-
--- ---- edits of maps
-
-module _ (m m′ : Map) (a : Alike m m′) (S : Scheme) (g : Accepted S) (w : WellFormed (S .n) m) (w′ : WellFormed (S .n) m′)
-    (O : ℕ → Bool) (o : GoodOrbit m S O) where
-  same-room-fault : fitFault m S O ≡ fitFault m′ S O
-  unfolding fitFault
-  same-room-fault = or-else-same _ _
-      (ap (λ (b : Bool). someIf (not b) NoMatch) (same-matches S g O m m′ a w w′ o))
-      (λ q. ap₂ (λ (c k : ℕ). someIf (ltb c k) NoRoom) (same-room m m′ a (S .n) w w′) (same-added m m′ a S O))
 
 -- what has been tested of an edit before the match
 record Tested (n N : ℕ) (t b : List ℕ) (d : ℕ) : Type 0 where
@@ -92,11 +84,11 @@ module _ (n N : ℕ) (t t′ : List ℕ) (a : AlikeTables n N t t′) where
     abbrev S : Scheme
     S = schemeOf b
 
-    abbrev O : ℕ → Bool
-    O = orbitOf N t b d
+    abbrev E : Site
+    E = siteOf N t b d
 
-    abbrev O′ : ℕ → Bool
-    O′ = orbitOf N t′ b d
+    abbrev E′ : Site
+    E′ = siteOf N t′ b d
 
     module _ (p : Tested n N t b d) where
       good : Accepted S
@@ -109,25 +101,21 @@ module _ (n N : ℕ) (t t′ : List ℕ) (a : AlikeTables n N t t′) where
       well′ : WellFormed (S .n) m′
       well′ = subst (λ (k : ℕ). WellFormed k m′) (sym (p .dimension)) (a .other .well)
 
-      orbit-good : GoodOrbit m S O
-      unfolding orbitOf
-      orbit-good = good-orbit m S d good well (p .slot) (p .alive)
+      same-site : moved E m′ ≡ E′
+      same-site = ap (siteWith m′ S d) (same-orbit (S .n) (small S (good .shaped)) (S .places) (orbitDim S) (good .shaped .orbitDims) d
+          m m′ (a .alike) well well′ (p .slot) (p .alive))
 
-      same-O : O ≡ O′
-      unfolding orbitOf
-      same-O = same-orbit (S .n) (small S (good .shaped)) (S .places) (orbitDim S) (good .shaped .orbitDims) d
-          m m′ (a .alike) well well′ (p .slot) (p .alive)
+      fit-same : fitFault E ≡ fitFault E′
+      unfolding fitFault
+      fit-same = or-else-same _ _
+          (ap (λ (b : Bool). someIf (not b) NoMatch) (same-matches E good m′ (a .alike) well well′ (good-orbit m S d good well (p .slot) (p .alive))))
+          (λ q. ap₂ (λ (c k : ℕ). someIf (ltb c k) NoRoom) (same-room m m′ (a .alike) (S .n) well well′) (same-added E m′ (a .alike)))
+          ∙ ap fitFault same-site
 
-      room-fault : fitFault m S O ≡ fitFault m′ S O′
-      room-fault = same-room-fault m m′ (a .alike) S good well well′ O orbit-good ∙ ap (fitFault m′ S) same-O
-
-      counts : Edited (orbitSize m S O) (addedDarts m S O) (deletedDarts m S O)
-          ≡ Edited (orbitSize m′ S O′) (addedDarts m′ S O′) (deletedDarts m′ S O′)
+      counts : siteDone E ≡ siteDone E′
+      unfolding siteDone
       counts =
-          let size = same-size m m′ (a .alike) S O ∙ ap (orbitSize m′ S) same-O in
-          let more = same-added m m′ (a .alike) S O ∙ ap (addedDarts m′ S) same-O in
-          let gone = same-deleted m m′ (a .alike) S O ∙ ap (deletedDarts m′ S) same-O in
-          λ i. Edited (size i) (more i) (gone i)
+          (λ i. Edited (same-size E m′ (a .alike) i) (same-added E m′ (a .alike) i) (same-deleted E m′ (a .alike) i)) ∙ ap siteDone same-site
 
     same-well : wellFormed n m ≡ wellFormed n m′
     same-well = wellFormed-iff n m .1 (a .one .well) ∙ sym (wellFormed-iff n m′ .1 (a .other .well))
@@ -137,7 +125,7 @@ module _ (n N : ℕ) (t t′ : List ℕ) (a : AlikeTables n N t t′) where
 
     -- test by test, each asked only where those before it have passed
     same-fault : editFault n N t store b d ≡ editFault n N t′ store′ b d
-    unfolding editFault
+    unfolding editFault editFaultAt siteFault
     same-fault =
         or-else-same _ _ (ap₂ (λ (s : Bool) (k : ℕ). someIf (not (s and eqb k (16 * N))) BadCall) same-sizes e) (λ r1.
         or-else-same _ _ refl (λ r2.
@@ -145,7 +133,7 @@ module _ (n N : ℕ) (t t′ : List ℕ) (a : AlikeTables n N t t′) where
         or-else-same _ _ (ap (λ (w : Bool). someIf (not w) BadTable) same-well) (λ r7.
         or-else-same _ _ (ap (λ (w : Bool). someIf (not w) NoDart) same-dart-test) (λ r8.
         let dart = passed _ _ r8 in
-        room-fault (record {
+        fit-same (record {
           clean = r2;
           dimension = eqb-true _ _ (passed _ _ r6);
           slot = ltb-true _ _ (and-left _ _ dart);
@@ -159,13 +147,10 @@ module _ (n N : ℕ) (t t′ : List ℕ) (a : AlikeTables n N t t′) where
     unfolding editAnswer
     same-edit = getD-same _ _ same-fault (λ q. counts (tested q))
 
-    edited-like : editFault n N t store b d ≡ none → Alike (edited m S O) (edited m′ S O′)
+    edited-like : editFault n N t store b d ≡ none → Alike (edited E) (edited E′)
     edited-like q =
-        let g = granted n N t store b d q in
         let p = tested q in
-        subst (λ (r : ℕ → Bool). Alike (edited m S O) (edited m′ S r)) (same-O p)
-        (edited-alike m m′ S O (a .alike) (well p) (well′ p) (good p) (orbit-good p)
-        (match-assigns m S (good p) O (orbit-good p) (well p) (g .match)) (g .room))
+        subst (λ (F : Site). Alike (edited E) (edited F)) (same-site p) (edited-alike E m′ (a .alike) (well p) (well′ p) (ready n N t store b d q))
 
     pub edit-alike : AlikeTables n N (editTable n N t store b d) (editTable n N t′ store′ b d)
     unfolding edited
@@ -178,7 +163,7 @@ module _ (n N : ℕ) (t t′ : List ℕ) (a : AlikeTables n N t t′) where
               one = edit-holds n N t store b d q;
               other = edit-holds n N t′ store′ b d q′;
               alike = rw (edit-table n N t store b d q, edit-table n N t′ store′ b d q′)
-                  (alike-trans (words-alike (edited m S O)) (alike-trans (edited-like q) (alike-sym (words-alike (edited m′ S O′)))));
+                  (alike-trans (words-alike (edited E)) (alike-trans (edited-like q) (alike-sym (words-alike (edited E′)))));
             }
         go (some r) q = rw (refused-table n N t store b d r q, refused-table n N t′ store′ b d r (sym same-fault ∙ q)) a
 
@@ -189,7 +174,7 @@ module _ (n N : ℕ) (t t′ : List ℕ) (a : AlikeTables n N t t′) where
   -- ---- a read
 
   same-read-fault : (b : List ℕ) → readFault n N t b ≡ readFault n N t′ b
-  unfolding readFault
+  unfolding readFault readFaultAt
   same-read-fault b = or-else-same _ _ (ap (λ (s : Bool). someIf (not s) BadCall) same-sizes) (λ r. refl)
 
   pub same-read : (b : List ℕ) → readAnswer n N t b ≡ readAnswer n N t′ b
@@ -216,7 +201,7 @@ module _ (n N : ℕ) (t t′ : List ℕ) (a : AlikeTables n N t t′) where
 
   module _ (out out′ : List ℕ) (e : length out ≡ length out′) where
     same-write-fault : writeFault n N t out ≡ writeFault n N t′ out′
-    unfolding writeFault
+    unfolding writeFault writeFaultAt tableFault
     same-write-fault = or-else-same _ _ same-table-fault
         (λ q. ap₂ (λ (k : ℕ) (l : List ℕ). someIf (ltb k (length l)) ShortOutput) e same-bytes)
 

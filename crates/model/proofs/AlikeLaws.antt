@@ -4,8 +4,6 @@
 use Prim.Native.Nat.{ℕ, _≤_, _<_}
 use mathlib.Core.Path.{_≡_, refl, sym, ap, _∙_, subst, fun-ext}
 use mathlib.Core.Logic.{_⊎_, inl, inr, ⊎-elim}
-use mathlib.Core.Bool.{Bool}
-use mathlib.Core.Option.{Option, Option·getD}
 use native.Mathlib.Omega.{arith}
 use lib.Dec.{eqb}
 use borrow.Author.Tests.{eqb-true, eq-eqb}
@@ -17,7 +15,6 @@ use Rattle.base.proofs.FirstLaws.{nth-same}
 use Rattle.model.specs.Map.{Map, view, tableOf, live, unused}
 use Rattle.model.specs.WellFormed.{WellFormed, wellFormed}
 use Rattle.model.specs.Orbit.{orbit, InOrbit, itself, onward}
-use Rattle.model.specs.Edit.{freeSlot}
 use Rattle.model.specs.Alike.{Alike}
 use Rattle.model.proofs.WellFormedLaws.{wellFormed-iff}
 use Rattle.model.proofs.MapLaws.{state-words, link-words, tag-words}
@@ -131,11 +128,8 @@ module _ (m m′ : Map) (a : Alike m m′) where
     pub same-room : countBelow (m .slots) (unused m) ≡ countBelow (m′ .slots) (unused m′)
     same-room = count-same (m .slots) (unused m) (unused m′) same-unused ∙ ap (λ (k : ℕ). countBelow k (unused m′)) (a .slots)
 
-    pub same-free : (k : ℕ) → freeSlot m k ≡ freeSlot m′ k
-    unfolding freeSlot
-    same-free k =
-        ap (λ (o : Option ℕ). Option·getD o 0)
-        (nth-same (m .slots) (unused m) (unused m′) k same-unused ∙ ap (λ (z : ℕ). nthLowest z (unused m′) k) (a .slots))
+    pub same-free : (k : ℕ) → nthLowest (m .slots) (unused m) k ≡ nthLowest (m′ .slots) (unused m′) k
+    same-free k = nth-same (m .slots) (unused m) (unused m′) k same-unused ∙ ap (λ (z : ℕ). nthLowest z (unused m′) k) (a .slots)
 
 -- ---- orbits
 

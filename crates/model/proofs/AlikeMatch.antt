@@ -3,69 +3,79 @@
 use Prim.Native.Nat.{ℕ, _≤_, _<_}
 use mathlib.Core.Path.{_≡_, sym, ap, _∙_}
 use mathlib.Core.Logic.{⊎-elim}
-use mathlib.Core.Bool.{Bool, true}
+use mathlib.Core.Bool.{true}
 use native.Mathlib.Omega.{arith}
 use Rattle.base.proofs.TestLaws.{same-test}
 use Rattle.model.specs.Map.{Map}
 use Rattle.model.specs.WellFormed.{WellFormed}
 use Rattle.model.specs.Scheme.{left, orbitDim, has}
+use Rattle.model.specs.Site.{Site, siteWith}
 use Rattle.model.specs.Match.{image, matches, Assignment}
 use Rattle.model.specs.Accepted.{Accepted}
 use Rattle.model.specs.Alike.{Alike}
-use Rattle.model.specs.declared.Scheme.{Scheme}
 use Rattle.model.proofs.AcceptedLaws.{small}
 use Rattle.model.proofs.MatchLaws.{GoodOrbit, match-assigns, assigns-match, assigned}
 use Rattle.model.proofs.AlikeLaws.{alike-sym}
 
-module _ (S : Scheme) (g : Accepted S) (O : ℕ → Bool) where
-  module _ (m m′ : Map) (a : Alike m m′) (o : GoodOrbit m S O) where
-    -- a live dart has the same links in both
-    link-same : (x i : ℕ) → x < m .slots → m .state x ≡ 1 → i ≤ S .n → m .link i x ≡ m′ .link i x
-    link-same x i h l k = let n3 = small S (g .shaped) in a .link x h l i (omega arith)
+-- the site in another map
+abbrev pub moved : Site → Map → Site
+moved E m′ = siteWith m′ (E .scheme) (E .dart) (E .orbit)
 
-    -- the links of the orbit type at an orbit dart
-    pub orbit-link-same : (u p : ℕ) → O u ≡ true → p < S .places → m .link (orbitDim S p) u ≡ m′ .link (orbitDim S p) u
-    orbit-link-same u p e k = link-same u (orbitDim S p) (o .slot u e) (o .alive u e) (g .shaped .orbitDims p k)
+module _ (E : Site) (g : Accepted (E .scheme)) (m′ : Map) (a : Alike (E .map) m′) (o : GoodOrbit E) where
+  open Site E using (map as m, scheme as S, orbit as O)
 
-    pub good-too : GoodOrbit m′ S O
-    good-too = record {
-      slot = λ u e. let h = o .slot u e in omega arith;
-      alive = λ u e. a .live u (o .slot u e) .0 (o .alive u e);
-      link = λ u p e k. ap O (sym (orbit-link-same u p e k)) ∙ o .link u p e k;
-    }
+  abbrev E′ : Site
+  E′ = moved E m′
 
-    -- every dart of an assignment is live, so the other map has its links
-    pub assigns-too : (f : ℕ → ℕ → ℕ) → Assignment m S O f → Assignment m′ S O f
-    assigns-too f A = record {
-      darts = λ u b e s h l.
-          let d = A .darts u (o .slot u e) e s h l in
-          let in-m = d .0 in
-          (omega arith, a .live (f u s) (d .0) .0 (d .1));
-      hook = λ u b e. A .hook u (o .slot u e) e;
-      explicitArc = λ u b e c k.
-          let both = A .explicitArc u (o .slot u e) e c k in
-          let from = g .sides left .shaped .from c k in
-          let to = g .sides left .shaped .to c k in
-          let x = A .darts u (o .slot u e) e _ (from .0) (from .1) in
-          let y = A .darts u (o .slot u e) e _ (to .0) (to .1) in
-          let dim = g .sides left .shaped .dims c k in (
-            sym (link-same _ _ (x .0) (x .1) dim) ∙ both .0,
-            sym (link-same _ _ (y .0) (y .1) dim) ∙ both .1,
-          );
-      implicitArc = λ u b e s h l p k no.
-          let x = A .darts u (o .slot u e) e s h l in
-          ⊎-elim (λ z. absurd (no z))
-          (λ dim. sym (link-same _ _ (x .0) (x .1) dim) ∙ A .implicitArc u (o .slot u e) e s h l p k no ∙ ap (λ (v : ℕ). f v s) (orbit-link-same u p e k))
-          (g .sides left .shaped .words s p h k);
-      different = λ u b e s h l v c d t i r q. A .different u (o .slot u e) e s h l v (o .slot v d) d t i r q;
-    }
+  -- a live dart has the same links in both
+  link-same : (x i : ℕ) → x < m .slots → m .state x ≡ 1 → i ≤ S .n → m .link i x ≡ m′ .link i x
+  link-same x i h l k = let n3 = small S (g .shaped) in a .link x h l i (omega arith)
 
-    pub matches-too : WellFormed (S .n) m → matches m S O ≡ true → matches m′ S O ≡ true
-    matches-too w q = assigns-match m′ S g O good-too (image m S) (assigns-too (image m S) (match-assigns m S g O o w q))
+  -- the links of the orbit type at an orbit dart
+  pub orbit-link-same : (u p : ℕ) → O u ≡ true → p < S .places → m .link (orbitDim S p) u ≡ m′ .link (orbitDim S p) u
+  orbit-link-same u p e k = link-same u (orbitDim S p) (o .slot u e) (o .alive u e) (g .shaped .orbitDims p k)
 
-    -- the other map has no assignment but its images
-    pub same-image : Assignment m S O (image m S) → (u : ℕ) → O u ≡ true → (s : ℕ) → s < S .nodes → has S left s ≡ true → image m S u s ≡ image m′ S u s
-    same-image A u e s h l = sym (assigned m′ S g O good-too (image m S) (assigns-too (image m S) A) u e s h l)
+  pub good-too : GoodOrbit E′
+  good-too = record {
+    slot = λ u e. let h = o .slot u e in omega arith;
+    alive = λ u e. a .live u (o .slot u e) .0 (o .alive u e);
+    link = λ u p e k. ap O (sym (orbit-link-same u p e k)) ∙ o .link u p e k;
+  }
 
-  pub same-matches : (m m′ : Map) → Alike m m′ → WellFormed (S .n) m → WellFormed (S .n) m′ → GoodOrbit m S O → matches m S O ≡ matches m′ S O
-  same-matches m m′ a w w′ o = same-test _ _ (matches-too m m′ a o w) (matches-too m′ m (alike-sym a) (good-too m m′ a o) w′)
+  -- every dart of an assignment is live, so the other map has its links
+  pub assigns-too : (f : ℕ → ℕ → ℕ) → Assignment E f → Assignment E′ f
+  assigns-too f A = record {
+    darts = λ u b e s h l.
+        let d = A .darts u (o .slot u e) e s h l in
+        let in-m = d .0 in
+        (omega arith, a .live (f u s) (d .0) .0 (d .1));
+    hook = λ u b e. A .hook u (o .slot u e) e;
+    explicitArc = λ u b e c k.
+        let both = A .explicitArc u (o .slot u e) e c k in
+        let from = g .sides left .shaped .from c k in
+        let to = g .sides left .shaped .to c k in
+        let x = A .darts u (o .slot u e) e _ (from .0) (from .1) in
+        let y = A .darts u (o .slot u e) e _ (to .0) (to .1) in
+        let dim = g .sides left .shaped .dims c k in (
+          sym (link-same _ _ (x .0) (x .1) dim) ∙ both .0,
+          sym (link-same _ _ (y .0) (y .1) dim) ∙ both .1,
+        );
+    implicitArc = λ u b e s h l p k no.
+        let x = A .darts u (o .slot u e) e s h l in
+        ⊎-elim (λ z. absurd (no z))
+        (λ dim. sym (link-same _ _ (x .0) (x .1) dim) ∙ A .implicitArc u (o .slot u e) e s h l p k no ∙ ap (λ (v : ℕ). f v s) (orbit-link-same u p e k))
+        (g .sides left .shaped .words s p h k);
+    different = λ u b e s h l v c d t i r q. A .different u (o .slot u e) e s h l v (o .slot v d) d t i r q;
+  }
+
+  pub matches-too : WellFormed (S .n) m → matches E ≡ true → matches E′ ≡ true
+  matches-too w q = assigns-match E′ g good-too (image E) (assigns-too (image E) (match-assigns E g o w q))
+
+  -- the other map has no assignment but its images
+  pub same-image : Assignment E (image E) → (u : ℕ) → O u ≡ true → (s : ℕ) → s < S .nodes → has S left s ≡ true → image E u s ≡ image E′ u s
+  same-image A u e s h l = sym (assigned E′ g good-too (image E) (assigns-too (image E) A) u e s h l)
+
+pub same-matches : (E : Site) → Accepted (E .scheme) → (m′ : Map) → Alike (E .map) m′ → WellFormed (E .scheme .n) (E .map) → WellFormed (E .scheme .n) m′
+    → GoodOrbit E → matches E ≡ matches (moved E m′)
+same-matches E g m′ a w w′ o =
+    same-test _ _ (matches-too E g m′ a o w) (matches-too (moved E m′) g (E .map) (alike-sym a) (good-too E g m′ a o) w′)

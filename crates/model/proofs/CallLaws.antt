@@ -14,7 +14,7 @@ use Rattle.model.specs.Scheme.{inForm, schemeOf}
 use Rattle.model.specs.Conditions.{schemeFault}
 use Rattle.model.specs.Match.{matches}
 use Rattle.model.specs.Edit.{addedDarts, edited}
-use Rattle.model.specs.Calls.{bytesFault, fitFault, sizesOk, orbitOf, editFault, editTable}
+use Rattle.model.specs.Calls.{bytesFault, fitFault, siteFault, sizesOk, editFaultAt, siteOf, editFault, editTable}
 use Rattle.model.specs.declared.Answer.{Answer}
 use Rattle.base.proofs.TestLaws.{and-left, and-right}
 use Rattle.base.proofs.FirstLaws.{or-else-none, when-none, there-none, there-of}
@@ -24,6 +24,7 @@ use Rattle.model.proofs.SchemeLaws.{shaped}
 use Rattle.model.proofs.AcceptedLaws.{small, accepted}
 use Rattle.model.proofs.MatchLaws.{match-assigns}
 use Rattle.model.proofs.MatchIff.{good-orbit}
+use Rattle.model.proofs.EditLaws.{Ready}
 use Rattle.model.proofs.KeepLaws.{edit-keeps}
 
 pub passed : (t : Bool) (a : Answer) → someIf (not t) a ≡ none → t ≡ true
@@ -38,12 +39,12 @@ pub record Granted (n N : ℕ) (t store b : List ℕ) (d : ℕ) : Type 0 where
   pub well : wellFormed n (view N t) ≡ true
   pub slot : d < N
   pub alive : view N t .state d ≡ 1
-  pub match : matches (view N t) (schemeOf b) (orbitOf N t b d) ≡ true
-  pub room : addedDarts (view N t) (schemeOf b) (orbitOf N t b d) ≤ countBelow N (unused (view N t))
+  pub match : matches (siteOf N t b d) ≡ true
+  pub room : addedDarts (siteOf N t b d) ≤ countBelow N (unused (view N t))
 
 module _ (n N : ℕ) (t store b : List ℕ) (d : ℕ) (q : editFault n N t store b d ≡ none) where
   pub granted : Granted n N t store b d
-  unfolding editFault bytesFault fitFault
+  unfolding editFault editFaultAt bytesFault siteFault fitFault
   granted =
       let r1 = or-else-none _ _ q in
       let r2 = or-else-none _ _ (r1 .1) in
@@ -65,32 +66,32 @@ module _ (n N : ℕ) (t store b : List ℕ) (d : ℕ) (q : editFault n N t store
         room = ltb-false _ _ (when-none _ _ (r9 .1));
       }
 
-  -- the new map is well-formed
-  new-map : WellFormed (schemeOf b .n) (edited (view N t) (schemeOf b) (orbitOf N t b d))
-  unfolding orbitOf
-  new-map =
-      let g = granted in
-      let m = view N t in
-      let good = accepted (schemeOf b) (shaped b (g .form)) (g .accepted) in
-      let rules = wellFormed-iff (schemeOf b .n) m .0 (ap (λ (k : ℕ). wellFormed k m) (g .dimension) ∙ g .well) in
-      let orb = good-orbit m (schemeOf b) d good rules (g .slot) (g .alive) in
-      edit-keeps m (schemeOf b) _ rules good orb (match-assigns m (schemeOf b) good _ orb rules (g .match)) (g .room)
+  well : WellFormed (schemeOf b .n) (view N t)
+  well = let g = granted in wellFormed-iff (schemeOf b .n) (view N t) .0 (ap (λ (k : ℕ). wellFormed k (view N t)) (g .dimension) ∙ g .well)
 
-  pub edit-table : editTable n N t store b d ≡ tableOf (edited (view N t) (schemeOf b) (orbitOf N t b d))
+  pub ready : Ready (siteOf N t b d)
+  ready =
+      let g = granted in
+      let good = accepted (schemeOf b) (shaped b (g .form)) (g .accepted) in
+      let orb = good-orbit (view N t) (schemeOf b) d good well (g .slot) (g .alive) in
+      record { accepted = good; good = orb; match = match-assigns (siteOf N t b d) good orb well (g .match); room = g .room }
+
+  pub edit-table : editTable n N t store b d ≡ tableOf (edited (siteOf N t b d))
   unfolding editTable
-  edit-table = ap (λ (c : Bool). cond c t (tableOf (edited (view N t) (schemeOf b) (orbitOf N t b d)))) (there-none q)
+  edit-table = ap (λ (c : Bool). cond c t (tableOf (edited (siteOf N t b d)))) (there-none q)
 
   -- the table that an edit leaves is well-formed
   pub edit-table-well : wellFormed n (view N (editTable n N t store b d)) ≡ true
   unfolding edited
   edit-table-well =
       let g = granted in
-      let m = edited (view N t) (schemeOf b) (orbitOf N t b d) in
+      let m = edited (siteOf N t b d) in
       ap (λ (l : List ℕ). wellFormed n (view N l)) edit-table
       ∙ ap (λ (k : ℕ). wellFormed k (view N (tableOf m))) (sym (g .dimension))
-      ∙ wellFormed-iff (schemeOf b .n) (view N (tableOf m)) .1 (words-well (schemeOf b .n) m (small (schemeOf b) (shaped b (g .form))) new-map)
+      ∙ wellFormed-iff (schemeOf b .n) (view N (tableOf m)) .1
+      (words-well (schemeOf b .n) m (small (schemeOf b) (shaped b (g .form))) (edit-keeps (siteOf N t b d) well ready))
 
 -- an edit that is refused leaves the table as it was
 pub refused-table : (n N : ℕ) (t store b : List ℕ) (d : ℕ) (a : Answer) → editFault n N t store b d ≡ some a → editTable n N t store b d ≡ t
 unfolding editTable
-refused-table n N t store b d a q = ap (λ (c : Bool). cond c t (tableOf (edited (view N t) (schemeOf b) (orbitOf N t b d)))) (there-of q)
+refused-table n N t store b d a q = ap (λ (c : Bool). cond c t (tableOf (edited (siteOf N t b d)))) (there-of q)

@@ -11,56 +11,72 @@ use lib.Dec.{eqb}
 use borrow.Author.Tests.{eqb-true, eq-eqb}
 use Rattle.base.specs.Test.{_and_}
 use Rattle.base.specs.Below.{countBelow}
-use Rattle.base.specs.First.{nthLowest, first, someIf}
-use Rattle.model.specs.Map.{Map, unused}
+use Rattle.base.specs.First.{first, someIf}
+use Rattle.model.specs.Map.{unused}
 use Rattle.model.specs.Scheme.{left, right, orbitDim, has, added, deleted}
 use Rattle.model.specs.Conditions.{absent, explicit, implicit, arcAt}
+use Rattle.model.specs.Site.{Site}
+use Rattle.model.specs.Accepted.{Accepted}
 use Rattle.model.specs.Match.{image, Assignment}
 use Rattle.model.specs.Edit.{Pair, addedDarts, rank, freeSlot, dartOf, pairOf, newLink, unnamedLink, newWord, edited}
-use Rattle.model.specs.declared.Scheme.{Scheme}
 use Rattle.base.proofs.TestLaws.{and-left, and-right, and-of, true-or-false}
 use Rattle.base.proofs.FirstLaws.{when-at, first-at, first-only, first-none-of, nth-at, nth-found}
-use Rattle.model.proofs.RankLaws.{rank-low, rank-once, dart-left}
+use Rattle.model.proofs.AcceptedLaws.{left-or-added}
+use Rattle.model.proofs.MatchLaws.{GoodOrbit}
+use Rattle.model.proofs.RankLaws.{rank-low, rank-once, dart-left, dart-added}
 
 abbrev pair : ℕ → ℕ → Pair
 pair u s = record { dart = u; node = s }
 
-module _ (m : Map) (S : Scheme) (O : ℕ → Bool) (slot : (u : ℕ) → O u ≡ true → u < m .slots)
-    (kinds : (s : ℕ) → s < S .nodes → (has S left s ≡ true) ⊎ (added S s ≡ true))
-    (A : Assignment m S O (image m S)) (room : addedDarts m S O ≤ countBelow (m .slots) (unused m)) where
-  pub rank-below : (u s : ℕ) → O u ≡ true → s < S .nodes → added S s ≡ true → rank S O u s < countBelow (m .slots) (unused m)
-  rank-below u s e h a = lt-of-lt-of-le (rank-low m S O slot u s e h a) room
+-- what is known of a site at which the scheme is accepted and neither 9 nor 10 is given
+pub record Ready (E : Site) : Type 0 where
+  pub accepted : Accepted (E .scheme)
+  pub good : GoodOrbit E
+  pub match : Assignment E (image E)
+  pub room : addedDarts E ≤ countBelow (E .map .slots) (unused (E .map))
+
+module _ (E : Site) (r : Ready E) where
+  open Site E using (map as m, scheme as S, orbit as O)
+  open Ready r using (match as A, room)
+
+  slot : (u : ℕ) → O u ≡ true → u < m .slots
+  slot = r .good .slot
+
+  pub kinds : (s : ℕ) → s < S .nodes → (has S left s ≡ true) ⊎ (added S s ≡ true)
+  kinds = left-or-added S (r .accepted .shaped)
+
+  pub rank-below : (u s : ℕ) → O u ≡ true → s < S .nodes → added S s ≡ true → rank E u s < countBelow (m .slots) (unused m)
+  rank-below u s e h a = lt-of-lt-of-le (rank-low E slot u s e h a) room
 
   -- the slot of an added pair is below N, was unused, and has the pair's rank
   pub free-at : (u s : ℕ) → O u ≡ true → s < S .nodes → added S s ≡ true
-      → (dartOf m S O u s < m .slots) × (m .state (dartOf m S O u s) ≡ 0) × (countBelow (dartOf m S O u s) (unused m) ≡ rank S O u s)
-  unfolding dartOf freeSlot
+      → (dartOf E u s < m .slots) × (m .state (dartOf E u s) ≡ 0) × (countBelow (dartOf E u s) (unused m) ≡ rank E u s)
+  unfolding freeSlot
   free-at u s e h a =
-      let f = nth-found (m .slots) (unused m) (rank S O u s) (rank-below u s e h a) in
-      let n = nth-at (m .slots) (unused m) (rank S O u s) (f .0) (f .1) in
-      let same : f .0 ≡ cond (added S s) (Option·getD (nthLowest (m .slots) (unused m) (rank S O u s)) 0) (image m S u s) =
-      sym (ap (λ (b : Bool). cond b (Option·getD (nthLowest (m .slots) (unused m) (rank S O u s)) 0) (image m S u s)) a ∙ ap (λ (o : Option ℕ). Option·getD o 0) (f .1)) in
-      subst (λ (x : ℕ). (x < m .slots) × (m .state x ≡ 0) × (countBelow x (unused m) ≡ rank S O u s)) same (n .0, eqb-true _ _ (n .1), n .2)
+      let f = nth-found (m .slots) (unused m) (rank E u s) (rank-below u s e h a) in
+      let n = nth-at (m .slots) (unused m) (rank E u s) (f .0) (f .1) in
+      subst (λ (x : ℕ). (x < m .slots) × (m .state x ≡ 0) × (countBelow x (unused m) ≡ rank E u s))
+      (sym (dart-added E u s a ∙ ap (λ (o : Option ℕ). Option·getD o 0) (f .1))) (n .0, eqb-true _ _ (n .1), n .2)
 
-  pub left-alive : (u s : ℕ) → O u ≡ true → s < S .nodes → has S left s ≡ true → m .state (dartOf m S O u s) ≡ 1
-  left-alive u s e h l = ap (m .state) (dart-left m S O u s l) ∙ A .darts u (slot u e) e s h l .1
+  pub left-alive : (u s : ℕ) → O u ≡ true → s < S .nodes → has S left s ≡ true → m .state (dartOf E u s) ≡ 1
+  left-alive u s e h l = ap (m .state) (dart-left E u s l) ∙ A .darts u (slot u e) e s h l .1
 
-  pub dart-slot : (u s : ℕ) → O u ≡ true → s < S .nodes → dartOf m S O u s < m .slots
+  pub dart-slot : (u s : ℕ) → O u ≡ true → s < S .nodes → dartOf E u s < m .slots
   dart-slot u s e h = ⊎-elim
-      (λ l. subst (λ (x : ℕ). x < m .slots) (sym (dart-left m S O u s l)) (A .darts u (slot u e) e s h l .0))
+      (λ l. subst (λ (x : ℕ). x < m .slots) (sym (dart-left E u s l)) (A .darts u (slot u e) e s h l .0))
       (λ a. free-at u s e h a .0)
       (kinds s h)
 
   pub dart-injective : (u s v t : ℕ) → O u ≡ true → O v ≡ true → s < S .nodes → t < S .nodes
-      → dartOf m S O u s ≡ dartOf m S O v t → (u ≡ v) × (s ≡ t)
+      → dartOf E u s ≡ dartOf E v t → (u ≡ v) × (s ≡ t)
   dart-injective u s v t e f h l q = ⊎-elim
       (λ a. ⊎-elim
-      (λ b. A .different u (slot u e) e s h a v (slot v f) f t l b (sym (dart-left m S O u s a) ∙ q ∙ dart-left m S O v t b))
+      (λ b. A .different u (slot u e) e s h a v (slot v f) f t l b (sym (dart-left E u s a) ∙ q ∙ dart-left E v t b))
       (λ b. absurd (apart (left-alive u s e h a) (ap (m .state) q ∙ free-at v t f l b .1)))
       (kinds t l))
       (λ a. ⊎-elim
       (λ b. absurd (apart (left-alive v t f l b) (ap (m .state) (sym q) ∙ free-at u s e h a .1)))
-      (λ b. rank-once m S O u s v t e f h l a b (sym (free-at u s e h a .2) ∙ ap (λ (x : ℕ). countBelow x (unused m)) q ∙ free-at v t f l b .2))
+      (λ b. rank-once E u s v t e f h l a b (sym (free-at u s e h a .2) ∙ ap (λ (x : ℕ). countBelow x (unused m)) q ∙ free-at v t f l b .2))
       (kinds t l))
       (kinds s h)
     where
@@ -69,7 +85,7 @@ module _ (m : Map) (S : Scheme) (O : ℕ → Bool) (slot : (u : ℕ) → O u ≡
 
   -- ---- the pair of a slot
 
-  pub pair-at : (x : ℕ) (p : Pair) → pairOf m S O x ≡ some p → (O (p .dart) ≡ true) × (p .node < S .nodes) × (dartOf m S O (p .dart) (p .node) ≡ x)
+  pub pair-at : (x : ℕ) (p : Pair) → pairOf E x ≡ some p → (O (p .dart) ≡ true) × (p .node < S .nodes) × (dartOf E (p .dart) (p .node) ≡ x)
   unfolding pairOf
   pair-at x p e =
       let f = first-at (m .slots) _ p e in
@@ -79,93 +95,94 @@ module _ (m : Map) (S : Scheme) (O : ℕ → Bool) (slot : (u : ℕ) → O u ≡
       let n : g .0 ≡ p .node = ap (λ (r : Pair). r .node) (w .1) in (
         ap O (sym d) ∙ and-left _ _ (w .0),
         subst (λ (k : ℕ). k < S .nodes) n (g .1),
-        sym (ap₂ (dartOf m S O) d n) ∙ eqb-true _ _ (and-right _ _ (w .0)),
+        sym (ap₂ (dartOf E) d n) ∙ eqb-true _ _ (and-right _ _ (w .0)),
       )
 
   module _ (u s : ℕ) (e : O u ≡ true) (h : s < S .nodes) where
-    sole : (v t : ℕ) (p : Pair) → t < S .nodes → someIf (O v and eqb (dartOf m S O v t) (dartOf m S O u s)) (pair v t) ≡ some p → p ≡ pair u s
+    sole : (v t : ℕ) (p : Pair) → t < S .nodes → someIf (O v and eqb (dartOf E v t) (dartOf E u s)) (pair v t) ≡ some p → p ≡ pair u s
     sole v t p l q =
         let w = when-at _ q in
         let d = dart-injective v t u s (and-left _ _ (w .0)) e l h (eqb-true _ _ (and-right _ _ (w .0))) in
         sym (w .1) ∙ ap₂ pair (d .0) (d .1)
 
-    inner : first (S .nodes) (λ t. someIf (O u and eqb (dartOf m S O u t) (dartOf m S O u s)) (pair u t)) ≡ some (pair u s)
+    inner : first (S .nodes) (λ t. someIf (O u and eqb (dartOf E u t) (dartOf E u s)) (pair u t)) ≡ some (pair u s)
     unfolding someIf
-    inner = first-only (S .nodes) _ s (pair u s) h (ap (λ (b : Bool). someIf b (pair u s)) (and-of e (eq-eqb (dartOf m S O u s) _ refl))) (λ t p l q. sole u t p l q)
+    inner = first-only (S .nodes) _ s (pair u s) h
+        (ap (λ (b : Bool). someIf b (pair u s)) (and-of e (eq-eqb (dartOf E u s) _ refl))) (λ t p l q. sole u t p l q)
 
-    pub pair-of : pairOf m S O (dartOf m S O u s) ≡ some (pair u s)
+    pub pair-of : pairOf E (dartOf E u s) ≡ some (pair u s)
     unfolding pairOf
     pair-of = first-only (m .slots) _ u (pair u s) (slot u e) inner
         (λ v p l q. let f = first-at (S .nodes) _ p q in sole v (f .0) p (f .1) (f .2))
 
-  pub pair-none : (x : ℕ) → ((u s : ℕ) → O u ≡ true → s < S .nodes → dartOf m S O u s ≡ x → ⊥) → pairOf m S O x ≡ none
+  pub pair-none : (x : ℕ) → ((u s : ℕ) → O u ≡ true → s < S .nodes → dartOf E u s ≡ x → ⊥) → pairOf E x ≡ none
   unfolding pairOf someIf
   pair-none x f = first-none-of (m .slots) _ (λ u b. first-none-of (S .nodes) _ (λ s h. ⊎-elim
       (λ t. absurd (f u s (and-left _ _ t) h (eqb-true _ _ (and-right _ _ t))))
       (λ t. rw t refl)
-      (true-or-false (O u and eqb (dartOf m S O u s) x))))
+      (true-or-false (O u and eqb (dartOf E u s) x))))
 
   -- ---- the new map
 
   -- a slot that is no pair's dart stays as it stood
-  pub state-other : (x : ℕ) → pairOf m S O x ≡ none → edited m S O .state x ≡ m .state x
+  pub state-other : (x : ℕ) → pairOf E x ≡ none → edited E .state x ≡ m .state x
   unfolding edited newWord
   state-other x e = rw e refl
 
-  pub link-other : (i x : ℕ) → pairOf m S O x ≡ none → edited m S O .link i x ≡ m .link i x
+  pub link-other : (i x : ℕ) → pairOf E x ≡ none → edited E .link i x ≡ m .link i x
   unfolding edited newWord
   link-other i x e = rw e refl
 
-  pub tag-other : (x : ℕ) → pairOf m S O x ≡ none → edited m S O .tag x ≡ m .tag x
+  pub tag-other : (x : ℕ) → pairOf E x ≡ none → edited E .tag x ≡ m .tag x
   unfolding edited newWord
   tag-other x e = rw e refl
 
   module _ (u s : ℕ) (e : O u ≡ true) (h : s < S .nodes) where
-    pub state-deleted : deleted S s ≡ true → edited m S O .state (dartOf m S O u s) ≡ 0
+    pub state-deleted : deleted S s ≡ true → edited E .state (dartOf E u s) ≡ 0
     unfolding edited newWord
     state-deleted d = rw (pair-of u s e h, d) refl
 
-    pub link-deleted : (i : ℕ) → deleted S s ≡ true → edited m S O .link i (dartOf m S O u s) ≡ 0
+    pub link-deleted : (i : ℕ) → deleted S s ≡ true → edited E .link i (dartOf E u s) ≡ 0
     unfolding edited newWord
     link-deleted i d = rw (pair-of u s e h, d) refl
 
-    pub tag-deleted : deleted S s ≡ true → edited m S O .tag (dartOf m S O u s) ≡ 0
+    pub tag-deleted : deleted S s ≡ true → edited E .tag (dartOf E u s) ≡ 0
     unfolding edited newWord
     tag-deleted d = rw (pair-of u s e h, d) refl
 
     module _ (k : deleted S s ≡ false) where
-      pub state-pair : edited m S O .state (dartOf m S O u s) ≡ 1
+      pub state-pair : edited E .state (dartOf E u s) ≡ 1
       unfolding edited newWord
       state-pair = rw (pair-of u s e h, k) refl
 
-      link-pair : (i : ℕ) → edited m S O .link i (dartOf m S O u s)
-          ≡ newLink m S O u s (arcAt S right s i) (unnamedLink m (added S s) i (dartOf m S O u s))
+      link-pair : (i : ℕ) → edited E .link i (dartOf E u s)
+          ≡ newLink E u s (arcAt S right s i) (unnamedLink E (added S s) i (dartOf E u s))
       unfolding edited newWord
-      link-pair i = ap (λ (o : Option Pair). newWord S o (m .link i (dartOf m S O u s))
-          (λ v t. newLink m S O v t (arcAt S right t i) (unnamedLink m (added S t) i (dartOf m S O u s)))) (pair-of u s e h)
-          ∙ ap (λ (b : Bool). cond b 0 (newLink m S O u s (arcAt S right s i) (unnamedLink m (added S s) i (dartOf m S O u s)))) k
+      link-pair i = ap (λ (o : Option Pair). newWord E o (m .link i (dartOf E u s))
+          (λ v t. newLink E v t (arcAt S right t i) (unnamedLink E (added S t) i (dartOf E u s)))) (pair-of u s e h)
+          ∙ ap (λ (b : Bool). cond b 0 (newLink E u s (arcAt S right s i) (unnamedLink E (added S s) i (dartOf E u s)))) k
 
       -- by the right arc that the node has
-      pub link-explicit : (i t : ℕ) → arcAt S right s i ≡ explicit t → edited m S O .link i (dartOf m S O u s) ≡ dartOf m S O u t
+      pub link-explicit : (i t : ℕ) → arcAt S right s i ≡ explicit t → edited E .link i (dartOf E u s) ≡ dartOf E u t
       unfolding newLink
       link-explicit i t a = link-pair i ∙ rw a refl
 
-      pub link-implicit : (i p : ℕ) → arcAt S right s i ≡ implicit p → edited m S O .link i (dartOf m S O u s) ≡ dartOf m S O (m .link (orbitDim S p) u) s
+      pub link-implicit : (i p : ℕ) → arcAt S right s i ≡ implicit p → edited E .link i (dartOf E u s) ≡ dartOf E (m .link (orbitDim S p) u) s
       unfolding newLink
       link-implicit i p a = link-pair i ∙ rw a refl
 
-      pub link-kept : (i : ℕ) → added S s ≡ false → arcAt S right s i ≡ absent → edited m S O .link i (dartOf m S O u s) ≡ m .link i (dartOf m S O u s)
+      pub link-kept : (i : ℕ) → added S s ≡ false → arcAt S right s i ≡ absent → edited E .link i (dartOf E u s) ≡ m .link i (dartOf E u s)
       unfolding newLink
       link-kept i n a = link-pair i ∙ rw (a, n) refl
 
-      pub link-own : (i : ℕ) → added S s ≡ true → arcAt S right s i ≡ absent → edited m S O .link i (dartOf m S O u s) ≡ dartOf m S O u s
+      pub link-own : (i : ℕ) → added S s ≡ true → arcAt S right s i ≡ absent → edited E .link i (dartOf E u s) ≡ dartOf E u s
       unfolding newLink
       link-own i n a = link-pair i ∙ rw (a, n) refl
 
-      pub tag-new : added S s ≡ true → edited m S O .tag (dartOf m S O u s) ≡ m .tag u
+      pub tag-new : added S s ≡ true → edited E .tag (dartOf E u s) ≡ m .tag u
       unfolding edited newWord
       tag-new n = rw (pair-of u s e h, k, n) refl
 
-      pub tag-kept : added S s ≡ false → edited m S O .tag (dartOf m S O u s) ≡ m .tag (dartOf m S O u s)
+      pub tag-kept : added S s ≡ false → edited E .tag (dartOf E u s) ≡ m .tag (dartOf E u s)
       unfolding edited newWord
       tag-kept n = rw (pair-of u s e h, k, n) refl

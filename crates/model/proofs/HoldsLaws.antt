@@ -10,21 +10,21 @@ use native.Mathlib.Omega.{arith}
 use lib.ListN.{length, getD, take, drop, replicate, length-replicate, getD-replicate}
 use lib.Seq.{take-append-seam}
 use lib.Dec.{eqb, ltb, leb}
-use borrow.Author.Tests.{eqb-true, eq-eqb, ne-eqb}
+use borrow.Author.Tests.{eq-eqb, ne-eqb}
 use Rattle.base.specs.Test.{_and_, _or_}
 use Rattle.base.specs.First.{someIf, there, _orElse_}
-use Rattle.base.proofs.TestLaws.{and-left, and-right, or-cases}
 use Rattle.base.proofs.FirstLaws.{or-else-none}
 use Rattle.model.specs.Map.{Map, view, tableOf, tableSize}
 use Rattle.model.specs.WellFormed.{WellFormed, wellFormed}
-use Rattle.model.specs.Scheme.{schemeOf}
 use Rattle.model.specs.Edit.{edited}
 use Rattle.model.specs.File.{file, fileMap}
 use Rattle.model.specs.Answer.{number, values}
-use Rattle.model.specs.Calls.{zeros, sizesOk, tableFault, checkTable, orbitOf, editFault, editTable, editStore, readFault, readTable, writeFault, writeAnswer, writeOut}
+use Rattle.model.specs.Calls.{zeros, sizesOk, mapFault, tableFault, checkTable, siteOf, editFault, editTable, editStore}
+use Rattle.model.specs.Calls.{readFaultAt, readFault, readTable, writeFaultAt, writeFault, writeAnswer, writeOut}
 use Rattle.model.specs.Sequence.{Holds}
 use Rattle.model.specs.declared.Answer.{Answer}
 use Rattle.model.specs.declared.Answer.the-variants.{Done, Written, BadCall, BadTable, ShortOutput}
+use Rattle.model.proofs.SizeLaws.{sizes-iff}
 use Rattle.model.proofs.WellFormedLaws.{wellFormed-iff}
 use Rattle.model.proofs.MapLaws.{length-words}
 use Rattle.model.proofs.AlikeLaws.{words-well}
@@ -32,16 +32,16 @@ use Rattle.model.proofs.CallLaws.{passed, granted, edit-table, edit-tab
 
 module _ (n N : ℕ) (t : List ℕ) where
   pub holds-free : Holds n N t → tableFault n N t ≡ none
-  unfolding tableFault someIf _orElse_
+  unfolding tableFault mapFault someIf _orElse_
   holds-free h = rw (h .sizes, wellFormed-iff n (view N t) .1 (h .well)) refl
 
   holds-of : tableFault n N t ≡ none → Holds n N t
-  unfolding tableFault
+  unfolding tableFault mapFault
   holds-of q = let r = or-else-none _ _ q in record { sizes = passed _ _ (r .0); well = wellFormed-iff n (view N t) .0 (passed _ _ (r .1)) }
 
   -- a table check answers 0 just where the table holds a well-formed map
   pub holds-iff : Holds n N t ↔ (checkTable n N t ≡ Done)
-  unfolding checkTable tableFault someIf _orElse_
+  unfolding checkTable tableFault mapFault someIf _orElse_
   holds-iff = (
     (λ h. ap (λ (o : Option Answer). Option·getD o Done) (holds-free h)),
     (λ e. holds-of (go (not (sizesOk n N t)) (not (wellFormed n (view N t))) e)),
@@ -54,11 +54,10 @@ module _ (n N : ℕ) (t : List ℕ) where
 
   module _ (s : sizesOk n N t ≡ true) where
     pub dimension-small : n ≤ 3
-    dimension-small = ⊎-elim (λ e. let q = eqb-true n 2 e in omega arith) (λ e. let q = eqb-true n 3 e in omega arith)
-        (or-cases _ _ (and-left _ _ (and-left _ _ (and-left _ _ s))))
+    dimension-small = ⊎-elim (λ e. omega arith) (λ e. omega arith) (sizes-iff n N t .0 s .dimension)
 
     pub table-length : length t ≡ tableSize N
-    table-length = eqb-true _ _ (and-right _ _ s)
+    table-length = sizes-iff n N t .0 s .long
 
     -- another table of as many words has its sizes right too
     pub sizes-too : (u : List ℕ) → length u ≡ length t → sizesOk n N u ≡ true
@@ -100,7 +99,7 @@ edit-holds n N t store b d q =
     let g = granted n N t store b d q in
     record {
       sizes = sizes-too n N t (g .sizes) (editTable n N t store b d)
-          (ap length (edit-table n N t store b d q) ∙ length-words (edited (view N t) (schemeOf b) (orbitOf N t b d)) ∙ sym (table-length n N t (g .sizes)));
+          (ap length (edit-table n N t store b d q) ∙ length-words (edited (siteOf N t b d)) ∙ sym (table-length n N t (g .sizes)));
       well = wellFormed-iff n (view N (editTable n N t store b d)) .0 (edit-table-well n N t store b d q);
     }
 
@@ -116,7 +115,7 @@ module _ (n N : ℕ) (t store b : List ℕ) (d : ℕ) (s : sizesOk n N t ≡ tru
 
 -- a read that is not refused has found a well-formed map
 read-well : (n N : ℕ) (t b : List ℕ) → readFault n N t b ≡ none → WellFormed n (fileMap n N b)
-unfolding readFault
+unfolding readFault readFaultAt
 read-well n N t b q = wellFormed-iff n (fileMap n N b) .0 (passed _ _ (or-else-none _ _ (or-else-none _ _ q .1) .1))
 
 -- a read, refused or not
@@ -135,7 +134,7 @@ writtenFile n N t out = take (getD (values (writeAnswer n N t out)) 0 0) (writeO
 -- a write leaves the map's file where there is room for it, else none
 pub written-file : (n N : ℕ) (t out : List ℕ) → Holds n N t
     → writtenFile n N t out ≡ cond (ltb (length out) (length (file n (view N t)))) [] (file n (view N t))
-unfolding writeAnswer writeOut writeFault someIf _orElse_ there
+unfolding writeAnswer writeOut writeFault writeFaultAt tableFault someIf _orElse_ there
 written-file n N t out h = rw (holds-free n N t h) (go (ltb (length out) (length (file n (view N t)))))
   where
     go : (c : Bool) → take (getD (values (Option·getD (someIf c ShortOutput) (Written (length (file n (view N t)))))) 0 0)

@@ -3,28 +3,27 @@
 use Prim.Native.Nat.{ℕ, _+_, _≤_, _<_}
 use mathlib.Core.Path.{_≡_, refl, sym, ap, _∙_, subst}
 use mathlib.Core.Logic.{_⊎_, inl, inr, ⊎-elim}
-use mathlib.Core.Bool.{Bool, true, false, true≢false}
+use mathlib.Core.Bool.{true, false, true≢false}
 use mathlib.Core.Option.{Option, none, some}
 use native.Mathlib.Omega.{arith}
 use lib.Dec.{eqb}
 use borrow.Author.Tests.{eqb-true, ne-eqb}
-use Rattle.base.specs.Test.{_and_}
-use Rattle.base.specs.Below.{countBelow}
-use Rattle.model.specs.Map.{Map, unused}
+use Rattle.model.specs.Map.{Map}
 use Rattle.model.specs.WellFormed.{WellFormed}
 use Rattle.model.specs.Scheme.{left, right, kind, orbitDim, has, deleted, preserved, added}
 use Rattle.model.specs.Conditions.{Arc, absent, explicit, implicit, arcAt, onCycle, Cycle, four, oneI, oneJ, apart}
-use Rattle.model.specs.Match.{image, arcHolds, Assignment}
-use Rattle.model.specs.Edit.{Pair, addedDarts, dartOf, pairOf, edited}
-use Rattle.model.specs.Accepted.{Accepted}
+use Rattle.model.specs.Site.{Site}
+use Rattle.model.specs.Match.{image, arcHolds}
+use Rattle.model.specs.Edit.{Pair, dartOf, pairOf, edited}
 use Rattle.model.specs.declared.Scheme.{Scheme}
 use Rattle.base.proofs.TestLaws.{or-cases, or-left, or-right, true-or-false}
 use Rattle.base.proofs.FirstLaws.{some-not-none}
 use Rattle.model.proofs.ArcLaws.{explicit-end, implicit-from, absent-of, absent-from, no-arc}
 use Rattle.model.proofs.CycleLaws.{cycle-at, cycle-of, not-absent, not-absent′, pass-i, pass-j, none-i, none-j}
-use Rattle.model.proofs.AcceptedLaws.{kind-cases, left-or-added}
-use Rattle.model.proofs.MatchLaws.{GoodOrbit, arc-of}
-use Rattle.model.proofs.EditLaws as E
+use Rattle.model.proofs.AcceptedLaws.{kind-cases}
+use Rattle.model.proofs.MatchLaws.{arc-of}
+use Rattle.model.proofs.EditLaws as L
+use Rattle.model.proofs.EditLaws.{Ready, kinds}
 use Rattle.model.proofs.RankLaws.{dart-left}
 
 one-not-zero : _≡_ {A = ℕ} 1 0 → ⊥
@@ -57,45 +56,44 @@ module _ (S : Scheme) (s : ℕ) where
   pub preserved-not-added : preserved S s ≡ true → added S s ≡ false
   preserved-not-added e = kind-not 2 3 (λ q. omega arith) e
 
-module _ (m : Map) (S : Scheme) (O : ℕ → Bool) (w : WellFormed (S .n) m) (g : Accepted S) (o : GoodOrbit m S O)
-    (A : Assignment m S O (image m S)) (room : addedDarts m S O ≤ countBelow (m .slots) (unused m)) where
-  abbrev kinds : (s : ℕ) → s < S .nodes → (has S left s ≡ true) ⊎ (added S s ≡ true)
-  kinds = left-or-added S (g .shaped)
+module _ (E : Site) (w : WellFormed (E .scheme .n) (E .map)) (ready : Ready E) where
+  open Site E using (map as m, scheme as S, orbit as O)
+  open Ready ready using (accepted as g, good as o, match as A)
 
   abbrev D : ℕ → ℕ → ℕ
-  D u s = dartOf m S O u s
+  D u s = dartOf E u s
 
   abbrev new : Map
-  new = edited m S O
+  new = edited E
 
   -- the laws of `EditLaws`, for this edit
   slot-of : (u s : ℕ) → O u ≡ true → s < S .nodes → D u s < m .slots
-  slot-of = E.dart-slot m S O (o .slot) kinds A room
+  slot-of = L.dart-slot E ready
 
   injective : (u s v t : ℕ) → O u ≡ true → O v ≡ true → s < S .nodes → t < S .nodes → D u s ≡ D v t → (u ≡ v) × (s ≡ t)
-  injective = E.dart-injective m S O (o .slot) kinds A room
+  injective = L.dart-injective E ready
 
   alive-of : (u s : ℕ) → O u ≡ true → s < S .nodes → has S left s ≡ true → m .state (D u s) ≡ 1
-  alive-of = E.left-alive m S O (o .slot) kinds A room
+  alive-of = L.left-alive E ready
 
-  pair-is : (u s : ℕ) → O u ≡ true → s < S .nodes → pairOf m S O (D u s) ≡ some (record { dart = u; node = s })
-  pair-is = E.pair-of m S O (o .slot) kinds A room
+  pair-is : (u s : ℕ) → O u ≡ true → s < S .nodes → pairOf E (D u s) ≡ some (record { dart = u; node = s })
+  pair-is = L.pair-of E ready
 
   -- ---- darts before the edit
 
   -- a live dart is no pair's, or a left pair's
   before : (y : ℕ) → y < m .slots → m .state y ≡ 1
-      → (pairOf m S O y ≡ none) ⊎ ((v t : ℕ) × (O v ≡ true) × (t < S .nodes) × (has S left t ≡ true) × (y ≡ D v t))
-  before y h l = go (pairOf m S O y) refl
+      → (pairOf E y ≡ none) ⊎ ((v t : ℕ) × (O v ≡ true) × (t < S .nodes) × (has S left t ≡ true) × (y ≡ D v t))
+  before y h l = go (pairOf E y) refl
     where
-      go : (p : Option Pair) → pairOf m S O y ≡ p → (pairOf m S O y ≡ none) ⊎ ((v t : ℕ) × (O v ≡ true) × (t < S .nodes) × (has S left t ≡ true) × (y ≡ D v t))
+      go : (p : Option Pair) → pairOf E y ≡ p → (pairOf E y ≡ none) ⊎ ((v t : ℕ) × (O v ≡ true) × (t < S .nodes) × (has S left t ≡ true) × (y ≡ D v t))
       go none e = inl e
       go (some p) e =
-          let q = E.pair-at m S O (o .slot) kinds A room y p e in
+          let q = L.pair-at E ready y p e in
           inr (⊎-elim
           (λ k. (p .dart, p .node, q .0, q .1, k, sym (q .2)))
-          (λ k. absurd (one-not-zero (sym (ap (m .state) (q .2) ∙ l) ∙ E.free-at m S O (o .slot) kinds A room (p .dart) (p .node) (q .0) (q .1) k .1)))
-          (kinds (p .node) (q .1)))
+          (λ k. absurd (one-not-zero (sym (ap (m .state) (q .2) ∙ l) ∙ L.free-at E ready (p .dart) (p .node) (q .0) (q .1) k .1)))
+          (kinds E ready (p .node) (q .1)))
 
   -- the links of a left pair's dart, by its left arcs
   old-explicit : (v t i r : ℕ) → O v ≡ true → t < S .nodes → has S left t ≡ true → arcAt S left t i ≡ explicit r
@@ -103,21 +101,21 @@ module _ (m : Map) (S : Scheme) (O : ℕ → Bool) (w : WellFormed (S .n) m) (g 
   unfolding arcHolds
   old-explicit v t i r e h l a =
       let x = explicit-end S left (g .sides left) t i r a in
-      let q = eqb-true _ _ (arc-of m S g O o (image m S) A v e t h l i (x .2) (explicit r) a) in
-      (ap (m .link i) (dart-left m S O v t l) ∙ q ∙ sym (dart-left m S O v r (x .1)), x .0, x .1)
+      let q = eqb-true _ _ (arc-of E g o (image E) A v e t h l i (x .2) (explicit r) a) in
+      (ap (m .link i) (dart-left E v t l) ∙ q ∙ sym (dart-left E v r (x .1)), x .0, x .1)
 
   old-implicit : (v t i p : ℕ) → O v ≡ true → t < S .nodes → has S left t ≡ true → i ≤ S .n → arcAt S left t i ≡ implicit p
       → (m .link i (D v t) ≡ D (m .link (orbitDim S p) v) t) × (O (m .link (orbitDim S p) v) ≡ true)
   unfolding arcHolds
   old-implicit v t i p e h l k a =
-      let q = eqb-true _ _ (arc-of m S g O o (image m S) A v e t h l i k (implicit p) a) in
-      (ap (m .link i) (dart-left m S O v t l) ∙ q ∙ sym (dart-left m S O _ t l), o .link v p e (implicit-from S left t i p a .0))
+      let q = eqb-true _ _ (arc-of E g o (image E) A v e t h l i k (implicit p) a) in
+      (ap (m .link i) (dart-left E v t l) ∙ q ∙ sym (dart-left E _ t l), o .link v p e (implicit-from S left t i p a .0))
 
   -- ---- loose ends: links that the edit does not name
 
   -- x is no pair's dart, or a preserved pair's whose node has no i-arc
   data Loose (i x : ℕ) : Type 0 where
-    looseOther : pairOf m S O x ≡ none → x < m .slots → m .state x ≡ 1 → Loose i x
+    looseOther : pairOf E x ≡ none → x < m .slots → m .state x ≡ 1 → Loose i x
     looseKept : (u s : ℕ) → O u ≡ true → s < S .nodes → preserved S s ≡ true → arcAt S left s i ≡ absent → x ≡ D u s → Loose i x
 
   loose-dart : {i x : ℕ} → Loose i x → (x < m .slots) × (m .state x ≡ 1)
@@ -127,7 +125,7 @@ module _ (m : Map) (S : Scheme) (O : ℕ → Bool) (w : WellFormed (S .n) m) (g 
 
   -- no left arc of dimension i leads to a loose end
   loose-not : {i x : ℕ} → Loose i x → (v t : ℕ) → O v ≡ true → t < S .nodes → (arcAt S left t i ≡ absent → ⊥) → x ≡ D v t → ⊥
-  loose-not (looseOther p h l) v t e k a q = some-not-none (pair-is v t e k) (ap (pairOf m S O) (sym q) ∙ p)
+  loose-not (looseOther p h l) v t e k a q = some-not-none (pair-is v t e k) (ap (pairOf E) (sym q) ∙ p)
   loose-not {i} (looseKept u s f h k b r) v t e l a q =
       a (ap (λ (z : ℕ). arcAt S left z i) (sym (injective u s v t f e h l (sym r ∙ q) .1)) ∙ b)
 
@@ -159,39 +157,39 @@ module _ (m : Map) (S : Scheme) (O : ℕ → Bool) (w : WellFormed (S .n) m) (g 
   -- ---- live darts after the edit
 
   data Live (x : ℕ) : Type 0 where
-    liveOther : pairOf m S O x ≡ none → x < m .slots → m .state x ≡ 1 → Live x
+    liveOther : pairOf E x ≡ none → x < m .slots → m .state x ≡ 1 → Live x
     livePair : (u s : ℕ) → O u ≡ true → s < S .nodes → has S right s ≡ true → x ≡ D u s → Live x
 
   live-at : (x : ℕ) → x < m .slots → new .state x ≡ 1 → Live x
-  live-at x h l = go (pairOf m S O x) refl
+  live-at x h l = go (pairOf E x) refl
     where
-      go : (p : Option Pair) → pairOf m S O x ≡ p → Live x
-      go none e = liveOther e h (sym (E.state-other m S O (o .slot) kinds A room x e) ∙ l)
+      go : (p : Option Pair) → pairOf E x ≡ p → Live x
+      go none e = liveOther e h (sym (L.state-other E ready x e) ∙ l)
       go (some p) e =
-          let q = E.pair-at m S O (o .slot) kinds A room x p e in
+          let q = L.pair-at E ready x p e in
           ⊎-elim
-          (λ d. absurd (one-not-zero (sym (ap (new .state) (q .2) ∙ l) ∙ E.state-deleted m S O (o .slot) kinds A room (p .dart) (p .node) (q .0) (q .1) d)))
+          (λ d. absurd (one-not-zero (sym (ap (new .state) (q .2) ∙ l) ∙ L.state-deleted E ready (p .dart) (p .node) (q .0) (q .1) d)))
           (λ r. livePair (p .dart) (p .node) (q .0) (q .1) (⊎-elim (λ k. or-left _ k) (λ k. or-right _ k) r) (sym (q .2)))
           (kind-cases S (g .shaped) (p .node) (q .1))
 
   new-state : (u s : ℕ) → O u ≡ true → s < S .nodes → has S right s ≡ true → new .state (D u s) ≡ 1
-  new-state u s e h r = E.state-pair m S O (o .slot) kinds A room u s e h (right-stays S s r)
+  new-state u s e h r = L.state-pair E ready u s e h (right-stays S s r)
 
   new-explicit : (u s : ℕ) → O u ≡ true → s < S .nodes → has S right s ≡ true → (i t : ℕ) → arcAt S right s i ≡ explicit t → new .link i (D u s) ≡ D u t
-  new-explicit u s e h r = E.link-explicit m S O (o .slot) kinds A room u s e h (right-stays S s r)
+  new-explicit u s e h r = L.link-explicit E ready u s e h (right-stays S s r)
 
   new-implicit : (u s : ℕ) → O u ≡ true → s < S .nodes → has S right s ≡ true → (i p : ℕ) → arcAt S right s i ≡ implicit p
       → (new .link i (D u s) ≡ D (m .link (orbitDim S p) u) s) × (O (m .link (orbitDim S p) u) ≡ true)
   new-implicit u s e h r i p a =
-      (E.link-implicit m S O (o .slot) kinds A room u s e h (right-stays S s r) i p a, o .link u p e (implicit-from S right s i p a .0))
+      (L.link-implicit E ready u s e h (right-stays S s r) i p a, o .link u p e (implicit-from S right s i p a .0))
 
   new-loose : (i x : ℕ) → i ≤ S .n → Loose i x → (new .link i x ≡ m .link i x) × (new .state x ≡ 1)
   new-loose i x k (looseOther p h l) =
-      (E.link-other m S O (o .slot) kinds A room i x p, E.state-other m S O (o .slot) kinds A room x p ∙ l)
+      (L.link-other E ready i x p, L.state-other E ready x p ∙ l)
   new-loose i x k (looseKept u s e h z a q) =
       let b = absent-of S right s i (sym (g .same s i h k z) ∙ absent-from S left s i a) in
       let r = preserved-right S s z in (
-        ap (new .link i) q ∙ E.link-kept m S O (o .slot) kinds A room u s e h (right-stays S s r) i (preserved-not-added S s z) b ∙ ap (m .link i) (sym q),
+        ap (new .link i) q ∙ L.link-kept E ready u s e h (right-stays S s r) i (preserved-not-added S s z) b ∙ ap (m .link i) (sym q),
         ap (new .state) q ∙ new-state u s e h r,
       )
 
@@ -246,14 +244,14 @@ module _ (m : Map) (S : Scheme) (O : ℕ → Bool) (w : WellFormed (S .n) m) (g 
   -- ---- with n = 2, α3 is a loop
 
   flat-of : (x : ℕ) → S .n ≡ 2 → Live x → new .link 3 x ≡ x
-  flat-of x n (liveOther p h l) = E.link-other m S O (o .slot) kinds A room 3 x p ∙ w .flat n x h l
+  flat-of x n (liveOther p h l) = L.link-other E ready 3 x p ∙ w .flat n x h l
   flat-of x n (livePair u s e h r q) =
       let a = no-arc S right (g .sides right) s 3 h (omega arith) (omega arith) in
       let k = right-stays S s r in
       ap (new .link 3) q ∙ ⊎-elim
-      (λ z. E.link-kept m S O (o .slot) kinds A room u s e h k 3 (preserved-not-added S s z) a
+      (λ z. L.link-kept E ready u s e h k 3 (preserved-not-added S s z) a
       ∙ w .flat n (D u s) (slot-of u s e h) (alive-of u s e h (preserved-left S s z)))
-      (λ z. E.link-own m S O (o .slot) kinds A room u s e h k 3 z a)
+      (λ z. L.link-own E ready u s e h k 3 z a)
       (or-cases _ _ r) ∙ sym q
 
   -- ---- squares
@@ -312,7 +310,7 @@ module _ (m : Map) (S : Scheme) (O : ℕ → Bool) (w : WellFormed (S .n) m) (g 
     -- ---- darts at which the edit changes neither αi nor αj
 
     data Plain (x : ℕ) : Type 0 where
-      plainOther : pairOf m S O x ≡ none → x < m .slots → m .state x ≡ 1 → Plain x
+      plainOther : pairOf E x ≡ none → x < m .slots → m .state x ≡ 1 → Plain x
       plainKept : (u s : ℕ) → O u ≡ true → s < S .nodes → preserved S s ≡ true → (Cycle S left s i j → ⊥) → x ≡ D u s → Plain x
 
     plain-dart : {x : ℕ} → Plain x → (x < m .slots) × (m .state x ≡ 1)
@@ -395,14 +393,14 @@ module _ (m : Map) (S : Scheme) (O : ℕ → Bool) (w : WellFormed (S .n) m) (g 
   -- ---- the theorem
 
   state-of : (x : ℕ) → x < m .slots → (new .state x ≡ 0) ⊎ (new .state x ≡ 1)
-  state-of x h = go (pairOf m S O x) refl
+  state-of x h = go (pairOf E x) refl
     where
-      go : (p : Option Pair) → pairOf m S O x ≡ p → (new .state x ≡ 0) ⊎ (new .state x ≡ 1)
-      go none e = let same = E.state-other m S O (o .slot) kinds A room x e in ⊎-elim (λ z. inl (same ∙ z)) (λ z. inr (same ∙ z)) (w .states x h)
+      go : (p : Option Pair) → pairOf E x ≡ p → (new .state x ≡ 0) ⊎ (new .state x ≡ 1)
+      go none e = let same = L.state-other E ready x e in ⊎-elim (λ z. inl (same ∙ z)) (λ z. inr (same ∙ z)) (w .states x h)
       go (some p) e =
-          let q = E.pair-at m S O (o .slot) kinds A room x p e in
+          let q = L.pair-at E ready x p e in
           ⊎-elim
-          (λ d. inl (ap (new .state) (sym (q .2)) ∙ E.state-deleted m S O (o .slot) kinds A room (p .dart) (p .node) (q .0) (q .1) d))
+          (λ d. inl (ap (new .state) (sym (q .2)) ∙ L.state-deleted E ready (p .dart) (p .node) (q .0) (q .1) d))
           (λ d. inr (ap (new .state) (sym (q .2)) ∙ new-state (p .dart) (p .node) (q .0) (q .1) (⊎-elim (λ k. or-left _ k) (λ k. or-right _ k) d)))
           (kind-cases S (g .shaped) (p .node) (q .1))
 

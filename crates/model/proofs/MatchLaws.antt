@@ -2,7 +2,7 @@
 -- Assumes nothing.
 use Prim.Native.Nat.{ℕ, suc, _≤_, _<_}
 use mathlib.Core.Path.{_≡_, refl, sym, ap, ap₂, _∙_, subst}
-use mathlib.Core.Logic.{_⊎_, ⊎-elim}
+use mathlib.Core.Logic.{⊎-elim}
 use mathlib.Core.Bool.{Bool, true}
 use mathlib.Core.Option.{Option, some, Option·getD}
 use mathlib.Core.List.{List, [], _∷_, _++_}
@@ -16,9 +16,9 @@ use Rattle.model.specs.WellFormed.{WellFormed}
 use Rattle.model.specs.Reach.{here, step}
 use Rattle.model.specs.Scheme.{left, orbitDim, word, arcs, arcPart, has}
 use Rattle.model.specs.Conditions.{Arc, absent, explicit, implicit, arcAt, touches, far, leftArc, pathTo}
+use Rattle.model.specs.Site.{Site}
 use Rattle.model.specs.Match.{walk, image, arcHolds, eachPair, onlyPair, matches, Assignment}
 use Rattle.model.specs.Accepted.{Accepted, SingleSide}
-use Rattle.model.specs.declared.Scheme.{Scheme}
 use Rattle.base.proofs.TestLaws.{and-left, and-right, and-of, or-cases, if-so, if-of}
 use Rattle.base.proofs.BelowLaws.{all-at, all-of}
 use Rattle.model.proofs.ArcLaws.{explicit-at, implicit-at, explicit-from, implicit-from, far-from, far-to, touches-from, touches-to}
@@ -26,11 +26,14 @@ use Rattle.model.proofs.AcceptedLaws.{small}
 use Rattle.model.proofs.ReachLaws.{path-start}
 use Rattle.model.proofs.HookLaws.{Path, arc-between, found-path, reached-found}
 
--- what the match needs of an orbit: its darts are live, and it is closed under the links of the orbit type
-pub record GoodOrbit (m : Map) (S : Scheme) (O : ℕ → Bool) : Type 0 where
-  pub slot : (u : ℕ) → O u ≡ true → u < m .slots
-  pub alive : (u : ℕ) → O u ≡ true → m .state u ≡ 1
-  pub link : (u p : ℕ) → O u ≡ true → p < S .places → O (m .link (orbitDim S p) u) ≡ true
+module _ (E : Site) where
+  open Site E using (map as m, scheme as S, orbit as O)
+
+  -- what the match needs of an orbit: its darts are live, and it is closed under the links of the orbit type
+  pub record GoodOrbit : Type 0 where
+    pub slot : (u : ℕ) → O u ≡ true → u < m .slots
+    pub alive : (u : ℕ) → O u ≡ true → m .state u ≡ 1
+    pub link : (u p : ℕ) → O u ≡ true → p < S .places → O (m .link (orbitDim S p) u) ≡ true
 
 -- ---- walks
 
@@ -39,28 +42,30 @@ unfolding walk
 walk-more m [] i x = refl
 walk-more m (j ∷ p) i x = walk-more m p i (m .link j x)
 
-module _ (m : Map) (S : Scheme) (g : Accepted S) where
+module _ (E : Site) (g : Accepted (E .scheme)) where
+  open Site E using (map as m, scheme as S, orbit as O)
+
   pathLeads : (s : ℕ) → s < S .nodes → has S left s ≡ true → (p : List ℕ) × (pathTo S s ≡ some p) × Path S p s
   pathLeads s h l = found-path S (g .shaped) s h (reached-found S (g .shaped) (g .reach s h l))
 
-  image-zero : (u : ℕ) → image m S u 0 ≡ u
+  image-zero : (u : ℕ) → image E u 0 ≡ u
   unfolding image pathTo walk
   image-zero u = rw (path-start (S .nodes) (λ t. eqb t 0) (leftArc S) 0 (g .shaped .nodesSome) (eq-eqb 0 0 refl)) refl
 
   abbrev gl : SingleSide S left
   gl = g .sides left
 
-  image-walk : (u s : ℕ) (p : List ℕ) → pathTo S s ≡ some p → image m S u s ≡ walk m p u
+  image-walk : (u s : ℕ) (p : List ℕ) → pathTo S s ≡ some p → image E u s ≡ walk m p u
   unfolding image
   image-walk u s p e = ap (λ (o : Option (List ℕ)). walk m (Option·getD o []) u) e
 
-  module _ (O : ℕ → Bool) (o : GoodOrbit m S O) where
+  module _ (o : GoodOrbit E) where
     -- what `eachPair` says of a pair
-    pair-at : (t : ℕ → ℕ → Bool) → eachPair m S O t ≡ true → (u : ℕ) → O u ≡ true → (s : ℕ) → s < S .nodes → has S left s ≡ true → t u s ≡ true
+    pair-at : (t : ℕ → ℕ → Bool) → eachPair E t ≡ true → (u : ℕ) → O u ≡ true → (s : ℕ) → s < S .nodes → has S left s ≡ true → t u s ≡ true
     unfolding eachPair
     pair-at t q u e s h l = if-so (has S left s) (all-at (S .nodes) _ (if-so (O u) (all-at (m .slots) _ q u (o .slot u e)) e) s h) l
 
-    pair-of : (t : ℕ → ℕ → Bool) → ((u : ℕ) → u < m .slots → O u ≡ true → (s : ℕ) → s < S .nodes → has S left s ≡ true → t u s ≡ true) → eachPair m S O t ≡ true
+    pair-of : (t : ℕ → ℕ → Bool) → ((u : ℕ) → u < m .slots → O u ≡ true → (s : ℕ) → s < S .nodes → has S left s ≡ true → t u s ≡ true) → eachPair E t ≡ true
     unfolding eachPair
     pair-of t f = all-of (m .slots) _ (λ u b. if-of (O u) (λ e. all-of (S .nodes) _ (λ s h. if-of (has S left s) (λ l. f u b e s h l))))
 
@@ -78,30 +83,31 @@ module _ (m : Map) (S : Scheme) (g : Accepted S) where
             ap (m .state) (walk-more m p i u) ∙ w .alive (walk m p u) (r .0) (r .1) i d,
           )
 
-      module _ (q : matches m S O ≡ true) where
+      module _ (q : matches E ≡ true) where
         both-at : (u : ℕ) → O u ≡ true → (s : ℕ) → s < S .nodes → has S left s ≡ true
-            → (allBelow (suc (S .n)) (λ i. arcHolds m S u s i (arcAt S left s i)) and onlyPair m S O u s) ≡ true
+            → (allBelow (suc (S .n)) (λ i. arcHolds E u s i (arcAt S left s i)) and onlyPair E u s) ≡ true
         unfolding matches
         both-at u e s h l = pair-at _ q u e s h l
 
-        arc-at : (u : ℕ) → O u ≡ true → (s : ℕ) → s < S .nodes → has S left s ≡ true → (i : ℕ) → i ≤ S .n → arcHolds m S u s i (arcAt S left s i) ≡ true
+        arc-at : (u : ℕ) → O u ≡ true → (s : ℕ) → s < S .nodes → has S left s ≡ true → (i : ℕ) → i ≤ S .n → arcHolds E u s i (arcAt S left s i) ≡ true
         arc-at u e s h l i k = all-at (suc (S .n)) _ (and-left _ _ (both-at u e s h l)) i (omega arith)
 
         link-explicit : (u : ℕ) → O u ≡ true → (s : ℕ) → s < S .nodes → has S left s ≡ true → (a : ℕ) → a < arcs S left
-            → touches S left s (arcPart S left a 0) a ≡ true → m .link (arcPart S left a 0) (image m S u s) ≡ image m S u (far S left s a)
+            → touches S left s (arcPart S left a 0) a ≡ true → m .link (arcPart S left a 0) (image E u s) ≡ image E u (far S left s a)
         unfolding arcHolds
         link-explicit u e s h l a b t =
             let i = arcPart S left a 0 in
-            eqb-true _ _ (subst (λ (c : Arc). arcHolds m S u s i c ≡ true) (explicit-at S left gl s i a h b (gl .shaped .dims a b) t) (arc-at u e s h l i (gl .shaped .dims a b)))
+            let k = gl .shaped .dims a b in
+            eqb-true _ _ (subst (λ (c : Arc). arcHolds E u s i c ≡ true) (explicit-at S left gl s i a h b k t) (arc-at u e s h l i k))
 
         link-implicit : (u : ℕ) → O u ≡ true → (s : ℕ) → s < S .nodes → has S left s ≡ true → (p : ℕ) → p < S .places
-            → word S left s p ≤ S .n → m .link (word S left s p) (image m S u s) ≡ image m S (m .link (orbitDim S p) u) s
+            → word S left s p ≤ S .n → m .link (word S left s p) (image E u s) ≡ image E (m .link (orbitDim S p) u) s
         unfolding arcHolds
         link-implicit u e s h l p b k =
             let i = word S left s p in
-            eqb-true _ _ (subst (λ (c : Arc). arcHolds m S u s i c ≡ true) (implicit-at S left gl s i p h b k refl) (arc-at u e s h l i k))
+            eqb-true _ _ (subst (λ (c : Arc). arcHolds E u s i c ≡ true) (implicit-at S left gl s i p h b k refl) (arc-at u e s h l i k))
 
-        pub match-assigns : Assignment m S O (image m S)
+        pub match-assigns : Assignment E (image E)
         unfolding onlyPair
         match-assigns = record {
           darts = λ u b e s h l.
@@ -113,8 +119,8 @@ module _ (m : Map) (S : Scheme) (g : Accepted S) where
           explicitArc = λ u b e a k.
               let f = gl .shaped .from a k in
               let t = gl .shaped .to a k in (
-                link-explicit u e _ (f .0) (f .1) a k (touches-from S left a) ∙ ap (image m S u) (far-from S left a),
-                link-explicit u e _ (t .0) (t .1) a k (touches-to S left a) ∙ ap (image m S u) (far-to S left a),
+                link-explicit u e _ (f .0) (f .1) a k (touches-from S left a) ∙ ap (image E u) (far-from S left a),
+                link-explicit u e _ (t .0) (t .1) a k (touches-to S left a) ∙ ap (image E u) (far-to S left a),
               );
           implicitArc = λ u b e s h l p k no. ⊎-elim (λ z. absurd (no z)) (λ d. link-implicit u e s h l p k d) (gl .shaped .words s p h k);
           different = λ u b e s h l v c f t i r same.
@@ -124,7 +130,7 @@ module _ (m : Map) (S : Scheme) (g : Accepted S) where
 
     -- ---- an assignment is the match
 
-    module _ (f : ℕ → ℕ → ℕ) (A : Assignment m S O f) where
+    module _ (f : ℕ → ℕ → ℕ) (A : Assignment E f) where
       walk-is : (u : ℕ) → O u ≡ true → {p : List ℕ} {s : ℕ} → Path S p s → walk m p u ≡ f u s
       unfolding walk
       walk-is u e (here {y} h z) = sym (A .hook u (o .slot u e) e) ∙ ap (f u) (sym (eqb-true y 0 z))
@@ -138,7 +144,7 @@ module _ (m : Map) (S : Scheme) (g : Accepted S) where
           (a .3)
 
       -- there is no other assignment than `image`
-      pub assigned : (u : ℕ) → O u ≡ true → (s : ℕ) → s < S .nodes → has S left s ≡ true → image m S u s ≡ f u s
+      pub assigned : (u : ℕ) → O u ≡ true → (s : ℕ) → s < S .nodes → has S left s ≡ true → image E u s ≡ f u s
       assigned u e s h l = let p = pathLeads s h l in image-walk u s (p .0) (p .1) ∙ walk-is u e (p .2)
 
       touched : (u : ℕ) → O u ≡ true → (s i a : ℕ) → a < arcs S left → touches S left s i a ≡ true
@@ -160,14 +166,15 @@ module _ (m : Map) (S : Scheme) (g : Accepted S) where
           (end .0, end .1, ap₂ (λ (k z : ℕ). m .link k (f u z)) (sym dim) (sym same) ∙ x-arc .1))
           (or-cases _ _ (and-right _ _ t))
 
-      pub arc-of : (u : ℕ) → O u ≡ true → (s : ℕ) → s < S .nodes → has S left s ≡ true → (i : ℕ) → i ≤ S .n → (c : Arc) → arcAt S left s i ≡ c → arcHolds m S u s i c ≡ true
+      pub arc-of : (u : ℕ) → O u ≡ true → (s : ℕ) → s < S .nodes → has S left s ≡ true → (i : ℕ) → i ≤ S .n → (c : Arc) → arcAt S left s i ≡ c
+          → arcHolds E u s i c ≡ true
       unfolding arcHolds
       arc-of u e s h l i k absent z = refl
       arc-of u e s h l i k (explicit t) z =
           let x = explicit-from S left s i t z in
           let y = touched u e s i (x .0) (x .1) (x .2) in
           let far-t = x .3 in
-          eq-eqb _ _ (ap (m .link i) (assigned u e s h l) ∙ y .2 ∙ sym (assigned u e _ (y .0) (y .1)) ∙ ap (image m S u) far-t)
+          eq-eqb _ _ (ap (m .link i) (assigned u e s h l) ∙ y .2 ∙ sym (assigned u e _ (y .0) (y .1)) ∙ ap (image E u) far-t)
       arc-of u e s h l i k (implicit p) z =
           let x = implicit-from S left s i p z in
           let v = m .link (orbitDim S p) u in
@@ -175,7 +182,7 @@ module _ (m : Map) (S : Scheme) (g : Accepted S) where
           ∙ A .implicitArc u (o .slot u e) e s h l p (x .0) (λ c. let word-i = x .1 in let n3 = small S (g .shaped) in omega arith)
           ∙ sym (assigned v (o .link u p e (x .0)) s h l))
 
-      pub assigns-match : matches m S O ≡ true
+      pub assigns-match : matches E ≡ true
       unfolding matches onlyPair
       assigns-match = pair-of _ (λ u b e s h l. and-of
           (all-of (suc (S .n)) _ (λ i k. arc-of u e s h l i (omega arith) (arcAt S left s i) refl))

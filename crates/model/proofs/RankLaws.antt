@@ -8,8 +8,8 @@ use native.Mathlib.Nat.{suc-mul, mul-le-mul-right}
 use native.Mathlib.Omega.{arith}
 use borrow.Author.Tests.{eqb-true, ne-eqb}
 use Rattle.base.specs.Below.{countBelow}
-use Rattle.model.specs.Map.{Map}
 use Rattle.model.specs.Scheme.{left, kind, has, added}
+use Rattle.model.specs.Site.{Site}
 use Rattle.model.specs.Match.{image}
 use Rattle.model.specs.Edit.{orbitSize, addedDarts, rank, freeSlot, dartOf}
 use Rattle.model.specs.declared.Scheme.{Scheme}
@@ -23,19 +23,21 @@ left-not-added S s e = ⊎-elim
     (λ q. let k = eqb-true (kind S s) 2 q in ne-eqb (kind S s) 3 (λ z. omega arith))
     (or-cases _ _ e)
 
-module _ (m : Map) (S : Scheme) (O : ℕ → Bool) where
+module _ (E : Site) where
+  open Site E using (map as m, scheme as S, orbit as O)
+
   -- the dart of a left pair is its image
-  pub dart-left : (u s : ℕ) → has S left s ≡ true → dartOf m S O u s ≡ image m S u s
+  pub dart-left : (u s : ℕ) → has S left s ≡ true → dartOf E u s ≡ image E u s
   unfolding dartOf
-  dart-left u s l = ap (λ (b : Bool). cond b (freeSlot m (rank S O u s)) (image m S u s)) (left-not-added S s l)
+  dart-left u s l = ap (λ (b : Bool). cond b (freeSlot E (rank E u s)) (image E u s)) (left-not-added S s l)
 
   -- the dart of an added pair is the unused slot of its rank
-  pub dart-added : (u s : ℕ) → added S s ≡ true → dartOf m S O u s ≡ freeSlot m (rank S O u s)
+  pub dart-added : (u s : ℕ) → added S s ≡ true → dartOf E u s ≡ freeSlot E (rank E u s)
   unfolding dartOf
-  dart-added u s a = ap (λ (b : Bool). cond b (freeSlot m (rank S O u s)) (image m S u s)) a
+  dart-added u s a = ap (λ (b : Bool). cond b (freeSlot E (rank E u s)) (image E u s)) a
 
   module _ (slot : (u : ℕ) → O u ≡ true → u < m .slots) where
-    pub rank-low : (u s : ℕ) → O u ≡ true → s < S .nodes → added S s ≡ true → rank S O u s < addedDarts m S O
+    pub rank-low : (u s : ℕ) → O u ≡ true → s < S .nodes → added S s ≡ true → rank E u s < addedDarts E
     unfolding rank addedDarts orbitSize
     rank-low u s e h a =
         let cs = count-lt (added S) s (S .nodes) h a in
@@ -44,7 +46,7 @@ module _ (m : Map) (S : Scheme) (O : ℕ → Bool) where
         omega arith
 
   pub rank-once : (u s v t : ℕ) → O u ≡ true → O v ≡ true → s < S .nodes → t < S .nodes → added S s ≡ true → added S t ≡ true
-      → rank S O u s ≡ rank S O v t → (u ≡ v) × (s ≡ t)
+      → rank E u s ≡ rank E v t → (u ≡ v) × (s ≡ t)
   unfolding rank
   rank-once u s v t e f h l a b q =
       let d = digits (countBelow (S .nodes) (added S)) _ _ _ _ (count-lt (added S) s (S .nodes) h a) (count-lt (added S) t (S .nodes) l b) q in

@@ -9,7 +9,7 @@ use native.Mathlib.Omega.{arith}
 use lib.Dec.{eqb}
 use borrow.Author.Tests.{eqb-true, eq-eqb}
 use Rattle.base.specs.Test.{_and_}
-use Rattle.base.specs.Below.{anyBelow, countBelow}
+use Rattle.base.specs.Below.{anyBelow}
 use Rattle.base.specs.Lists.{joined}
 use Rattle.base.proofs.TestLaws.{and-left, and-right, and-of, or-cases, true-or-false}
 use Rattle.base.proofs.BelowLaws.{any-at, any-of, count-injective, le-or-lt}
@@ -18,15 +18,15 @@ use Rattle.model.specs.Map.{Map, unused, recordOf, tableOf}
 use Rattle.model.specs.Scheme.{right, orbitDim, has, deleted, added}
 use Rattle.model.specs.Conditions.{Arc, absent, explicit, implicit, arcAt}
 use Rattle.model.specs.Accepted.{Accepted}
-use Rattle.model.specs.Match.{image, Assignment}
-use Rattle.model.specs.Edit.{addedDarts, edited}
+use Rattle.model.specs.Site.{Site}
+use Rattle.model.specs.Edit.{edited}
 use Rattle.model.specs.Rewriting.{Rewriting, SameRecord}
-use Rattle.model.specs.declared.Scheme.{Scheme}
 use Rattle.model.proofs.ArcLaws.{explicit-end, implicit-from, absent-from}
 use Rattle.model.proofs.AcceptedLaws.{at-least-two, kind-cases, left-or-added}
 use Rattle.model.proofs.MatchLaws.{GoodOrbit, assigned}
 use Rattle.model.proofs.KeepLaws.{added-right, preserved-right}
 use Rattle.model.proofs.RewritingLaws.{rewriting}
+use Rattle.model.proofs.EditLaws.{Ready}
 
 -- a slot is the dart of some pair, or of none
 pair-or-none : (N c : ℕ) (O : ℕ → Bool) (f : ℕ → ℕ → ℕ) (x : ℕ) → ((u : ℕ) → O u ≡ true → u < N)
@@ -39,12 +39,14 @@ pair-or-none N c O f x slot = ⊎-elim
     (λ t. inr (λ u s e h q. true≢false (sym (any-of N _ u (slot u e) (and-of e (any-of c _ s h (eq-eqb (f u s) x q)))) ∙ t)))
     (true-or-false (anyBelow N (λ u. O u and anyBelow c (λ s. eqb (f u s) x))))
 
-module _ (m : Map) (S : Scheme) (O : ℕ → Bool) (a : Accepted S) (o : GoodOrbit m S O) {m′ m″ : Map} {f g : ℕ → ℕ → ℕ}
-    (r : Rewriting m m′ S O f) (q : Rewriting m m″ S O g) where
+module _ (E : Site) (a : Accepted (E .scheme)) (o : GoodOrbit E) {m′ m″ : Map} {f g : ℕ → ℕ → ℕ}
+    (r : Rewriting E m′ f) (q : Rewriting E m″ g) where
+  open Site E using (map as m, scheme as S, orbit as O)
+
   -- the dart of a pair is the same: there is one assignment, and one unused slot with as many below it
   pub dart-once : (u s : ℕ) → O u ≡ true → s < S .nodes → f u s ≡ g u s
   dart-once u s e h = ⊎-elim
-      (λ l. sym (assigned m S a O o f (r .assigned) u e s h l) ∙ assigned m S a O o g (q .assigned) u e s h l)
+      (λ l. sym (assigned E a o f (r .assigned) u e s h l) ∙ assigned E a o g (q .assigned) u e s h l)
       (λ k. count-injective (unused m) (f u s) (g u s) (eq-eqb _ _ (r .wasUnused u s e h k)) (eq-eqb _ _ (q .wasUnused u s e h k))
       (r .inOrder u s e h k ∙ sym (q .inOrder u s e h k)))
       (left-or-added S (a .shaped) s h)
@@ -131,7 +133,5 @@ module _ (m : Map) (S : Scheme) (O : ℕ → Bool) (a : Accepted S) (o : GoodOrb
           ∷ sym (w .link 3 (omega arith)) i ∷ sym (w .tag) i ∷ []
 
 -- every rewriting is the computed edit
-pub edit-once : (m : Map) (S : Scheme) (O : ℕ → Bool) → Accepted S → GoodOrbit m S O → Assignment m S O (image m S)
-    → addedDarts m S O ≤ countBelow (m .slots) (unused m)
-    → {m′ : Map} {f : ℕ → ℕ → ℕ} → Rewriting m m′ S O f → tableOf m′ ≡ tableOf (edited m S O)
-edit-once m S O a o A room r = rewriting-once m S O a o r (rewriting m S O a o A room)
+pub edit-once : (E : Site) (r : Ready E) {m′ : Map} {f : ℕ → ℕ → ℕ} → Rewriting E m′ f → tableOf m′ ≡ tableOf (edited E)
+edit-once E r q = rewriting-once E (r .accepted) (r .good) q (rewriting E r)

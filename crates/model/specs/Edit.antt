@@ -1,6 +1,6 @@
 -- 'What an edit does': the dart of each pair, the pair of each slot, and the new map, slot by slot. Rewriting.antt says the same sentence by
 -- sentence, of the map before and the map after; `edited` is that rewriting (`rewriting` of proofs/RewritingLaws.antt).
--- m and the orbit O are as they were before the edit: nothing here reads a link that was rewritten.
+-- At the site E, m is the map, S the scheme, O the orbit, all as they were before the edit: nothing here reads a link that was rewritten.
 -- Assumes nothing.
 use Prim.Native.Nat.{ℕ, _+_, _*_}
 use mathlib.Core.Bool.{Bool, true, false, cond}
@@ -12,25 +12,27 @@ use Rattle.base.specs.First.{nthLowest, first, someIf}
 use Rattle.model.specs.Map.{Map, unused}
 use Rattle.model.specs.Scheme.{right, orbitDim, deleted, added}
 use Rattle.model.specs.Conditions.{Arc, absent, explicit, implicit, arcAt}
+use Rattle.model.specs.Site.{Site}
 use Rattle.model.specs.Match.{image}
-use Rattle.model.specs.declared.Scheme.{Scheme}
 
 -- an orbit dart u and a node s
 pub record Pair : Type 0 where
   pub dart : ℕ
   pub node : ℕ
 
--- ---- the dart of a pair
+module _ (E : Site) where
+  open Site E using (map as m, scheme as S, orbit as O)
 
--- "the k-th takes the k-th lowest slot unused before the edit"
-unfoldable pub freeSlot : Map → ℕ → ℕ
-freeSlot m k = Option·getD (nthLowest (m .slots) (unused m) k) 0
+  -- ---- the dart of a pair
 
--- "The pairs (u, s), s added, are ordered by u and then by s": which of them (u, s) is, counted from 0
-unfoldable pub rank : Scheme → (ℕ → Bool) → ℕ → ℕ → ℕ
-rank S O u s = countBelow u O * countBelow (S .nodes) (added S) + countBelow s (added S)
+  -- "the k-th takes the k-th lowest slot unused before the edit"
+  unfoldable pub freeSlot : ℕ → ℕ
+  freeSlot k = Option·getD (nthLowest (m .slots) (unused m) k) 0
 
-module _ (m : Map) (S : Scheme) (O : ℕ → Bool) where
+  -- "The pairs (u, s), s added, are ordered by u and then by s": which of them (u, s) is, counted from 0
+  unfoldable pub rank : ℕ → ℕ → ℕ
+  rank u s = countBelow u O * countBelow (S .nodes) (added S) + countBelow s (added S)
+
   -- "the size of O, darts added and darts deleted"
   unfoldable pub orbitSize : ℕ
   orbitSize = countBelow (m .slots) O
@@ -43,15 +45,14 @@ module _ (m : Map) (S : Scheme) (O : ℕ → Bool) where
 
   -- the dart of the pair (u, s): a slot that was unused where s is added, else m(u, s)
   unfoldable pub dartOf : ℕ → ℕ → ℕ
-  dartOf u s = cond (added S s) (freeSlot m (rank S O u s)) (image m S u s)
+  dartOf u s = cond (added S s) (freeSlot (rank u s)) (image E u s)
 
   -- the pair whose dart is x, if any
   unfoldable pub pairOf : ℕ → Option Pair
   pairOf x = first (m .slots) (λ u. first (S .nodes) (λ s. someIf (O u and eqb (dartOf u s) x) (record { dart = u; node = s })))
 
--- ---- the words of a slot
+  -- ---- the words of a slot
 
-module _ (m : Map) where
   -- αi of the dart x of an added (true) or a preserved (false) pair, where its right side names no i-arc
   abbrev pub unnamedLink : Bool → ℕ → ℕ → ℕ
   -- "α3 of a new dart is itself where n = 2": by incidence an added node's right side names α0 to αn, so no other link is unnamed
@@ -66,27 +67,26 @@ module _ (m : Map) where
   -- "A preserved dart keeps its tag"
   newTag false u x = m .tag x
 
--- a word of a slot by the pair, if any, whose dart it is
-unfoldable pub newWord : Scheme → Option Pair → ℕ → (ℕ → ℕ → ℕ) → ℕ
--- "all other records stay as they stood"
-newWord S none old f = old
--- "Deleted records become six zeros"; f gives the words of preserved and added pairs
-newWord S (some p) old f = cond (deleted S (p .node)) 0 (f (p .dart) (p .node))
-
-module _ (m : Map) (S : Scheme) (O : ℕ → Bool) where
   -- αi of the dart of (u, s), by the i-arc that s has on the right; where it has none, what an unnamed link is
   unfoldable pub newLink : ℕ → ℕ → Arc → ℕ → ℕ
   newLink u s absent unnamed = unnamed
   -- "an explicit right i-arc to t sets αi to the dart of (u, t)"
-  newLink u s (explicit t) unnamed = dartOf m S O u t
+  newLink u s (explicit t) unnamed = dartOf u t
   -- "an implicit one at position p sets it to the dart of (αq(u), s), with αq from before the edit"
-  newLink u s (implicit p) unnamed = dartOf m S O (m .link (orbitDim S p) u) s
+  newLink u s (implicit p) unnamed = dartOf (m .link (orbitDim S p) u) s
+
+  -- a word of a slot by the pair, if any, whose dart it is
+  unfoldable pub newWord : Option Pair → ℕ → (ℕ → ℕ → ℕ) → ℕ
+  -- "all other records stay as they stood"
+  newWord none old f = old
+  -- "Deleted records become six zeros"; f gives the words of preserved and added pairs
+  newWord (some p) old f = cond (deleted S (p .node)) 0 (f (p .dart) (p .node))
 
   -- the map after the edit
   unfoldable pub edited : Map
   edited = record {
     slots = m .slots;
-    state = λ x. newWord S (pairOf m S O x) (m .state x) (λ u s. 1);
-    link = λ i x. newWord S (pairOf m S O x) (m .link i x) (λ u s. newLink u s (arcAt S right s i) (unnamedLink m (added S s) i x));
-    tag = λ x. newWord S (pairOf m S O x) (m .tag x) (λ u s. newTag m (added S s) u x);
+    state = λ x. newWord (pairOf x) (m .state x) (λ u s. 1);
+    link = λ i x. newWord (pairOf x) (m .link i x) (λ u s. newLink u s (arcAt S right s i) (unnamedLink (added S s) i x));
+    tag = λ x. newWord (pairOf x) (m .tag x) (λ u s. newTag (added S s) u x);
   }

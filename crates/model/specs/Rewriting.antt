@@ -1,15 +1,15 @@
--- What an edit does, as statements about the map before it, m, and after it, m′: O is the orbit, and f gives the dart of each pair.
--- They leave nothing open: two rewritings of one map are one table (`rewriting-once` of proofs/RewritingOnce.antt).
+-- What an edit at the site E does, as statements about the map before it, m, and after it, m′: S is the scheme, O the orbit, and f gives the dart
+-- of each pair. They leave nothing open: two rewritings at one site are one table (`rewriting-once` of proofs/RewritingOnce.antt).
 -- Assumes nothing.
 use Prim.Native.Nat.{ℕ, _+_, _*_, _≤_, _<_}
 use mathlib.Core.Path.{_≡_}
-use mathlib.Core.Bool.{Bool, true}
+use mathlib.Core.Bool.{true}
 use Rattle.base.specs.Below.{countBelow}
 use Rattle.model.specs.Map.{Map, unused}
 use Rattle.model.specs.Scheme.{right, orbitDim, has, deleted, preserved, added}
 use Rattle.model.specs.Conditions.{absent, explicit, implicit, arcAt}
+use Rattle.model.specs.Site.{Site}
 use Rattle.model.specs.Match.{Assignment}
-use Rattle.model.specs.declared.Scheme.{Scheme}
 
 -- the six words of slot x in m′ are those in m
 pub record SameRecord (m m′ : Map) (x : ℕ) : Type 0 where
@@ -23,29 +23,32 @@ pub record ZeroRecord (m : Map) (x : ℕ) : Type 0 where
   pub link : (i : ℕ) → i ≤ 3 → m .link i x ≡ 0
   pub tag : m .tag x ≡ 0
 
-pub record Rewriting (m m′ : Map) (S : Scheme) (O : ℕ → Bool) (f : ℕ → ℕ → ℕ) : Type 0 where
-  -- the slot count stays
-  pub slots : m′ .slots ≡ m .slots
-  -- the darts of the left pairs are the assignment
-  pub assigned : Assignment m S O f
-  -- the added pairs, ordered by u and then by s, take the lowest slots unused before the edit
-  pub slot : (u s : ℕ) → O u ≡ true → s < S .nodes → added S s ≡ true → f u s < m .slots
-  pub wasUnused : (u s : ℕ) → O u ≡ true → s < S .nodes → added S s ≡ true → m .state (f u s) ≡ 0
-  pub inOrder : (u s : ℕ) → O u ≡ true → s < S .nodes → added S s ≡ true
-      → countBelow (f u s) (unused m) ≡ countBelow u O * countBelow (S .nodes) (added S) + countBelow s (added S)
-  -- preserved and added pairs are live; right arcs set their links
-  pub alive : (u s : ℕ) → O u ≡ true → s < S .nodes → has S right s ≡ true → m′ .state (f u s) ≡ 1
-  pub explicitLink : (u s i t : ℕ) → O u ≡ true → s < S .nodes → has S right s ≡ true → arcAt S right s i ≡ explicit t
-      → m′ .link i (f u s) ≡ f u t
-  pub implicitLink : (u s i p : ℕ) → O u ≡ true → s < S .nodes → has S right s ≡ true → arcAt S right s i ≡ implicit p
-      → m′ .link i (f u s) ≡ f (m .link (orbitDim S p) u) s
-  -- a new dart takes the tag of u, and α3 of it is itself where n = 2
-  pub newTag : (u s : ℕ) → O u ≡ true → s < S .nodes → added S s ≡ true → m′ .tag (f u s) ≡ m .tag u
-  pub ownLink : (u s : ℕ) → O u ≡ true → s < S .nodes → added S s ≡ true → S .n ≡ 2 → m′ .link 3 (f u s) ≡ f u s
-  -- a preserved dart keeps its tag and every link that its right side does not name
-  pub keptTag : (u s : ℕ) → O u ≡ true → s < S .nodes → preserved S s ≡ true → m′ .tag (f u s) ≡ m .tag (f u s)
-  pub keptLink : (u s i : ℕ) → O u ≡ true → s < S .nodes → preserved S s ≡ true → arcAt S right s i ≡ absent
-      → m′ .link i (f u s) ≡ m .link i (f u s)
-  -- deleted records become six zeros, and all other records stay as they stood
-  pub gone : (u s : ℕ) → O u ≡ true → s < S .nodes → deleted S s ≡ true → ZeroRecord m′ (f u s)
-  pub others : (x : ℕ) → ((u s : ℕ) → O u ≡ true → s < S .nodes → f u s ≡ x → ⊥) → SameRecord m m′ x
+module _ (E : Site) where
+  open Site E using (map as m, scheme as S, orbit as O)
+
+  pub record Rewriting (m′ : Map) (f : ℕ → ℕ → ℕ) : Type 0 where
+    -- the slot count stays
+    pub slots : m′ .slots ≡ m .slots
+    -- the darts of the left pairs are the assignment
+    pub assigned : Assignment E f
+    -- the added pairs, ordered by u and then by s, take the lowest slots unused before the edit
+    pub slot : (u s : ℕ) → O u ≡ true → s < S .nodes → added S s ≡ true → f u s < m .slots
+    pub wasUnused : (u s : ℕ) → O u ≡ true → s < S .nodes → added S s ≡ true → m .state (f u s) ≡ 0
+    pub inOrder : (u s : ℕ) → O u ≡ true → s < S .nodes → added S s ≡ true
+        → countBelow (f u s) (unused m) ≡ countBelow u O * countBelow (S .nodes) (added S) + countBelow s (added S)
+    -- preserved and added pairs are live; right arcs set their links
+    pub alive : (u s : ℕ) → O u ≡ true → s < S .nodes → has S right s ≡ true → m′ .state (f u s) ≡ 1
+    pub explicitLink : (u s i t : ℕ) → O u ≡ true → s < S .nodes → has S right s ≡ true → arcAt S right s i ≡ explicit t
+        → m′ .link i (f u s) ≡ f u t
+    pub implicitLink : (u s i p : ℕ) → O u ≡ true → s < S .nodes → has S right s ≡ true → arcAt S right s i ≡ implicit p
+        → m′ .link i (f u s) ≡ f (m .link (orbitDim S p) u) s
+    -- a new dart takes the tag of u, and α3 of it is itself where n = 2
+    pub newTag : (u s : ℕ) → O u ≡ true → s < S .nodes → added S s ≡ true → m′ .tag (f u s) ≡ m .tag u
+    pub ownLink : (u s : ℕ) → O u ≡ true → s < S .nodes → added S s ≡ true → S .n ≡ 2 → m′ .link 3 (f u s) ≡ f u s
+    -- a preserved dart keeps its tag and every link that its right side does not name
+    pub keptTag : (u s : ℕ) → O u ≡ true → s < S .nodes → preserved S s ≡ true → m′ .tag (f u s) ≡ m .tag (f u s)
+    pub keptLink : (u s i : ℕ) → O u ≡ true → s < S .nodes → preserved S s ≡ true → arcAt S right s i ≡ absent
+        → m′ .link i (f u s) ≡ m .link i (f u s)
+    -- deleted records become six zeros, and all other records stay as they stood
+    pub gone : (u s : ℕ) → O u ≡ true → s < S .nodes → deleted S s ≡ true → ZeroRecord m′ (f u s)
+    pub others : (x : ℕ) → ((u s : ℕ) → O u ≡ true → s < S .nodes → f u s ≡ x → ⊥) → SameRecord m m′ x
