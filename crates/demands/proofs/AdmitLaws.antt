@@ -13,36 +13,34 @@ use borrow.Author.Tests.{eqb-true, eq-eqb, ltb-true, lt-ltb, ltb-false, le-ltb}
 use Rattle.base.specs.Test.{_and_}
 use Rattle.base.specs.Below.{countBelow}
 use Rattle.base.specs.First.{someIf, _orElse_}
-use Rattle.base.proofs.TestLaws.{and-left, and-right, and-of, true-or-false}
+use Rattle.base.proofs.TestLaws.{and-left, and-right, and-of}
 use Rattle.base.proofs.FirstLaws.{when-none, or-else-none}
 use Rattle.model.specs.Map.{view, unused, live}
 use Rattle.model.specs.WellFormed.{WellFormed, wellFormed}
 use Rattle.model.specs.Scheme.{inForm, schemeOf}
-use Rattle.model.specs.Conditions.{schemeFault}
-use Rattle.model.specs.Accepted.{Accepted}
-use Rattle.model.specs.Match.{matches, Assignment}
-use Rattle.model.specs.Edit.{orbitSize, addedDarts, deletedDarts, dartOf, edited}
+use Rattle.model.specs.Match.{matches}
+use Rattle.model.specs.Edit.{addedDarts, dartOf, edited}
 use Rattle.model.specs.Rewriting.{Rewriting}
 use Rattle.model.specs.Answer.{number, values}
-use Rattle.model.specs.Calls.{sizesOk, bytesFault, fitFault, orbitOf, editFault, editAnswer, editTable}
+use Rattle.model.specs.Site.{Site, Sound}
+use Rattle.model.specs.Calls.{bytesFault, fitFault, siteFault, siteDone, siteOf, storedOk, editFaultAt, editFault, editAnswer, editTable}
 use Rattle.model.specs.Sequence.{Holds}
 use Rattle.model.specs.declared.Answer.{Answer}
-use Rattle.model.specs.declared.Answer.the-variants.{Edited, NoMatch, NoRoom}
+use Rattle.model.specs.declared.Answer.the-variants.{NoMatch, NoRoom}
 use Rattle.model.proofs.SizeLaws.{sizes-iff}
 use Rattle.model.proofs.WellFormedLaws.{wellFormed-iff}
 use Rattle.model.proofs.SchemeLaws.{shaped}
 use Rattle.model.proofs.AcceptedLaws.{accepted, no-fault}
-use Rattle.model.proofs.MatchLaws.{match-assigns}
-use Rattle.model.proofs.MatchIff.{good-orbit}
+use Rattle.model.proofs.EditLaws.{Ready}
 use Rattle.model.proofs.RewritingLaws.{rewriting}
-use Rattle.model.proofs.RewritingOnce.{rewriting-once}
-use Rattle.model.proofs.CallLaws.{passed, edit-table}
+use Rattle.model.proofs.RewritingOnce.{edit-once}
+use Rattle.model.proofs.CallLaws.{passed, ready, edit-table}
 use Rattle.model.proofs.HoldsLaws.{edit-holds}
-use Rattle.demands.specs.Refusals.{Orbit, Matched}
+use Rattle.demands.specs.Refusals.{Orbit, siteOver, Matched}
 use Rattle.demands.specs.Demands.{counts, Admitted, Applicable, EditDone}
 use Rattle.demands.specs.Promises.{MapEdited}
-use Rattle.demands.proofs.FaultLaws.{orbit-of, orbit-one, matched-iff}
-use Rattle.demands.proofs.RefusalLaws.{Within, within-test, bytes-within, fit-within, past, done-none, editRest}
+use Rattle.demands.proofs.FaultLaws.{orbit-of, site-one, matched-iff}
+use Rattle.demands.proofs.RefusalLaws.{within-test, bytes-within, fit-within, past, done-none}
 
 -- refusal 9 comes before 10
 missed : (s r : Bool) (done : Answer) → (s ≡ true → ⊥) → number (Option·getD (someIf (not s) NoMatch orElse someIf r NoRoom) done) ≡ 9
@@ -51,9 +49,12 @@ missed true r done f = absurd (f refl)
 missed false r done f = refl
 
 module _ (n N : ℕ) (t store b : List ℕ) (d : ℕ) where
+  abbrev E : Site
+  E = siteOf N t b d
+
   -- where none of 1 to 8 applies, 9 and 10 are left
-  admitted-fault : Admitted n N t store b d → editFault n N t store b d ≡ fitFault (view N t) (schemeOf b) (orbitOf N t b d)
-  unfolding editFault bytesFault someIf _orElse_
+  admitted-fault : Admitted n N t store b d → editFault n N t store b d ≡ fitFault E
+  unfolding editFault editFaultAt siteFault bytesFault someIf _orElse_
   admitted-fault a = rw (
     and-of (sizes-iff n N t .1 (a .sizes)) (eq-eqb (length store) (16 * N) (a .stored)),
     a .form,
@@ -76,10 +77,10 @@ module _ (n N : ℕ) (t store b : List ℕ) (d : ℕ) where
         (passed s a (p .0), p .1)
 
     admitted-by : number (Option·getD (editFault n N t store b d) done) ≡ k
-        → Admitted n N t store b d × (number (Option·getD (fitFault (view N t) (schemeOf b) (orbitOf N t b d)) done) ≡ k)
-    unfolding editFault bytesFault
+        → Admitted n N t store b d × (number (Option·getD (fitFault E) done) ≡ k)
+    unfolding editFault editFaultAt siteFault bytesFault
     admitted-by e =
-        let p1 = by-test (sizesOk n N t and eqb (length store) (16 * N)) _ _ (omega arith) (omega arith) e in
+        let p1 = by-test (storedOk n N t store) _ _ (omega arith) (omega arith) e in
         let p2 = past k (bytesFault b) _ done (bytes-within b) (⊎-elim (λ z. inl (omega arith)) (λ l. inr (omega arith)) far) (p1 .1) in
         let bytes = or-else-none _ _ (p2 .0) in
         let form : inForm b ≡ true = passed _ _ (bytes .0) in
@@ -99,36 +100,36 @@ module _ (n N : ℕ) (t store b : List ℕ) (d : ℕ) where
         )
 
   module _ (a : Admitted n N t store b d) where
-    rules : WellFormed (schemeOf b .n) (view N t)
-    rules = subst (λ (k : ℕ). WellFormed k (view N t)) (sym (a .dimension)) (a .well)
+    sound : Sound E
+    sound = record {
+      accepted = a .accepted;
+      well = subst (λ (k : ℕ). WellFormed k (view N t)) (sym (a .dimension)) (a .well);
+      slot = a .dart .slot;
+      alive = a .dart .live;
+    }
 
     -- the laws of the match at this dart
-    is-matched : matches (view N t) (schemeOf b) (orbitOf N t b d) ≡ true → Matched N t b d
-    is-matched = matched-iff N t b d (a .accepted) rules (a .dart .slot) (a .dart .live) .0
+    is-matched : matches E ≡ true → Matched N t b d
+    is-matched = matched-iff N t b d sound .0
 
-    matched-is : Matched N t b d → matches (view N t) (schemeOf b) (orbitOf N t b d) ≡ true
-    matched-is = matched-iff N t b d (a .accepted) rules (a .dart .slot) (a .dart .live) .1
+    matched-is : Matched N t b d → matches E ≡ true
+    matched-is = matched-iff N t b d sound .1
 
-    one-orbit : {O : ℕ → Bool} → Orbit N t b d O → O ≡ orbitOf N t b d
-    one-orbit = orbit-one N t b d (a .accepted) rules (a .dart .slot) (a .dart .live)
-
-    -- there is room for the added darts of an orbit, by whichever name it is called
-    room-over : {O P : ℕ → Bool} → O ≡ P → addedDarts (view N t) (schemeOf b) O ≤ countBelow N (unused (view N t))
-        → addedDarts (view N t) (schemeOf b) P ≤ countBelow N (unused (view N t))
-    room-over e h = subst (λ (O : ℕ → Bool). addedDarts (view N t) (schemeOf b) O ≤ countBelow N (unused (view N t))) e h
+    one-site : {O : ℕ → Bool} → Orbit N t b d O → siteOver N t b d O ≡ E
+    one-site = site-one N t b d sound
 
     -- no match is refusal 9
     pub no-match : (Matched N t b d → ⊥) → number (editAnswer n N t store b d) ≡ 9
     unfolding editAnswer fitFault
-    no-match never = rw (admitted-fault a) (missed (matches (view N t) (schemeOf b) (orbitOf N t b d)) _ _ (λ m. never (is-matched m)))
+    no-match never = rw (admitted-fault a) (missed (matches E) _ _ (λ m. never (is-matched m)))
 
   -- and refusal 9 is no match
   pub nine-is : number (editAnswer n N t store b d) ≡ 9 → Admitted n N t store b d × (Matched N t b d → ⊥)
-  unfolding editAnswer fitFault someIf _orElse_
+  unfolding editAnswer fitFault siteDone someIf _orElse_
   nine-is e =
       let p = admitted-by 9 (inr (omega arith)) _ e in (
         p .0,
-        λ m. fits (ltb (countBelow N (unused (view N t))) (addedDarts (view N t) (schemeOf b) (orbitOf N t b d))) _ _ (matched-is (p .0) m) refl (p .1),
+        λ m. fits (ltb (countBelow N (unused (view N t))) (addedDarts E)) _ _ (matched-is (p .0) m) refl (p .1),
       )
     where
       fits : (r s : Bool) (done : Answer) → s ≡ true → number done ≡ 0 → number (Option·getD (someIf (not s) NoMatch orElse someIf r NoRoom) done) ≡ 9 → ⊥
@@ -138,53 +139,47 @@ module _ (n N : ℕ) (t store b : List ℕ) (d : ℕ) where
 
   -- ---- an edit that is done
 
+  -- there is room for the added darts
+  abbrev Roomy : Site → Type 0
+  Roomy F = addedDarts F ≤ countBelow N (unused (view N t))
+
   pub applicable-free : Applicable n N t store b d → editFault n N t store b d ≡ none
   unfolding fitFault someIf _orElse_
   applicable-free a = admitted-fault (a .admitted) ∙ rw (
     matched-is (a .admitted) (a .match),
-    le-ltb (countBelow N (unused (view N t))) (addedDarts (view N t) (schemeOf b) (orbitOf N t b d))
-        (room-over (a .admitted) (one-orbit (a .admitted) (a .match .isOrbit)) (a .room)),
+    le-ltb (countBelow N (unused (view N t))) (addedDarts E)
+        (subst Roomy (one-site (a .admitted) (a .match .isOrbit)) (a .room)),
   )
 
   pub free-applicable : number (editAnswer n N t store b d) ≡ 0 → Applicable n N t store b d
-  unfolding editAnswer fitFault
+  unfolding editAnswer fitFault siteDone
   free-applicable e =
       let p = admitted-by 0 (inl refl) _ e in
-      let free = or-else-none _ _ (done-none _ _ (fit-within N t b d) (omega arith) (p .1)) in
+      let free = or-else-none _ _ (done-none _ _ (fit-within E) (omega arith) (p .1)) in
       let m = is-matched (p .0) (passed _ _ (free .0)) in
       record {
         admitted = p .0;
         match = m;
-        room = room-over (p .0) (sym (one-orbit (p .0) (m .isOrbit)))
-            (ltb-false (countBelow N (unused (view N t))) (addedDarts (view N t) (schemeOf b) (orbitOf N t b d)) (when-none _ NoRoom (free .1)));
+        room = subst Roomy (sym (one-site (p .0) (m .isOrbit)))
+            (ltb-false (countBelow N (unused (view N t))) (addedDarts E) (when-none _ NoRoom (free .1)));
       }
 
   module _ (a : Applicable n N t store b d) where
-    abbrev O : ℕ → Bool
-    O = orbitOf N t b d
+    at : Ready E
+    at = ready n N t store b d (applicable-free a)
 
-    published : Rewriting (view N t) (edited (view N t) (schemeOf b) O) (schemeOf b) O (dartOf (view N t) (schemeOf b) O)
-    unfolding orbitOf
-    published =
-        let g = a .admitted in
-        let m = view N t in
-        let w = rules g in
-        let orb = good-orbit m (schemeOf b) d (g .accepted) w (g .dart .slot) (g .dart .live) in
-        rewriting m (schemeOf b) _ (g .accepted) orb (match-assigns m (schemeOf b) (g .accepted) _ orb w (matched-is g (a .match)))
-        (room-over g (one-orbit g (a .match .isOrbit)) (a .room))
-
-    done-answer : editAnswer n N t store b d ≡ Edited (orbitSize (view N t) (schemeOf b) O) (addedDarts (view N t) (schemeOf b) O) (deletedDarts (view N t) (schemeOf b) O)
+    done-answer : editAnswer n N t store b d ≡ siteDone E
     unfolding editAnswer
-    done-answer = ap (λ (o : Option Answer). Option·getD o (Edited (orbitSize (view N t) (schemeOf b) O) (addedDarts (view N t) (schemeOf b) O)
-        (deletedDarts (view N t) (schemeOf b) O))) (applicable-free a)
+    done-answer = ap (λ (o : Option Answer). Option·getD o (siteDone E)) (applicable-free a)
 
     pub edit-done : (r : Answer) (t′ store′ : List ℕ) → MapEdited n N t store b d r t′ store′ → EditDone n N t b d r t′
+    unfolding siteDone
     edit-done r t′ store′ p = record {
-      orbit = O;
-      isOrbit = orbit-of N t b d (a .admitted .accepted) (rules (a .admitted)) (a .admitted .dart .slot) (a .admitted .dart .live);
-      new = edited (view N t) (schemeOf b) O;
-      dart = dartOf (view N t) (schemeOf b) O;
-      rewriting = published;
+      orbit = E .orbit;
+      isOrbit = orbit-of N t b d (sound (a .admitted));
+      new = edited E;
+      dart = dartOf E;
+      rewriting = rewriting E at;
       table = p .table ∙ edit-table n N t store b d (applicable-free a);
       done = p .answer .sameNumber ∙ ap number done-answer;
       counted = p .answer .sameValues ∙ ap values done-answer;
@@ -193,15 +188,10 @@ module _ (n N : ℕ) (t store b : List ℕ) (d : ℕ) where
 
     -- and what demand 2 says of an edit is all of it: it has our answer and our table
     pub done-is : (r : Answer) (t′ : List ℕ) → EditDone n N t b d r t′ → (values r ≡ values (editAnswer n N t store b d)) × (t′ ≡ editTable n N t store b d)
-    unfolding orbitOf
+    unfolding siteDone
     done-is r t′ e =
-        let g = a .admitted in
-        let m = view N t in
-        let S = schemeOf b in
-        let w = rules g in
-        let same : e .orbit ≡ O = one-orbit g (e .isOrbit) in
-        let orb = good-orbit m S d (g .accepted) w (g .dart .slot) (g .dart .live) in
-        let own : Rewriting m (e .new) S O (e .dart) = subst (λ (P : ℕ → Bool). Rewriting m (e .new) S P (e .dart)) same (e .rewriting) in (
-          e .counted ∙ ap (counts N t b) same ∙ sym (ap values done-answer),
-          e .table ∙ rewriting-once m S O (g .accepted) orb own published ∙ sym (edit-table n N t store b d (applicable-free a)),
+        let same : siteOver N t b d (e .orbit) ≡ E = one-site (a .admitted) (e .isOrbit) in
+        let own : Rewriting E (e .new) (e .dart) = subst (λ (F : Site). Rewriting F (e .new) (e .dart)) same (e .rewriting) in (
+          e .counted ∙ ap counts same ∙ sym (ap values done-answer),
+          e .table ∙ edit-once E at own ∙ sym (edit-table n N t store b d (applicable-free a)),
         )

@@ -2,7 +2,7 @@
 -- Assumes nothing.
 use Prim.Native.Nat.{ℕ, suc, _+_, _≤_, _<_}
 use mathlib.Core.Path.{_≡_, refl, sym, ap, _∙_, subst}
-use mathlib.Core.Logic.{_⊎_, inl, inr, ⊎-elim, _↔_}
+use mathlib.Core.Logic.{inl, inr, ⊎-elim, _↔_}
 use mathlib.Core.Bool.{Bool, true, false, not, true≢false}
 use mathlib.Core.Option.{Option, none, some}
 use mathlib.Core.List.{List}
@@ -15,21 +15,20 @@ use Rattle.base.proofs.TestLaws.{and-left, and-right, and-of, true-or-false}
 use Rattle.base.proofs.BelowLaws.{all-at, all-of, le-or-lt}
 use Rattle.base.proofs.FirstLaws.{when-at, when-none, or-else-cases, or-else-none, first-at, first-none, least-at, least-none}
 use Rattle.model.specs.Map.{view}
-use Rattle.model.specs.WellFormed.{WellFormed}
 use Rattle.model.specs.Scheme.{left, has, orbitDim, schemeOf}
 use Rattle.model.specs.Shaped.{Shaped}
-use Rattle.model.specs.Accepted.{Accepted}
-use Rattle.model.specs.Conditions.{Reached, pathTo, hookRight, hookFault, incidenceOk, incidenceFault, cycleOk, cycleFault}
-use Rattle.model.specs.Orbit.{orbit, IsOrbit}
+use Rattle.model.specs.Conditions.{pathTo, hookRight, hookFault, incidenceOk, incidenceFault, cycleOk, cycleFault}
+use Rattle.model.specs.Orbit.{orbit}
 use Rattle.model.specs.Match.{matches, Assignment}
-use Rattle.model.specs.Calls.{orbitOf}
+use Rattle.model.specs.Site.{Site, Sound}
+use Rattle.model.specs.Calls.{siteOf}
 use Rattle.model.specs.declared.Scheme.{Scheme}
 use Rattle.model.specs.declared.Answer.{Answer}
 use Rattle.model.specs.declared.Answer.the-variants.{BadCycle}
 use Rattle.model.proofs.HookLaws.{found-reached, reached-found}
 use Rattle.model.proofs.OrbitLaws.{orbit-is, orbit-only}
 use Rattle.model.proofs.MatchIff.{match-iff}
-use Rattle.demands.specs.Refusals.{LeastNode, HookRight, Unreached, HookFault, Offends, FirstPair, Orbit, Matched}
+use Rattle.demands.specs.Refusals.{LeastNode, HookRight, Unreached, HookFault, Offends, FirstPair, Orbit, siteOver, Matched}
 
 -- ---- tests
 
@@ -154,21 +153,19 @@ module _ (S : Scheme) where
 
 -- ---- the match
 
-module _ (N : ℕ) (t b : List ℕ) (d : ℕ) (a : Accepted (schemeOf b)) (w : WellFormed (schemeOf b .n) (view N t)) (h : d < N) (l : view N t .state d ≡ 1) where
+module _ (N : ℕ) (t b : List ℕ) (d : ℕ) (g : Sound (siteOf N t b d)) where
   -- the computed orbit is the orbit
-  pub orbit-of : Orbit N t b d (orbitOf N t b d)
-  unfolding orbitOf
-  orbit-of = orbit-is (view N t) (schemeOf b .places) (orbitDim (schemeOf b)) d (schemeOf b .n) w (a .shaped .orbitDims) h l
+  pub orbit-of : Orbit N t b d (siteOf N t b d .orbit)
+  orbit-of = orbit-is (view N t) (schemeOf b .places) (orbitDim (schemeOf b)) d (schemeOf b .n) (g .well) (g .accepted .shaped .orbitDims)
+      (g .slot) (g .alive)
 
-  pub orbit-one : {O : ℕ → Bool} → Orbit N t b d O → O ≡ orbitOf N t b d
-  orbit-one o = orbit-only (view N t) (schemeOf b .places) (orbitDim (schemeOf b)) d o orbit-of
+  -- so that the site over any other is the same
+  pub site-one : {O : ℕ → Bool} → Orbit N t b d O → siteOver N t b d O ≡ siteOf N t b d
+  site-one o = ap (siteOver N t b d) (orbit-only (view N t) (schemeOf b .places) (orbitDim (schemeOf b)) d o orbit-of)
 
-  found-iff : (matches (view N t) (schemeOf b) (orbitOf N t b d) ≡ true) ↔ ((f : ℕ → ℕ → ℕ) × Assignment (view N t) (schemeOf b) (orbitOf N t b d) f)
-  unfolding orbitOf
-  found-iff = match-iff (view N t) (schemeOf b) d a w h l
-
-  pub matched-iff : (matches (view N t) (schemeOf b) (orbitOf N t b d) ≡ true) ↔ Matched N t b d
-  matched-iff = (
-    (λ q. let f = found-iff .0 q in record { orbit = orbitOf N t b d; isOrbit = orbit-of; dart = f .0; assigned = f .1 }),
-    (λ m. found-iff .1 (m .dart, subst (λ (O : ℕ → Bool). Assignment (view N t) (schemeOf b) O (m .dart)) (orbit-one (m .isOrbit)) (m .assigned))),
-  )
+  pub matched-iff : (matches (siteOf N t b d) ≡ true) ↔ Matched N t b d
+  matched-iff =
+      let found = match-iff (view N t) (schemeOf b) d g in (
+        (λ q. let f = found .0 q in record { orbit = siteOf N t b d .orbit; isOrbit = orbit-of; dart = f .0; assigned = f .1 }),
+        (λ m. found .1 (m .dart, subst (λ (E : Site). Assignment E (m .dart)) (site-one (m .isOrbit)) (m .assigned))),
+      )

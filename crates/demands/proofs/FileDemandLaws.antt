@@ -5,7 +5,7 @@ use mathlib.Core.Path.{_≡_, refl, sym, ap, _∙_, subst}
 use mathlib.Core.Logic.{⊎-elim, inl, inr}
 use mathlib.Core.Bool.{true, false, cond}
 use mathlib.Core.Option.{Option, none, Option·getD}
-use mathlib.Core.List.{List, [], _∷_, _++_}
+use mathlib.Core.List.{List, _++_}
 use native.Mathlib.Omega.{arith}
 use lib.ListN.{length, getD, take, drop, replicate}
 use lib.Dec.{ltb}
@@ -18,7 +18,7 @@ use Rattle.model.specs.Alike.{Alike}
 use Rattle.model.specs.File.{file, fileForm, fileMap}
 use Rattle.model.specs.WellFormed.{WellFormed}
 use Rattle.model.specs.Answer.{number, values}
-use Rattle.model.specs.Calls.{sizesOk, checkTable, readFault, readAnswer, readTable, writeFault, writeAnswer, writeOut}
+use Rattle.model.specs.Calls.{sizesOk, tableFault, checkTable, readFaultAt, readFault, readAnswer, readTable, writeFaultAt, writeFault, writeAnswer, writeOut}
 use Rattle.model.specs.Sequence.{Holds, AlikeTables}
 use Rattle.model.specs.declared.Answer.{Answer}
 use Rattle.model.specs.declared.Answer.the-variants.{Done, Written}
@@ -58,7 +58,7 @@ module _ (n N : ℕ) (t : List ℕ) (h : Holds n N t) (small : (i : ℕ) → get
   k = fileMap n N (file n m)
 
   back : (x : ℕ) → x < N → recordOf k x ≡ cond (live m x) (recordOf m x) (replicate 6 0)
-  back = read-back n m (omega (arith, dimension-small n N t (h .sizes))) (sizes-iff n N t .0 (h .sizes) .few) (sizes-iff n N t .0 (h .sizes) .dimension) (h .well)
+  back = let s = sizes-iff n N t .0 (h .sizes) in read-back n m (omega (arith, dimension-small n N t (h .sizes))) (s .few) (s .dimension) (h .well)
       (λ x g l. small _)
 
   back-live : (x : ℕ) → x < N → m .state x ≡ 1 → recordOf m x ≡ recordOf k x
@@ -91,7 +91,7 @@ module _ (n N : ℕ) (t : List ℕ) (h : Holds n N t) (small : (i : ℕ) → get
 
   -- reading the file is not refused
   read-free : (u : List ℕ) → sizesOk n N u ≡ true → readFault n N u (file n m) ≡ none
-  unfolding readFault _orElse_ someIf
+  unfolding readFault readFaultAt _orElse_ someIf
   read-free u s =
       let form = written-form n m (omega (arith, dimension-small n N t (h .sizes))) (sizes-iff n N t .0 (h .sizes) .few) in
       let well = wellFormed-iff n k .1 file-well in
@@ -110,15 +110,15 @@ read-table n N t b s q = rw (s, q) refl
 -- a write that is not refused has room for the file of a well-formed map, and leaves it
 module _ (n N : ℕ) (t out : List ℕ) where
   write-holds : writeFault n N t out ≡ none → Holds n N t
-  unfolding writeFault checkTable
+  unfolding writeFault writeFaultAt tableFault checkTable
   write-holds q = holds-iff n N t .1 (ap (λ (o : Option Answer). Option·getD o Done) (or-else-none _ _ q .0))
 
   write-room : writeFault n N t out ≡ none → ltb (length out) (length (file n (view N t))) ≡ false
-  unfolding writeFault
+  unfolding writeFault writeFaultAt
   write-room q = when-none _ _ (or-else-none _ _ q .1)
 
   write-free : Holds n N t → ltb (length out) (length (file n (view N t))) ≡ false → writeFault n N t out ≡ none
-  unfolding writeFault _orElse_ someIf
+  unfolding writeFault writeFaultAt tableFault _orElse_ someIf
   write-free h room = rw (holds-free n N t h, room) refl
 
   write-leaves : Holds n N t → ltb (length out) (length (file n (view N t))) ≡ false → writtenFile n N t out ≡ file n (view N t)
@@ -163,7 +163,7 @@ pub read-written : (n N : ℕ) (t b : List ℕ) (r : Answer) (t′ : List ℕ) �
     → ((i : ℕ) → getD b i 0 < 256)
     → (out : List ℕ) (r₂ : Answer) (out′ : List ℕ) → length b ≤ length out → FileWritten n N t′ out r₂ out′
     → (number r₂ ≡ 0) × (take (getD (values r₂) 0 0) out′ ≡ b)
-unfolding readAnswer readFault writeAnswer
+unfolding readAnswer readFault readFaultAt writeAnswer
 read-written n N t b r t′ p e bytes out r₂ out′ len q =
     let free : readFault n N t b ≡ none = done-none _ _ (read-within n N t b) (omega arith) (sym (p .answer .sameNumber) ∙ e) in
     let parts = or-else-none _ _ free in
@@ -171,7 +171,8 @@ read-written n N t b r t′ p e bytes out r₂ out′ len q =
     let form : fileForm n N b ≡ true = passed _ _ (or-else-none _ _ (parts .1) .0) in
     let table : t′ ≡ tableOf (fileMap n N b) = p .table ∙ read-table n N t b sized free in
     let h : Holds n N t′ = subst (Holds n N) (sym (p .table)) (read-holds n N t b sized) in
-    let same : file n (view N t′) ≡ b = ap (λ (l : List ℕ). file n (view N l)) table ∙ one-file n N b (dimension-small n N t sized) ∙ written-back n N b form bytes in
+    let same : file n (view N t′) ≡ b =
+    ap (λ (l : List ℕ). file n (view N l)) table ∙ one-file n N b (dimension-small n N t sized) ∙ written-back n N b form bytes in
     let room : ltb (length out) (length (file n (view N t′))) ≡ false = ap (λ (l : List ℕ). ltb (length out) (length l)) same ∙ le-ltb _ _ len in (
       q .answer .sameNumber ∙ ap (λ (o : Option Answer). number (Option·getD o (Written (length (file n (view N t′)))))) (write-free n N t′ out h room),
       promised-file n N t′ out r₂ out′ q ∙ write-leaves n N t′ out h room ∙ same,

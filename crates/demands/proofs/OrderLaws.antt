@@ -22,16 +22,20 @@ use Rattle.model.specs.Conditions.{hookFault, incidenceFault, cycleFault, schem
 use Rattle.model.specs.Edit.{addedDarts}
 use Rattle.model.specs.File.{file, fileForm, fileMap}
 use Rattle.model.specs.Answer.{number, values}
-use Rattle.model.specs.Calls.{Sizes, sizesOk, tableFault, checkTable, bytesFault, checkScheme, fitFault, orbitOf, editFault, editAnswer, readFault, readAnswer, writeFault, writeAnswer}
+use Rattle.model.specs.Site.{Site, Sound}
+use Rattle.model.specs.Calls.{Sizes, sizesOk, mapFault, tableFault, checkTable, bytesFault, checkScheme, fitFault, siteFault, siteDone, siteOf, storedOk}
+use Rattle.model.specs.Calls.{editFaultAt, editFault, editAnswer, readFaultAt, readFault, readAnswer, writeFaultAt, writeFault, writeAnswer}
 use Rattle.model.specs.declared.Answer.{Answer}
-use Rattle.model.specs.declared.Answer.the-variants.{Done, BadHook, BadIncidence, BadTable}
+use Rattle.model.specs.declared.Answer.the-variants.{Done, BadHook, BadIncidence}
 use Rattle.model.proofs.WellFormedLaws.{wellFormed-iff}
 use Rattle.model.proofs.SizeLaws.{sizes-iff}
 use Rattle.model.proofs.SchemeLaws.{shaped}
 use Rattle.model.proofs.AcceptedLaws.{accepted, noted-at, noted-none}
-use Rattle.demands.specs.Refusals.{Refusal, bare, FirstOf, Nothing, hookRefusal, incidenceRefusal, cycleRefusal, schemeRefusals, Matched, Crowded, Dart, tableRefusals, editRefusals, readRefusals, writeRefusals}
-use Rattle.demands.specs.Demands.{counts, Counted}
-use Rattle.demands.proofs.FaultLaws.{hook-found, hook-nowhere, incidence-found, incidence-nowhere, cycle-found, cycle-nowhere, orbit-of, orbit-one, matched-iff}
+use Rattle.demands.specs.Refusals.{Refusal, bare, FirstOf, Nothing, hookRefusal, incidenceRefusal, cycleRefusal, schemeRefusals}
+use Rattle.demands.specs.Refusals.{Matched, Crowded, Dart, tableRefusals, editRefusals, readRefusals, writeRefusals}
+use Rattle.demands.specs.Demands.{Counted}
+use Rattle.demands.proofs.FaultLaws.{hook-found, hook-nowhere, incidence-found, incidence-nowhere, cycle-found, cycle-nowhere}
+use Rattle.demands.proofs.FaultLaws.{orbit-of, site-one, matched-iff}
 
 -- ---- one refusal of a chain
 
@@ -112,8 +116,9 @@ module _ (b : List ℕ) (l : List Refusal) (D : List ℕ → Type 0) (o : Option
 module _ (n N : ℕ) (t : List ℕ) where
   -- refusals 1 and 7, before any others
   table-chain : (l : List Refusal) (D : List ℕ → Type 0) (o : Option Answer) (done : Answer)
-      → (Sizes n N t → WellFormed n (view N t) → FirstOf l D (Option·getD o done)) → FirstOf (tableRefusals n N t l) D (Option·getD (tableFault n N t orElse o) done)
-  unfolding tableFault
+      → (Sizes n N t → WellFormed n (view N t) → FirstOf l D (Option·getD o done))
+      → FirstOf (tableRefusals n N t l) D (Option·getD (tableFault n N t orElse o) done)
+  unfolding tableFault mapFault
   table-chain l D o done r =
       subst (λ (c : Option Answer). FirstOf (tableRefusals n N t l) D (Option·getD c done)) (sym (regroup _ _ o))
       (order-test 1 _ D (sizesOk n N t) (sizes-iff n N t) _ _ done refl refl
@@ -131,19 +136,19 @@ scheme-order b = subst (λ (c : Option Answer). FirstOf (schemeRefusals b []) No
 
 module _ (n N : ℕ) (t b : List ℕ) where
   pub read-order : FirstOf (readRefusals n N t b) Nothing (readAnswer n N t b)
-  unfolding readAnswer readFault
+  unfolding readAnswer readFault readFaultAt
   read-order = order-test 1 _ Nothing (sizesOk n N t) (sizes-iff n N t) _ _ Done refl refl
       (λ s. order-test 11 _ Nothing (fileForm n N b) (itself (fileForm n N b)) _ _ Done refl refl
       (λ f. order-end 7 Nothing _ (wellFormed-iff n (fileMap n N b)) _ Done refl refl (λ w. (refl, refl))))
 
 module _ (n N : ℕ) (t out : List ℕ) where
   pub write-order : FirstOf (writeRefusals n N t out) (λ v. v ≡ length (file n (view N t)) ∷ []) (writeAnswer n N t out)
-  unfolding writeAnswer writeFault
+  unfolding writeAnswer writeFault writeFaultAt tableFault
   write-order = table-chain n N t _ _ _ _ (λ s w. order-found 12 _ (ltb (length out) (length (file n (view N t))))
       ((λ e. ltb-true _ _ e), (λ e. lt-ltb _ _ e)) _ _ refl refl (λ no. (refl, refl)))
 
 module _ (n N : ℕ) (t store b : List ℕ) (d : ℕ) where
-  sizes-store : ((sizesOk n N t and eqb (length store) (16 * N)) ≡ true) ↔ (Sizes n N t × (length store ≡ 16 * N))
+  sizes-store : (storedOk n N t store ≡ true) ↔ (Sizes n N t × (length store ≡ 16 * N))
   sizes-store = (
     (λ e. (sizes-iff n N t .0 (and-left _ _ e), eqb-true _ _ (and-right _ _ e))),
     (λ p. and-of (sizes-iff n N t .1 (p .0)) (eq-eqb _ _ (p .1))),
@@ -159,24 +164,29 @@ module _ (n N : ℕ) (t store b : List ℕ) (d : ℕ) where
   dimension-iff = (eqb-true _ _, eq-eqb _ _)
 
   -- refusals 9 and 10
-  fit-order : Accepted (schemeOf b) → WellFormed (schemeOf b .n) (view N t) → Dart N t d → (done : Answer) → number done ≡ 0 → values done ≡ counts N t b (orbitOf N t b d)
+  fit-order : Sound (siteOf N t b d)
       → FirstOf (bare 9 (Matched N t b d → ⊥) ∷ bare 10 (Crowded N t b d) ∷ []) (Counted N t b d)
-      (Option·getD (fitFault (view N t) (schemeOf b) (orbitOf N t b d)) done)
-  unfolding fitFault
-  fit-order a w p done z v =
-      let o = orbit-of N t b d a w (p .slot) (p .live) in
-      order-test 9 _ (Counted N t b d) _ (matched-iff N t b d a w (p .slot) (p .live)) _ _ done refl refl
-      (λ m. order-found 10 (Counted N t b d) (ltb (countBelow N (unused (view N t))) (addedDarts (view N t) (schemeOf b) (orbitOf N t b d))) (
-        (λ e. record { orbit = orbitOf N t b d; isOrbit = o; few = ltb-true _ _ e }),
-        (λ c. lt-ltb _ _ (subst (λ (O : ℕ → Bool). countBelow N (unused (view N t)) < addedDarts (view N t) (schemeOf b) O)
-            (orbit-one N t b d a w (p .slot) (p .live) (c .isOrbit)) (c .few))),
-      ) _ done refl refl (λ no. (z, (orbitOf N t b d, o, v))))
+      (Option·getD (fitFault (siteOf N t b d)) (siteDone (siteOf N t b d)))
+  unfolding fitFault siteDone
+  fit-order g =
+      let E = siteOf N t b d in
+      let o = orbit-of N t b d g in
+      order-test 9 _ (Counted N t b d) _ (matched-iff N t b d g) _ _ _ refl refl
+      (λ m. order-found 10 (Counted N t b d) (ltb (countBelow N (unused (view N t))) (addedDarts E)) (
+        (λ e. record { orbit = E .orbit; isOrbit = o; few = ltb-true _ _ e }),
+        (λ c. lt-ltb _ _ (subst (λ (F : Site). countBelow N (unused (view N t)) < addedDarts F) (site-one N t b d g (c .isOrbit)) (c .few))),
+      ) _ _ refl refl (λ no. (refl, (E .orbit, o, refl))))
 
   pub edit-order : FirstOf (editRefusals n N t store b d) (Counted N t b d) (editAnswer n N t store b d)
-  unfolding editAnswer editFault
+  unfolding editAnswer editFault editFaultAt siteFault
   edit-order = order-test 1 _ (Counted N t b d) _ sizes-store _ _ _ refl refl
       (λ s. bytes-order b _ (Counted N t b d) _ _
       (λ form a. order-test 6 _ (Counted N t b d) _ dimension-iff _ _ _ refl refl
       (λ same. order-test 7 _ (Counted N t b d) _ (wellFormed-iff n (view N t)) _ _ _ refl refl
       (λ w. order-test 8 _ (Counted N t b d) _ dart-iff _ _ _ refl refl
-      (λ p. fit-order a (subst (λ (k : ℕ). WellFormed k (view N t)) (sym same) w) p _ refl refl)))))
+      (λ p. fit-order (record {
+        accepted = a;
+        well = subst (λ (k : ℕ). WellFormed k (view N t)) (sym same) w;
+        slot = p .slot;
+        alive = p .live;
+      }))))))

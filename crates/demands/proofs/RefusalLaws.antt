@@ -1,28 +1,28 @@
 -- What the numbers of a chain's refusals say: which of its tests were passed, and what table, store and output hold then.
 -- Assumes nothing.
-use Prim.Native.Nat.{ℕ, _*_, _≤_, _<_}
+use Prim.Native.Nat.{ℕ, _≤_, _<_}
 use mathlib.Core.Path.{_≡_, refl, sym, ap, _∙_}
-use mathlib.Core.Logic.{_⊎_, inl, inr, ⊎-elim}
+use mathlib.Core.Logic.{_⊎_, ⊎-elim}
 use mathlib.Core.Bool.{Bool, true, false, not, cond}
 use mathlib.Core.Option.{Option, none, some, Option·getD}
 use mathlib.Core.List.{List}
 use native.Mathlib.Omega.{arith}
-use lib.ListN.{length}
-use lib.Dec.{eqb, ltb}
-use Rattle.base.specs.Test.{_and_}
 use Rattle.base.specs.First.{someIf, _orElse_, there}
 use Rattle.base.proofs.FirstLaws.{first-at, when-at, some-not-none}
-use Rattle.model.specs.Map.{view, tableOf, live}
+use Rattle.model.specs.Map.{tableOf}
 use Rattle.model.specs.WellFormed.{wellFormed}
 use Rattle.model.specs.Answer.{number}
 use Rattle.model.specs.Scheme.{schemeOf}
 use Rattle.model.specs.Conditions.{hookFault, incidenceFault, cycleFault, schemeFault, noted}
 use Rattle.model.specs.Edit.{edited}
-use Rattle.model.specs.File.{file, fileForm, fileMap}
-use Rattle.model.specs.Calls.{zeros, sizesOk, tableFault, bytesFault, fitFault, orbitOf, editFault, editAnswer, editTable, editStore, readFault, readAnswer, readTable, writeFault, writeAnswer, writeOut}
+use Rattle.model.specs.File.{fileForm, fileMap}
+use Rattle.model.specs.Site.{Site}
+use Rattle.model.specs.Calls.{zeros, sizesOk, mapFault, tableFault, bytesFault, fitFault, siteFault, siteOf, storedOk}
+use Rattle.model.specs.Calls.{siteDone, editFaultAt, editFault, editAnswer, editTable, editStore}
+use Rattle.model.specs.Calls.{readFaultAt, readFault, readAnswer, readTable, writeFaultAt, writeFault, writeAnswer, writeOut}
 use Rattle.model.specs.declared.Scheme.{Scheme}
 use Rattle.model.specs.declared.Answer.{Answer}
-use Rattle.model.specs.declared.Answer.the-variants.{BadCall, BadForm, BadHook, BadIncidence, OtherDimension, BadTable, NoDart, BadFile}
+use Rattle.model.specs.declared.Answer.the-variants.{BadCall, BadForm, BadHook, BadIncidence, BadTable, BadFile}
 
 pub cond-true : {A : Type 0} (s : Bool) (a b : A) → s ≡ true → cond s a b ≡ a
 cond-true s a b e = rw e
@@ -77,9 +77,9 @@ bytes-within b = within-or 2 5 _ _ (within-test 2 5 _ BadForm (omega arith) (ome
       most = λ a e. let five = cycle-number (schemeOf b) a e in omega arith;
     })))
 
-pub fit-within : (N : ℕ) (t b : List ℕ) (d : ℕ) → Within 9 10 (fitFault (view N t) (schemeOf b) (orbitOf N t b d))
+pub fit-within : (E : Site) → Within 9 10 (fitFault E)
 unfolding fitFault
-fit-within N t b d = within-or 9 10 _ _ (within-test 9 10 _ _ (omega arith) (omega arith)) (within-test 9 10 _ _ (omega arith) (omega arith))
+fit-within E = within-or 9 10 _ _ (within-test 9 10 _ _ (omega arith) (omega arith)) (within-test 9 10 _ _ (omega arith) (omega arith))
 
 -- ---- what an answer's number says of the chain that gave it
 
@@ -126,35 +126,31 @@ module _ (s : Bool) (rest : Option Answer) (done : Answer) (k : ℕ) (w : Within
 -- ---- an edit
 
 module _ (n N : ℕ) (t store b : List ℕ) (d : ℕ) where
-  sized : Bool
-  sized = sizesOk n N t and eqb (length store) (16 * N)
-
   -- the refusals behind the first
-  pub editRest : Option Answer
-  editRest = bytesFault b orElse someIf (not (eqb (schemeOf b .n) n)) OtherDimension orElse someIf (not (wellFormed n (view N t))) BadTable
-      orElse someIf (not (ltb d N and live (view N t) d)) NoDart orElse fitFault (view N t) (schemeOf b) (orbitOf N t b d)
+  editRest : Option Answer
+  editRest = bytesFault b orElse siteFault n (siteOf N t b d)
 
   edit-rest : Within 2 10 editRest
-  unfolding editRest
+  unfolding editRest siteFault
   edit-rest = within-or 2 10 _ _ (within-more 2 5 (omega arith) (omega arith) (bytes-within b))
       (within-or 2 10 _ _ (within-test 2 10 _ _ (omega arith) (omega arith)) (within-or 2 10 _ _ (within-test 2 10 _ _ (omega arith) (omega arith))
-      (within-or 2 10 _ _ (within-test 2 10 _ _ (omega arith) (omega arith)) (within-more 9 10 (omega arith) (omega arith) (fit-within N t b d)))))
+      (within-or 2 10 _ _ (within-test 2 10 _ _ (omega arith) (omega arith)) (within-more 9 10 (omega arith) (omega arith) (fit-within (siteOf N t b d))))))
 
   pub edit-within : Within 1 10 (editFault n N t store b d)
-  unfolding editFault editRest
+  unfolding editFault editFaultAt editRest
   edit-within = within-or 1 10 _ _ (within-test 1 10 _ _ (omega arith) (omega arith)) (within-more 2 10 (omega arith) (omega arith) edit-rest)
 
   pub refused-edit : (number (editAnswer n N t store b d) ≡ 0 → ⊥) → editTable n N t store b d ≡ t
-  unfolding editAnswer editTable
-  refused-edit h = cond-true _ t (tableOf (edited (view N t) (schemeOf b) (orbitOf N t b d))) (refused-there (editFault n N t store b d) _ refl h)
+  unfolding editAnswer editTable siteDone
+  refused-edit h = cond-true _ t (tableOf (edited (siteOf N t b d))) (refused-there (editFault n N t store b d) _ refl h)
 
   pub edit-one : number (editAnswer n N t store b d) ≡ 1 → editStore n N t store b d ≡ store
-  unfolding editAnswer editStore editFault editRest sized
-  edit-one e = cond-false sized (zeros store) store (one-wrong sized editRest _ 10 edit-rest refl e)
+  unfolding editAnswer editStore editFault editFaultAt editRest siteDone
+  edit-one e = cond-false (storedOk n N t store) (zeros store) store (one-wrong (storedOk n N t store) editRest _ 10 edit-rest refl e)
 
   pub edit-others : (number (editAnswer n N t store b d) ≡ 1 → ⊥) → editStore n N t store b d ≡ zeros store
-  unfolding editAnswer editStore editFault editRest sized
-  edit-others h = cond-true sized (zeros store) store (other-right sized editRest _ 10 edit-rest refl h)
+  unfolding editAnswer editStore editFault editFaultAt editRest siteDone
+  edit-others h = cond-true (storedOk n N t store) (zeros store) store (other-right (storedOk n N t store) editRest _ 10 edit-rest refl h)
 
 -- ---- a read
 
@@ -167,27 +163,27 @@ module _ (n N : ℕ) (t b : List ℕ) where
   read-rest = within-or 2 11 _ _ (within-test 2 11 _ _ (omega arith) (omega arith)) (within-test 2 11 _ _ (omega arith) (omega arith))
 
   pub read-within : Within 1 11 (readFault n N t b)
-  unfolding readFault readRest
+  unfolding readFault readFaultAt readRest
   read-within = within-or 1 11 _ _ (within-test 1 11 _ _ (omega arith) (omega arith)) (within-more 2 11 (omega arith) (omega arith) read-rest)
 
   pub read-one : number (readAnswer n N t b) ≡ 1 → readTable n N t b ≡ t
-  unfolding readAnswer readTable readFault readRest
+  unfolding readAnswer readTable readFault readFaultAt readRest
   read-one e = cond-false (sizesOk n N t) _ t (one-wrong (sizesOk n N t) readRest _ 11 read-rest refl e)
 
   pub refused-read : (number (readAnswer n N t b) ≡ 0 → ⊥) → (number (readAnswer n N t b) ≡ 1 → ⊥) → readTable n N t b ≡ zeros t
-  unfolding readAnswer readTable readFault readRest
+  unfolding readAnswer readTable readFault readFaultAt readRest
   refused-read h one = cond-true (sizesOk n N t) _ t (other-right (sizesOk n N t) readRest _ 11 read-rest refl one)
       ∙ cond-true _ (zeros t) (tableOf (fileMap n N b)) (refused-there (readFault n N t b) _ refl h)
 
 -- ---- a table check and a write
 
 pub table-within : (n N : ℕ) (t : List ℕ) → Within 1 7 (tableFault n N t)
-unfolding tableFault
+unfolding tableFault mapFault
 table-within n N t = within-or 1 7 _ _ (within-test 1 7 _ _ (omega arith) (omega arith)) (within-test 1 7 _ _ (omega arith) (omega arith))
 
 module _ (n N : ℕ) (t out : List ℕ) where
   pub write-within : Within 1 12 (writeFault n N t out)
-  unfolding writeFault
+  unfolding writeFault writeFaultAt tableFault
   write-within = within-or 1 12 _ _ (within-more 1 7 (omega arith) (omega arith) (table-within n N t)) (within-test 1 12 _ _ (omega arith) (omega arith))
 
   pub refused-write : (number (writeAnswer n N t out) ≡ 0 → ⊥) → writeOut n N t out ≡ out

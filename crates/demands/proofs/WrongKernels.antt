@@ -9,12 +9,11 @@ use native.Mathlib.Omega.{arith}
 use lib.ListN.{getD, take}
 use lib.Dec.{eqb}
 use Rattle.base.specs.First.{there}
-use Rattle.model.specs.Map.{view, tableOf}
-use Rattle.model.specs.Scheme.{schemeOf}
+use Rattle.model.specs.Map.{tableOf}
 use Rattle.model.specs.Edit.{edited}
 use Rattle.model.specs.Answer.{number, values}
 use Rattle.model.specs.Calls.{editFault, editAnswer, editTable, editStore}
-use Rattle.model.specs.Sequence.{AlikeTables, Request, tableCheck, schemeCheck, edit, read, write, Outcome, fileOf, Event, AlikeEvents}
+use Rattle.model.specs.Sequence.{AlikeTables, Request, tableCheck, schemeCheck, edit, read, write, Outcome, fileOf, AlikeEvents}
 use Rattle.model.specs.declared.Answer.{Answer}
 use Rattle.model.specs.declared.Answer.the-variants.{Edited, BadCall}
 use Rattle.model.proofs.Computes.{computes}
@@ -22,6 +21,7 @@ use Rattle.model.proofs.Samples.{e8, unusedSlots, vBytes, wBytes, store8, vDart
 use Rattle.demands.specs.Kernel.{Kernel}
 use Rattle.demands.specs.Ours.{ours}
 use Rattle.demands.specs.Runs.{Allowed, end, next, AlikeRuns}
+use Rattle.demands.specs.Refusals.{siteOver}
 use Rattle.demands.specs.Demands.{Demand2, Demand3, Applicable}
 use Rattle.demands.proofs.AdmitLaws.{free-applicable, done-is}
 
@@ -67,7 +67,7 @@ idle = editing editAnswer (λ n N t store b d. t)
 
 -- an edit rewrites as if the dart were its whole orbit
 abbrev pub first-only : Kernel
-first-only = editing editAnswer (λ n N t store b d. cond (there (editFault n N t store b d)) t (tableOf (edited (view N t) (schemeOf b) (eqb d))))
+first-only = editing editAnswer (λ n N t store b d. cond (there (editFault n N t store b d)) t (tableOf (edited (siteOver N t b d (eqb d)))))
 
 -- an edit that is done counts one of each
 abbrev pub inventing : Kernel
@@ -125,7 +125,7 @@ unfolding at
 not-idle D = let link : _≡_ {A = ℕ} 1 2 = ap (at 1) (p8-done idle D _ e8 _ (refl, refl, refl) .2) in omega arith
 
 -- dart 1, the second of the orbit, is as it was
-first-table : cond (there (editFault 2 8 e8 store8 vBytes 0)) e8 (tableOf (edited (view 8 e8) (schemeOf vBytes) (eqb 0))) ≡ vDarts ++ unusedSlots 4 → ⊥
+first-table : cond (there (editFault 2 8 e8 store8 vBytes 0)) e8 (tableOf (edited (siteOver 8 e8 vBytes 0 (eqb 0)))) ≡ vDarts ++ unusedSlots 4 → ⊥
 unfolding computes at
 first-table e = let link : _≡_ {A = ℕ} 0 3 = ap (at 7) e in omega arith
 

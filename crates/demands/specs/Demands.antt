@@ -13,7 +13,7 @@ use Rattle.model.specs.Map.{Map, view, tableOf, unused}
 use Rattle.model.specs.WellFormed.{WellFormed}
 use Rattle.model.specs.Scheme.{inForm, schemeOf}
 use Rattle.model.specs.Accepted.{Accepted}
-use Rattle.model.specs.Match.{Assignment}
+use Rattle.model.specs.Site.{Site}
 use Rattle.model.specs.Edit.{orbitSize, addedDarts, deletedDarts}
 use Rattle.model.specs.Rewriting.{Rewriting}
 use Rattle.model.specs.File.{file}
@@ -23,17 +23,18 @@ use Rattle.model.specs.Sequence.{Holds, AlikeTables}
 use Rattle.model.specs.declared.Answer.{Answer}
 use Rattle.demands.specs.Kernel.{Kernel}
 use Rattle.demands.specs.Runs.{AlikeRuns}
-use Rattle.demands.specs.Refusals.{FirstOf, Nothing, tableRefusals, schemeRefusals, editRefusals, readRefusals, writeRefusals, Orbit, Matched, Dart}
+use Rattle.demands.specs.Refusals.{FirstOf, Nothing, tableRefusals, schemeRefusals, editRefusals, readRefusals, writeRefusals}
+use Rattle.demands.specs.Refusals.{Orbit, siteOver, Matched, Dart}
 
 -- ---- demand 1
 
 -- the size of O, darts added and darts deleted
-abbrev pub counts : ℕ → List ℕ → List ℕ → (ℕ → Bool) → List ℕ
-counts N t b O = orbitSize (view N t) (schemeOf b) O ∷ addedDarts (view N t) (schemeOf b) O ∷ deletedDarts (view N t) (schemeOf b) O ∷ []
+abbrev pub counts : Site → List ℕ
+counts E = orbitSize E ∷ addedDarts E ∷ deletedDarts E ∷ []
 
 -- what an edit that is done returns
 abbrev pub Counted : ℕ → List ℕ → List ℕ → ℕ → List ℕ → Type 0
-Counted N t b d v = (O : ℕ → Bool) × Orbit N t b d O × (v ≡ counts N t b O)
+Counted N t b d v = (O : ℕ → Bool) × Orbit N t b d O × (v ≡ counts (siteOver N t b d O))
 
 pub record Demand1 (K : Kernel) : Type 0 where
   -- every call answers with the refusal that the order of docs/RULES.md puts first, with its values, and is done where none applies
@@ -74,7 +75,7 @@ pub record Admitted (n N : ℕ) (t store b : List ℕ) (d : ℕ) : Type 0 where
 pub record Applicable (n N : ℕ) (t store b : List ℕ) (d : ℕ) : Type 0 where
   pub admitted : Admitted n N t store b d
   pub match : Matched N t b d
-  pub room : addedDarts (view N t) (schemeOf b) (match .orbit) ≤ countBelow N (unused (view N t))
+  pub room : addedDarts (siteOver N t b d (match .orbit)) ≤ countBelow N (unused (view N t))
 
 -- what an edit that is done comes to: the new table is that of a map that is the published rewriting of the old one, and no other rewriting has
 -- another table (`rewriting-once` of crates/model/proofs/RewritingOnce.antt); the answer counts the orbit, the added and the deleted darts
@@ -83,10 +84,10 @@ pub record EditDone (n N : ℕ) (t b : List ℕ) (d : ℕ) (r : Answer) (t′ : 
   pub isOrbit : Orbit N t b d orbit
   pub new : Map
   pub dart : ℕ → ℕ → ℕ
-  pub rewriting : Rewriting (view N t) new (schemeOf b) orbit dart
+  pub rewriting : Rewriting (siteOver N t b d orbit) new dart
   pub table : t′ ≡ tableOf new
   pub done : number r ≡ 0
-  pub counted : values r ≡ counts N t b orbit
+  pub counted : values r ≡ counts (siteOver N t b d orbit)
   pub well : Holds n N t′
 
 pub record Demand2 (K : Kernel) : Type 0 where

@@ -10,9 +10,10 @@ use lib.ListN.{length}
 use Rattle.base.specs.Below.{countBelow}
 use Rattle.model.specs.Map.{view, unused}
 use Rattle.model.specs.WellFormed.{WellFormed}
-use Rattle.model.specs.Scheme.{left, orbitDim, word, has, added, inForm, schemeOf}
+use Rattle.model.specs.Scheme.{left, orbitDim, word, has, inForm, schemeOf}
 use Rattle.model.specs.Conditions.{Reached, incidenceOk, cycleOk}
 use Rattle.model.specs.Orbit.{IsOrbit}
+use Rattle.model.specs.Site.{Site, siteWith}
 use Rattle.model.specs.Match.{Assignment}
 use Rattle.model.specs.Edit.{addedDarts}
 use Rattle.model.specs.File.{file, fileForm, fileMap}
@@ -95,18 +96,22 @@ module _ (N : ℕ) (t b : List ℕ) (d : ℕ) where
   abbrev pub Orbit : (ℕ → Bool) → Type 0
   Orbit = IsOrbit (view N t) (schemeOf b .places) (orbitDim (schemeOf b)) d
 
+  -- the site of the edit, where O is the orbit
+  abbrev pub siteOver : (ℕ → Bool) → Site
+  siteOver = siteWith (view N t) (schemeOf b) d
+
   -- an assignment over O
   pub record Matched : Type 0 where
     pub orbit : ℕ → Bool
     pub isOrbit : Orbit orbit
     pub dart : ℕ → ℕ → ℕ
-    pub assigned : Assignment (view N t) (schemeOf b) orbit dart
+    pub assigned : Assignment (siteOver orbit) dart
 
   -- size of O × added nodes exceeds the unused slots before the edit
   pub record Crowded : Type 0 where
     pub orbit : ℕ → Bool
     pub isOrbit : Orbit orbit
-    pub few : countBelow N (unused (view N t)) < addedDarts (view N t) (schemeOf b) orbit
+    pub few : countBelow N (unused (view N t)) < addedDarts (siteOver orbit)
 
 -- ---- the calls
 

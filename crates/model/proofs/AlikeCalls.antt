@@ -1,6 +1,6 @@
 -- Each call on two tables that hold alike well-formed maps: equal answers, equal written files, and again two such tables.
 -- Assumes nothing.
-use Prim.Native.Nat.{ℕ, _*_, _<_}
+use Prim.Native.Nat.{ℕ, _*_}
 use mathlib.Core.Path.{_≡_, refl, sym, ap, ap₂, _∙_, subst}
 use mathlib.Core.Bool.{Bool, not, cond}
 use mathlib.Core.Option.{Option, none, some, Option·getD}
@@ -9,17 +9,16 @@ use lib.ListN.{length, drop, replicate}
 use lib.Dec.{eqb, ltb}
 use borrow.Author.Tests.{eqb-true, ltb-true}
 use Rattle.base.specs.Test.{_and_}
-use Rattle.base.specs.First.{someIf, there, _orElse_}
+use Rattle.base.specs.First.{someIf, there}
 use Rattle.base.proofs.TestLaws.{and-left, and-right, and-same}
-use Rattle.base.proofs.FirstLaws.{or-else-none, or-else-same, getD-same}
+use Rattle.base.proofs.FirstLaws.{or-else-same, getD-same}
 use Rattle.model.specs.Map.{Map, view, tableOf, live}
 use Rattle.model.specs.WellFormed.{WellFormed, wellFormed}
 use Rattle.model.specs.Scheme.{schemeOf, orbitDim}
-use Rattle.model.specs.Accepted.{Accepted}
 use Rattle.model.specs.Edit.{edited}
 use Rattle.model.specs.File.{file, fileMap}
-use Rattle.model.specs.Site.{Site, siteWith}
-use Rattle.model.specs.Calls.{sizesOk, tableFault, checkTable, bytesFault, fitFault, siteFault, siteDone, siteOf}
+use Rattle.model.specs.Site.{Site, siteWith, Sound}
+use Rattle.model.specs.Calls.{sizesOk, tableFault, checkTable, fitFault, siteFault, siteDone, siteOf}
 use Rattle.model.specs.Calls.{editFaultAt, editFault, editAnswer, editTable, editStore}
 use Rattle.model.specs.Calls.{readFaultAt, readFault, readAnswer, readTable, writeFaultAt, writeFault, writeAnswer, writeOut}
 use Rattle.model.specs.Alike.{Alike}
@@ -28,31 +27,14 @@ use Rattle.model.specs.declared.Scheme.{Scheme}
 use Rattle.model.specs.declared.Answer.{Answer}
 use Rattle.model.specs.declared.Answer.the-variants.{Done, Edited, Written, BadCall, BadTable, NoDart, NoMatch, NoRoom, ShortOutput}
 use Rattle.model.proofs.WellFormedLaws.{wellFormed-iff}
-use Rattle.model.proofs.SchemeLaws.{shaped}
-use Rattle.model.proofs.AcceptedLaws.{accepted, small}
+use Rattle.model.proofs.AcceptedLaws.{small}
 use Rattle.model.proofs.MatchIff.{good-orbit}
-use Rattle.model.proofs.CallLaws.{Granted, passed, granted, ready, edit-table, refused-table}
+use Rattle.model.proofs.CallLaws.{passed, bytes-accepted, granted, sound, ready, edit-table, refused-table}
 use Rattle.model.proofs.HoldsLaws.{holds-free, dimension-small, table-length, edit-holds, store-zero, read-holds, written-file, writtenFile}
 use Rattle.model.proofs.AlikeLaws.{alike-refl, alike-sym, alike-trans, words-alike, same-live, same-room, same-orbit}
 use Rattle.model.proofs.AlikeMatch.{moved, same-matches}
 use Rattle.model.proofs.AlikeEdit.{same-size, same-added, same-deleted, edited-alike}
 use Rattle.model.proofs.FileLaws.{same-file}
-
--- what has been tested of an edit before the match
-record Tested (n N : ℕ) (t b : List ℕ) (d : ℕ) : Type 0 where
-  clean : bytesFault b ≡ none
-  dimension : schemeOf b .n ≡ n
-  slot : d < N
-  alive : view N t .state d ≡ 1
-
-granted-tested : (n N : ℕ) (t store b : List ℕ) (d : ℕ) → Granted n N t store b d → Tested n N t b d
-unfolding bytesFault someIf _orElse_
-granted-tested n N t store b d g = record {
-  clean = rw (g .form) (g .accepted);
-  dimension = g .dimension;
-  slot = g .slot;
-  alive = g .alive;
-}
 
 -- ---- two tables
 
@@ -90,26 +72,19 @@ module _ (n N : ℕ) (t t′ : List ℕ) (a : AlikeTables n N t t′) where
     abbrev E′ : Site
     E′ = siteOf N t′ b d
 
-    module _ (p : Tested n N t b d) where
-      good : Accepted S
-      unfolding bytesFault
-      good = let r = or-else-none _ _ (p .clean) in accepted S (shaped b (passed _ _ (r .0))) (r .1)
-
-      well : WellFormed (S .n) m
-      well = subst (λ (k : ℕ). WellFormed k m) (sym (p .dimension)) (a .one .well)
-
+    module _ (g : Sound E) (same : S .n ≡ n) where
       well′ : WellFormed (S .n) m′
-      well′ = subst (λ (k : ℕ). WellFormed k m′) (sym (p .dimension)) (a .other .well)
+      well′ = subst (λ (k : ℕ). WellFormed k m′) (sym same) (a .other .well)
 
       same-site : moved E m′ ≡ E′
-      same-site = ap (siteWith m′ S d) (same-orbit (S .n) (small S (good .shaped)) (S .places) (orbitDim S) (good .shaped .orbitDims) d
-          m m′ (a .alike) well well′ (p .slot) (p .alive))
+      same-site = ap (siteWith m′ S d) (same-orbit (S .n) (small S (g .accepted .shaped)) (S .places) (orbitDim S) (g .accepted .shaped .orbitDims) d
+          m m′ (a .alike) (g .well) well′ (g .slot) (g .alive))
 
       fit-same : fitFault E ≡ fitFault E′
       unfolding fitFault
       fit-same = or-else-same _ _
-          (ap (λ (b : Bool). someIf (not b) NoMatch) (same-matches E good m′ (a .alike) well well′ (good-orbit m S d good well (p .slot) (p .alive))))
-          (λ q. ap₂ (λ (c k : ℕ). someIf (ltb c k) NoRoom) (same-room m m′ (a .alike) (S .n) well well′) (same-added E m′ (a .alike)))
+          (ap (λ (b : Bool). someIf (not b) NoMatch) (same-matches E (g .accepted) m′ (a .alike) (g .well) well′ (good-orbit m S d g)))
+          (λ q. ap₂ (λ (c k : ℕ). someIf (ltb c k) NoRoom) (same-room m m′ (a .alike) (S .n) (g .well) well′) (same-added E m′ (a .alike)))
           ∙ ap fitFault same-site
 
       counts : siteDone E ≡ siteDone E′
@@ -133,24 +108,24 @@ module _ (n N : ℕ) (t t′ : List ℕ) (a : AlikeTables n N t t′) where
         or-else-same _ _ (ap (λ (w : Bool). someIf (not w) BadTable) same-well) (λ r7.
         or-else-same _ _ (ap (λ (w : Bool). someIf (not w) NoDart) same-dart-test) (λ r8.
         let dart = passed _ _ r8 in
+        let same = eqb-true _ _ (passed _ _ r6) in
         fit-same (record {
-          clean = r2;
-          dimension = eqb-true _ _ (passed _ _ r6);
+          accepted = bytes-accepted b r2;
+          well = subst (λ (k : ℕ). WellFormed k m) (sym same) (a .one .well);
           slot = ltb-true _ _ (and-left _ _ dart);
           alive = eqb-true _ _ (and-right _ _ dart);
-        }))))))
-
-    tested : editFault n N t store b d ≡ none → Tested n N t b d
-    tested q = granted-tested n N t store b d (granted n N t store b d q)
+        }) same)))))
 
     pub same-edit : editAnswer n N t store b d ≡ editAnswer n N t′ store′ b d
     unfolding editAnswer
-    same-edit = getD-same _ _ same-fault (λ q. counts (tested q))
+    same-edit = getD-same _ _ same-fault (λ q. counts (sound n N t store b d q) (granted n N t store b d q .dimension))
 
     edited-like : editFault n N t store b d ≡ none → Alike (edited E) (edited E′)
     edited-like q =
-        let p = tested q in
-        subst (λ (F : Site). Alike (edited E) (edited F)) (same-site p) (edited-alike E m′ (a .alike) (well p) (well′ p) (ready n N t store b d q))
+        let g = sound n N t store b d q in
+        let same = granted n N t store b d q .dimension in
+        subst (λ (F : Site). Alike (edited E) (edited F)) (same-site g same)
+        (edited-alike E m′ (a .alike) (g .well) (well′ g same) (ready n N t store b d q))
 
     pub edit-alike : AlikeTables n N (editTable n N t store b d) (editTable n N t′ store′ b d)
     unfolding edited

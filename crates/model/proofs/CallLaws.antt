@@ -9,9 +9,11 @@ use borrow.Author.Tests.{eqb-true, ltb-true, ltb-false, not-false}
 use Rattle.base.specs.Below.{countBelow}
 use Rattle.base.specs.First.{someIf}
 use Rattle.model.specs.Map.{view, tableOf, unused}
-use Rattle.model.specs.WellFormed.{WellFormed, wellFormed}
+use Rattle.model.specs.WellFormed.{wellFormed}
 use Rattle.model.specs.Scheme.{inForm, schemeOf}
+use Rattle.model.specs.Accepted.{Accepted}
 use Rattle.model.specs.Conditions.{schemeFault}
+use Rattle.model.specs.Site.{Sound}
 use Rattle.model.specs.Match.{matches}
 use Rattle.model.specs.Edit.{addedDarts, edited}
 use Rattle.model.specs.Calls.{bytesFault, fitFault, siteFault, sizesOk, editFaultAt, siteOf, editFault, editTable}
@@ -22,13 +24,17 @@ use Rattle.model.proofs.WellFormedLaws.{wellFormed-iff}
 use Rattle.model.proofs.AlikeLaws.{words-well}
 use Rattle.model.proofs.SchemeLaws.{shaped}
 use Rattle.model.proofs.AcceptedLaws.{small, accepted}
-use Rattle.model.proofs.MatchLaws.{match-assigns}
-use Rattle.model.proofs.MatchIff.{good-orbit}
+use Rattle.model.proofs.MatchIff.{match-ready}
 use Rattle.model.proofs.EditLaws.{Ready}
 use Rattle.model.proofs.KeepLaws.{edit-keeps}
 
 pub passed : (t : Bool) (a : Answer) → someIf (not t) a ≡ none → t ≡ true
 passed t a e = not-false t (when-none (not t) a e)
+
+-- bytes with no fault are an accepted scheme's
+pub bytes-accepted : (b : List ℕ) → bytesFault b ≡ none → Accepted (schemeOf b)
+unfolding bytesFault
+bytes-accepted b e = let r = or-else-none _ _ e in accepted (schemeOf b) (shaped b (passed _ _ (r .0))) (r .1)
 
 -- what has been tested of an edit that is not refused
 pub record Granted (n N : ℕ) (t store b : List ℕ) (d : ℕ) : Type 0 where
@@ -66,15 +72,18 @@ module _ (n N : ℕ) (t store b : List ℕ) (d : ℕ) (q : editFault n N t store
         room = ltb-false _ _ (when-none _ _ (r9 .1));
       }
 
-  well : WellFormed (schemeOf b .n) (view N t)
-  well = let g = granted in wellFormed-iff (schemeOf b .n) (view N t) .0 (ap (λ (k : ℕ). wellFormed k (view N t)) (g .dimension) ∙ g .well)
+  pub sound : Sound (siteOf N t b d)
+  sound =
+      let g = granted in
+      record {
+        accepted = accepted (schemeOf b) (shaped b (g .form)) (g .accepted);
+        well = wellFormed-iff (schemeOf b .n) (view N t) .0 (ap (λ (k : ℕ). wellFormed k (view N t)) (g .dimension) ∙ g .well);
+        slot = g .slot;
+        alive = g .alive;
+      }
 
   pub ready : Ready (siteOf N t b d)
-  ready =
-      let g = granted in
-      let good = accepted (schemeOf b) (shaped b (g .form)) (g .accepted) in
-      let orb = good-orbit (view N t) (schemeOf b) d good well (g .slot) (g .alive) in
-      record { accepted = good; good = orb; match = match-assigns (siteOf N t b d) good orb well (g .match); room = g .room }
+  ready = let g = granted in match-ready (view N t) (schemeOf b) d sound (g .match) (g .room)
 
   pub edit-table : editTable n N t store b d ≡ tableOf (edited (siteOf N t b d))
   unfolding editTable
@@ -89,7 +98,7 @@ module _ (n N : ℕ) (t store b : List ℕ) (d : ℕ) (q : editFault n N t store
       ap (λ (l : List ℕ). wellFormed n (view N l)) edit-table
       ∙ ap (λ (k : ℕ). wellFormed k (view N (tableOf m))) (sym (g .dimension))
       ∙ wellFormed-iff (schemeOf b .n) (view N (tableOf m)) .1
-      (words-well (schemeOf b .n) m (small (schemeOf b) (shaped b (g .form))) (edit-keeps (siteOf N t b d) well ready))
+      (words-well (schemeOf b .n) m (small (schemeOf b) (shaped b (g .form))) (edit-keeps (siteOf N t b d) (sound .well) ready))
 
 -- an edit that is refused leaves the table as it was
 pub refused-table : (n N : ℕ) (t store b : List ℕ) (d : ℕ) (a : Answer) → editFault n N t store b d ≡ some a → editTable n N t store b d ≡ t

@@ -1,9 +1,12 @@
 -- The site of an edit: whatever an edit does is asked of it.
 -- Assumes nothing.
-use Prim.Native.Nat.{ℕ}
+use Prim.Native.Nat.{ℕ, _<_}
+use mathlib.Core.Path.{_≡_}
 use mathlib.Core.Bool.{Bool}
 use Rattle.model.specs.Map.{Map}
+use Rattle.model.specs.WellFormed.{WellFormed}
 use Rattle.model.specs.Scheme.{orbitDim}
+use Rattle.model.specs.Accepted.{Accepted}
 use Rattle.model.specs.Orbit.{orbit}
 use Rattle.model.specs.declared.Scheme.{Scheme}
 
@@ -21,3 +24,10 @@ siteWith m S d O = record { map = m; scheme = S; dart = d; orbit = O }
 -- the same, where O is computed
 abbrev pub siteAt : Map → Scheme → ℕ → Site
 siteAt m S d = siteWith m S d (orbit m (S .places) (orbitDim S) d)
+
+-- the scheme is accepted, the map is well-formed for it, and the dart is live: none of the refusals 2 to 8 is left
+pub record Sound (E : Site) : Type 0 where
+  pub accepted : Accepted (E .scheme)
+  pub well : WellFormed (E .scheme .n) (E .map)
+  pub slot : E .dart < E .map .slots
+  pub alive : E .map .state (E .dart) ≡ 1
