@@ -17,17 +17,17 @@ use Rattle.base.proofs.RowLaws.{digits, row-end, row-cell}
 use Rattle.model.specs.Map.{Map, view}
 use Rattle.model.specs.Scheme.{left, orbitDim, word, arcPart, has}
 use Rattle.model.specs.Conditions.{Arc, absent, explicit, implicit, arcAt}
-use Rattle.model.specs.Orbit.{orbit}
+use Rattle.model.specs.Site.{Site, Sound}
 use Rattle.model.specs.Match.{image, matches, Assignment}
 use Rattle.model.specs.Accepted.{SingleSide}
-use Rattle.model.specs.declared.Scheme.{Scheme}
 use Rattle.model.proofs.AcceptedLaws.{small}
 use Rattle.model.proofs.ArcLaws.{explicit-at, explicit-end, implicit-at, implicit-from, far-from, far-to, touches-from, touches-to}
 use Rattle.model.proofs.MatchLaws.{assigns-match}
+use Rattle.orbit.specs.At.{site}
 use Rattle.orbit.specs.Store.{mark, place, next, dartAt, Assigned}
 use Rattle.model.specs.Codes.{arcCode}
 use Rattle.conditions.specs.Arcs.{Coded}
-use Rattle.matching.specs.Columns.{BeforeMatching, matchesAt, Grown}
+use Rattle.matching.specs.Columns.{BeforeMatching, Grown}
 use Rattle.matching.specs.ArcTests.{Turns, follows, explicitTest, implicitTest, codeTest, arcTest, arcsTest, Firm}
 use Rattle.matching.specs.Assign.{Matched}
 use Rattle.matching.proofs.ColumnLaws.{longer-mark, longer-kept}
@@ -82,17 +82,13 @@ module _ (m : Map) (s : List ℕ) (size : ℕ) (dims cols : List ℕ) (j i from 
       let same : 16 + p - 16 ≡ p = omega arith in
       rw (ne-eqb (16 + p) 255 (λ q. absurd (omega arith)), le-ltb (16 + p) 16 (omega arith), same) (or-right _ f)
 
-module _ (N : ℕ) (t s : List ℕ) (size : ℕ) (nodes parents dims : List ℕ) (count : ℕ)
-    (R : BeforeMatching N t s size nodes parents dims count) (s′ cols : List ℕ) (G : Grown (view N t) nodes parents dims s s′ cols size count)
-    (codes : List ℕ) (C : Coded (R .scheme) left codes) where
-  abbrev S : Scheme
-  S = R .scheme
+module _ {N : ℕ} {t s : List ℕ} {size : ℕ} {nodes parents dims : List ℕ} {count : ℕ} (R : BeforeMatching N t s size nodes parents dims count)
+    {s′ cols : List ℕ} (G : Grown (view N t) nodes parents dims s s′ cols size count) {codes : List ℕ} (C : Coded (R .at .scheme) left codes) where
+  abbrev E : Site
+  E = site (R .at)
 
-  abbrev m : Map
-  m = view N t
-
-  abbrev O : ℕ → Bool
-  O = orbit m (S .places) (orbitDim S) (R .dart)
+  open Site E using (map as m, scheme as S, orbit as O)
+  open Sound (R .at .sound) using (accepted, well)
 
   abbrev node : ℕ → ℕ
   node k = getD nodes k 0
@@ -102,7 +98,7 @@ module _ (N : ℕ) (t s : List ℕ) (size : ℕ) (nodes parents dims : List ℕ)
   at v r = dartAt s′ (getD cols v 0) r
 
   abbrev single : SingleSide S left
-  single = R .accepted .sides left
+  single = accepted .sides left
 
   code-at : (j i : ℕ) → j < count → i < 4 → getD codes (4 * node j + i) 0 ≡ arcCode (arcAt S left (node j) i)
   code-at j i h k = C .at (node j) i (R .rooted .onLeft j h .0) k
@@ -111,34 +107,35 @@ module _ (N : ℕ) (t s : List ℕ) (size : ℕ) (nodes parents dims : List ℕ)
   implicit-in : (v i p : ℕ) → v < S .nodes → i < 4 → arcAt S left v i ≡ implicit p → (p < S .places) × (p < 4) × (i ≤ S .n) × (word S left v p ≡ i)
   implicit-in v i p h k e =
       let f = implicit-from S left v i p e in
-      let few = R .accepted .shaped .placesFew in
-      let n = small S (R .accepted .shaped) in
+      let few = accepted .shaped .placesFew in
+      let n = small S (accepted .shaped) in
       let dim : i ≤ S .n = ⊎-elim (λ w. absurd (omega (arith, f .1))) (λ w. omega (arith, f .1)) (single .shaped .words v p h (f .0)) in
       (f .0, omega (arith, f .0), dim, f .1)
 
   -- the place to which a link of the orbit type leads
   turn : (r p : ℕ) → r < size → p < S .places → (next N s′ r p < size) × (place N s (next N s′ r p) ≡ m .link (orbitDim S p) (place N s r))
   unfolding next
-  turn r p h k = subst (λ (q : ℕ). (q < size) × (place N s q ≡ m .link (orbitDim S p) (place N s r))) (sym (G .longer .rest (4 * N + 4 * r + p) (omega arith))) (R .walked .links r p h k)
+  turn r p h k = subst (λ (q : ℕ). (q < size) × (place N s q ≡ m .link (orbitDim S p) (place N s r)))
+      (sym (G .longer .rest (4 * N + 4 * r + p) (omega arith))) (R .walked .links r p h k)
 
   -- ---- an arc can be tested
 
   pub firm : Firm N t s′ size nodes codes cols count
   firm = record {
-    sized = R .sized;
+    sized = R .at .sized;
     long = G .taken .long;
     few = R .walked .fits;
     entries = R .rooted .few;
-    node = λ j h. node-below N t s size nodes parents dims count R j h;
+    node = λ j h. node-below R j h;
     column = inside;
-    slots = λ j h. record { slot = λ r k. dart-slot N t s size nodes parents dims count R s′ cols count G j r h k .0 };
+    slots = λ j h. record { slot = λ r k. dart-slot R G j r h k .0 };
     target = λ j i h k c. to j i h k (arcAt S left (node j) i) refl c;
     turn = λ j i h k c ne. turns j i h k (arcAt S left (node j) i) refl c ne;
   }
     where
       inside : (j : ℕ) → j < count → getD cols (node j) 0 + size ≤ 2 * N
       inside j h =
-          let b = column-inside N t s size nodes parents dims count R s′ cols count G j h in
+          let b = column-inside R G j h in
           omega (arith, b .1, G .taken .fits)
 
       to : (j i : ℕ) → j < count → i < 4 → (a : Arc) → arcAt S left (node j) i ≡ a → getD codes (4 * node j + i) 0 < 16
@@ -157,7 +154,7 @@ module _ (N : ℕ) (t s : List ℕ) (size : ℕ) (nodes parents dims : List ℕ)
       turns j i h k (explicit w) e c ne =
           let q : getD codes (4 * node j + i) 0 ≡ w = code-at j i h k ∙ ap arcCode e in
           let end = explicit-end S left single (node j) i w e in
-          absurd (omega (arith, end .0, R .accepted .shaped .nodesFew))
+          absurd (omega (arith, end .0, accepted .shaped .nodesFew))
       turns j i h k (implicit p) e c ne =
           let q : getD codes (4 * node j + i) 0 ≡ 16 + p = code-at j i h k ∙ ap arcCode e in
           let f = implicit-in (node j) i p (R .rooted .onLeft j h .0) k e in
@@ -166,21 +163,22 @@ module _ (N : ℕ) (t s : List ℕ) (size : ℕ) (nodes parents dims : List ℕ)
 
   -- ---- where there is a match, the arcs pass their tests
 
-  module _ (q : matches m S O ≡ true) where
-    image-at : (v r : ℕ) → v < S .nodes → has S left v ≡ true → r < size → at v r ≡ image m S (place N s r) v
+  module _ (q : matches E ≡ true) where
+    image-at : (v r : ℕ) → v < S .nodes → has S left v ≡ true → r < size → at v r ≡ image E (place N s r) v
     image-at v r h l b =
         let z = R .rooted .every v h l in
-        subst (λ (w : ℕ). at w r ≡ image m S (place N s r) w) (z .2) (images N t s size nodes parents dims count R q s′ cols count (omega arith) G (z .0) r (z .1) b)
+        subst (λ (w : ℕ). at w r ≡ image E (place N s r) w) (z .2) (images R q G (omega arith) (z .0) r (z .1) b)
 
-    arc-holds : (j i : ℕ) → j < count → i < 4 → (a : Arc) → arcAt S left (node j) i ≡ a → codeTest m s′ size dims cols j i (getD cols (node j) 0) (arcCode a) ≡ true
+    arc-holds : (j i : ℕ) → j < count → i < 4 → (a : Arc) → arcAt S left (node j) i ≡ a
+        → codeTest m s′ size dims cols j i (getD cols (node j) 0) (arcCode a) ≡ true
     arc-holds j i h k absent e = absent-holds m s′ size dims cols j i (getD cols (node j) 0)
     arc-holds j i h k (explicit w) e =
         let end = explicit-end S left single (node j) i w e in
         let on = R .rooted .onLeft j h in
-        explicit-holds m s′ size dims cols j i (getD cols (node j) 0) w (omega (arith, end .0, R .accepted .shaped .nodesFew))
+        explicit-holds m s′ size dims cols j i (getD cols (node j) 0) w (omega (arith, end .0, accepted .shaped .nodesFew))
         (follows-of m s′ size i (getD cols (node j) 0) (getD cols w 0) (λ r. r) (λ r b.
         ap (m .link i) (image-at (node j) r (on .0) (on .1) b)
-        ∙ arc-image N t s size nodes parents dims count R q (place N s r) (node j) i w (orbit-at N t s size nodes parents dims count R r b) (on .0) (on .1) (end .2) e
+        ∙ arc-image R q (place N s r) (node j) i w (orbit-at R r b) (on .0) (on .1) (end .2) e
         ∙ sym (image-at w r (end .0) (end .1) b)))
     arc-holds j i h k (implicit p) e =
         let on = R .rooted .onLeft j h in
@@ -189,8 +187,8 @@ module _ (N : ℕ) (t s : List ℕ) (size : ℕ) (nodes parents dims : List ℕ)
         (follows-of m s′ size i (getD cols (node j) 0) (getD cols (node j) 0) (λ r. next N s′ r p) (λ r b.
         let g = turn r p b (f .0) in
         ap (m .link i) (image-at (node j) r (on .0) (on .1) b)
-        ∙ turn-image N t s size nodes parents dims count R q (place N s r) (node j) i p (orbit-at N t s size nodes parents dims count R r b) (on .0) (on .1) (f .2) e
-        ∙ ap (λ (u : ℕ). image m S u (node j)) (sym (g .1))
+        ∙ turn-image R q (place N s r) (node j) i p (orbit-at R r b) (on .0) (on .1) (f .2) e
+        ∙ ap (λ (u : ℕ). image E u (node j)) (sym (g .1))
         ∙ sym (image-at (node j) (next N s′ r p) (on .0) (on .1) (g .0))))
 
     pub match-tests : arcsTest m s′ size nodes dims codes cols (4 * count) ≡ true
@@ -206,15 +204,15 @@ module _ (N : ℕ) (t s : List ℕ) (size : ℕ) (nodes parents dims : List ℕ)
   more = let e = row-end size 0 count (R .rooted .some) in omega arith
 
   rank : (u : ℕ) → O u ≡ true → ℕ
-  rank u e = orbit-rank N t s size nodes parents dims count R u e .0
+  rank u e = orbit-rank R u e .0
 
   rank-below : (u : ℕ) (e : O u ≡ true) → rank u e < size
   unfolding rank
-  rank-below u e = orbit-rank N t s size nodes parents dims count R u e .1
+  rank-below u e = orbit-rank R u e .1
 
   rank-place : (u : ℕ) (e : O u ≡ true) → place N s (rank u e) ≡ u
   unfolding rank
-  rank-place u e = orbit-rank N t s size nodes parents dims count R u e .2
+  rank-place u e = orbit-rank R u e .2
 
   mark-at : (r : ℕ) → r < size → mark s′ (place N s r) ≡ r + 1
   mark-at r h =
@@ -235,16 +233,17 @@ module _ (N : ℕ) (t s : List ℕ) (size : ℕ) (nodes parents dims : List ℕ)
   slot-at : (v r : ℕ) → v < S .nodes → has S left v ≡ true → r < size → (at v r < N) × (m .state (at v r) ≡ 1)
   slot-at v r h l b =
       let z = R .rooted .every v h l in
-      subst (λ (w : ℕ). (at w r < N) × (m .state (at w r) ≡ 1)) (z .2) (dart-slot N t s size nodes parents dims count R s′ cols count G (z .0) r (z .1) b)
+      subst (λ (w : ℕ). (at w r < N) × (m .state (at w r) ≡ 1)) (z .2) (dart-slot R G (z .0) r (z .1) b)
 
   -- node 0 stands for the orbit dart itself
   hook-at : (r : ℕ) → r < size → at 0 r ≡ place N s r
   hook-at r h =
       let z : 0 * size + r ≡ r = omega arith in
-      ap (λ (v : ℕ). at v r) (sym (R .rooted .root)) ∙ dart-at N t s size nodes parents dims count R s′ cols count G 0 r (R .rooted .some) ∙ ap (place N s′) z ∙ G .longer .places r h
+      ap (λ (v : ℕ). at v r) (sym (R .rooted .root)) ∙ dart-at R G 0 r (R .rooted .some) ∙ ap (place N s′) z ∙ G .longer .places r h
 
   module _ (T : arcsTest m s′ size nodes dims codes cols (4 * count) ≡ true) where
-    test-at : (j i : ℕ) → j < count → i < 4 → (a : Arc) → arcAt S left (node j) i ≡ a → codeTest m s′ size dims cols j i (getD cols (node j) 0) (arcCode a) ≡ true
+    test-at : (j i : ℕ) → j < count → i < 4 → (a : Arc) → arcAt S left (node j) i ≡ a
+        → codeTest m s′ size dims cols j i (getD cols (node j) 0) (arcCode a) ≡ true
     unfolding arcsTest arcTest
     test-at j i h k a e =
         let by-four : (4 * j + i) / 4 ≡ j = omega arith in
@@ -253,9 +252,10 @@ module _ (N : ℕ) (t s : List ℕ) (size : ℕ) (nodes parents dims : List ℕ)
         ap (codeTest m s′ size dims cols j i (getD cols (node j) 0)) (sym (code-at j i h k ∙ ap arcCode e)) ∙ (rw (by-four, rest) at f)
 
     -- an explicit arc from a column to one that is not later
-    arc-back : (j k i r : ℕ) → j < count → k < count → k ≤ j → i < 4 → r < size → arcAt S left (node j) i ≡ explicit (node k) → m .link i (at (node j) r) ≡ at (node k) r
+    arc-back : (j k i r : ℕ) → j < count → k < count → k ≤ j → i < 4 → r < size → arcAt S left (node j) i ≡ explicit (node k)
+        → m .link i (at (node j) r) ≡ at (node k) r
     arc-back j k i r h l o b c e =
-        let below = node-below N t s size nodes parents dims count R k l in
+        let below = node-below R k l in
         ⊎-elim
         (λ late. absurd (omega (arith, late, G .begins j h, G .begins k l, mul-le-mul-right size o)))
         (λ w. ⊎-elim
@@ -267,8 +267,8 @@ module _ (N : ℕ) (t s : List ℕ) (size : ℕ) (nodes parents dims : List ℕ)
         let same : getD parents j 0 ≡ node k = cc in
         let step : at (node j) r ≡ m .link i (at (node k) r) = G .steps j r some h c ∙ ap₂ (λ (x v : ℕ). m .link x (at v r)) (tree .1) same in
         let low : i ≤ S .n = subst (λ (x : ℕ). x ≤ S .n) (tree .1) (arc .0) in
-        let on = dart-slot N t s size nodes parents dims count R s′ cols count G k r l c in
-        ap (m .link i) step ∙ R .well .back (at (node k) r) (on .0) (on .1) i low)
+        let on = dart-slot R G k r l c in
+        ap (m .link i) step ∙ well .back (at (node k) r) (on .0) (on .1) i low)
         (λ f. follows-at m s′ size i (getD cols (node j) 0) (getD cols (node k) 0) (λ q. q) f r c)
         w)
         (explicit-cases m s′ size dims cols j i (getD cols (node j) 0) (node k) below (test-at j i h b (explicit (node k)) e))
@@ -279,20 +279,21 @@ module _ (N : ℕ) (t s : List ℕ) (size : ℕ) (nodes parents dims : List ℕ)
         let end = explicit-end S left single v i w e in
         let y = R .rooted .every v h l in
         let z = R .rooted .every w (end .0) (end .1) in
-        let low : i < 4 = omega (arith, end .2, small S (R .accepted .shaped)) in
+        let low : i < 4 = omega (arith, end .2, small S (accepted .shaped)) in
         let to : arcAt S left (node (y .0)) i ≡ explicit (node (z .0)) = ap (λ (x : ℕ). arcAt S left x i) (y .2) ∙ e ∙ ap explicit (sym (z .2)) in
         let fro : arcAt S left (node (z .0)) i ≡ explicit (node (y .0)) = ap (λ (x : ℕ). arcAt S left x i) (z .2) ∙ end .3 ∙ ap explicit (sym (y .2)) in
         let on = slot-at w r (end .0) (end .1) c in
         let way : m .link i (at (node (y .0)) r) ≡ at (node (z .0)) r = by-cases (decLt (y .0) (z .0))
         (λ o.
         let k = arc-back (z .0) (y .0) i r (z .1) (y .1) (omega arith) low c fro in
-        let d = dart-slot N t s size nodes parents dims count R s′ cols count G (z .0) r (z .1) c in
-        ap (m .link i) (sym k) ∙ R .well .back (at (node (z .0)) r) (d .0) (d .1) i (end .2))
+        let d = dart-slot R G (z .0) r (z .1) c in
+        ap (m .link i) (sym k) ∙ well .back (at (node (z .0)) r) (d .0) (d .1) i (end .2))
         (λ o. arc-back (y .0) (z .0) i r (y .1) (z .1) (omega arith) low c to) in
         ap (λ (x : ℕ). m .link i (at x r)) (sym (y .2)) ∙ way ∙ ap (λ (x : ℕ). at x r) (z .2)
 
     -- an implicit arc
-    turn-at : (v i p r : ℕ) → v < S .nodes → has S left v ≡ true → (v ≡ 0 → ⊥) → i < 4 → r < size → arcAt S left v i ≡ implicit p → m .link i (at v r) ≡ at v (next N s′ r p)
+    turn-at : (v i p r : ℕ) → v < S .nodes → has S left v ≡ true → (v ≡ 0 → ⊥) → i < 4 → r < size → arcAt S left v i ≡ implicit p
+        → m .link i (at v r) ≡ at v (next N s′ r p)
     turn-at v i p r h l ne k c e =
         let f = implicit-in v i p h k e in
         let z = R .rooted .every v h l in
@@ -307,15 +308,15 @@ module _ (N : ℕ) (t s : List ℕ) (size : ℕ) (nodes parents dims : List ℕ)
         let y = R .rooted .every v h l in
         let z = R .rooted .every w k o in
         let rows : place N s′ (y .0 * size + r) ≡ place N s′ (z .0 * size + q) =
-        sym (dart-at N t s size nodes parents dims count R s′ cols count G (y .0) r (y .1)) ∙ ap (λ (x : ℕ). at x r) (y .2) ∙ e
-        ∙ ap (λ (x : ℕ). at x q) (sym (z .2)) ∙ dart-at N t s size nodes parents dims count R s′ cols count G (z .0) q (z .1) in
+        sym (dart-at R G (y .0) r (y .1)) ∙ ap (λ (x : ℕ). at x r) (y .2) ∙ e
+        ∙ ap (λ (x : ℕ). at x q) (sym (z .2)) ∙ dart-at R G (z .0) q (z .1) in
         let first = G .taken .back (y .0 * size + r) (row-cell size (y .0) count r (y .1) b) in
         let other = G .taken .back (z .0 * size + q) (row-cell size (z .0) count q (z .1) c) in
         let marks : mark s′ (place N s′ (y .0 * size + r)) ≡ mark s′ (place N s′ (z .0 * size + q)) = ap (mark s′) rows in
         let same = digits size (y .0) r (z .0) q b c (omega arith) in
         (same .1, sym (y .2) ∙ ap node (same .0) ∙ z .2)
 
-    found-assigns : Assignment m S O found
+    found-assigns : Assignment E found
     found-assigns = record {
       darts = λ u b e v h l. let f = found-is u v e in let a = slot-at v (rank u e) h l (rank-below u e) in (rw f (a .0), ap (m .state) f ∙ a .1);
       hook = λ u b e. found-is u 0 e ∙ hook-at (rank u e) (rank-below u e) ∙ rank-place u e;
@@ -334,14 +335,14 @@ module _ (N : ℕ) (t s : List ℕ) (size : ℕ) (nodes parents dims : List ℕ)
       implicitArc = λ u b e v h l p k some.
           let i = word S left v p in
           let low : i ≤ S .n = ⊎-elim (λ z. absurd (some z)) (λ z. z) (single .shaped .words v p h k) in
-          let few : i < 4 = omega (arith, low, small S (R .accepted .shaped)) in
+          let few : i < 4 = omega (arith, low, small S (accepted .shaped)) in
           let r = rank u e in
           let g = turn r p (rank-below u e) k in
           let to : place N s (next N s′ r p) ≡ m .link (orbitDim S p) u = g .1 ∙ ap (m .link (orbitDim S p)) (rank-place u e) in
           ap (m .link i) (found-is u v e)
           ∙ by-cases (ℕ-discrete v 0)
           (λ z. subst (λ (x : ℕ). m .link (word S left x p) (at x r) ≡ at x (next N s′ r p)) (sym z)
-          (ap₂ (λ (x y : ℕ). m .link x y) (R .accepted .hookWord p k) (hook-at r (rank-below u e)) ∙ sym (g .1) ∙ sym (hook-at (next N s′ r p) (g .0))))
+          (ap₂ (λ (x y : ℕ). m .link x y) (accepted .hookWord p k) (hook-at r (rank-below u e)) ∙ sym (g .1) ∙ sym (hook-at (next N s′ r p) (g .0))))
           (λ ne. turn-at v i p r h l ne few (rank-below u e) (implicit-at S left single v i p h k low refl))
           ∙ sym (found-at v (next N s′ r p) (g .0)) ∙ ap (λ (x : ℕ). found x v) to;
       different = λ u b e v h l x c f w k o same.
@@ -349,22 +350,22 @@ module _ (N : ℕ) (t s : List ℕ) (size : ℕ) (nodes parents dims : List ℕ)
           (sym (rank-place u e) ∙ ap (place N s) (p .0) ∙ rank-place x f, p .1);
     }
 
-    tests-match : matches m S O ≡ true
-    tests-match = assigns-match m S (R .accepted) O (good N t s size nodes parents dims count R) found found-assigns
+    tests-match : matches E ≡ true
+    tests-match = assigns-match E accepted (good R) found found-assigns
 
   -- ---- the answer
 
-  assigned-columns : matches m S O ≡ true → Assigned m S s′ cols size
+  assigned-columns : matches E ≡ true → Assigned E s′ cols size
   assigned-columns q = record {
     inside = λ v h l.
         let z = R .rooted .every v h l in
-        let b = column-inside N t s size nodes parents dims count R s′ cols count G (z .0) (z .1) in
+        let b = column-inside R G (z .0) (z .1) in
         let full = G .taken .fits in
         subst (λ (w : ℕ). (N ≤ getD cols w 0) × (getD cols w 0 + size ≤ 2 * N)) (z .2) (b .0, omega (arith, b .1));
-    dart = λ v r h l b. image-at q v r h l b ∙ ap (λ (u : ℕ). image m S u v) (sym (G .longer .places r b));
+    dart = λ v r h l b. image-at q v r h l b ∙ ap (λ (u : ℕ). image E u v) (sym (G .longer .places r b));
   }
 
-  pub matched : (b : Bool) → b ≡ arcsTest m s′ size nodes dims codes cols (4 * count) → Matched S (R .dart) N t s s′ cols size b
+  pub matched : (b : Bool) → b ≡ arcsTest m s′ size nodes dims codes cols (4 * count) → Matched E s s′ cols size b
   matched b e = record {
     is = e ∙ same-test _ _ tests-match match-tests;
     long = G .taken .long ∙ sym (R .taken .long);
@@ -374,8 +375,8 @@ module _ (N : ℕ) (t s : List ℕ) (size : ℕ) (nodes parents dims : List ℕ)
   }
 
 -- where two pairs fall on one dart
-pub unmatched : (S : Scheme) (d N : ℕ) (t s s′ cols : List ℕ) (size : ℕ) → matchesAt (view N t) S d ≡ false → length s′ ≡ length s → Matched S d N t s s′ cols size false
-unmatched S d N t s s′ cols size e long = record {
+pub unmatched : {E : Site} {s s′ cols : List ℕ} {size : ℕ} → matches E ≡ false → length s′ ≡ length s → Matched E s s′ cols size false
+unmatched e long = record {
   is = sym e;
   long = long;
   assigned = λ f. absurd (true≢false (sym f));

@@ -2,7 +2,7 @@
 -- Assumes nothing.
 use Prim.Native.Nat.{ℕ, zero, suc, _+_, _*_, _-_, _≤_, _<_}
 use mathlib.Core.Path.{_≡_, refl, sym, ap, _∙_, subst}
-use mathlib.Core.Logic.{_⊎_, ⊎-elim, by-cases}
+use mathlib.Core.Logic.{⊎-elim, by-cases}
 use mathlib.Core.Bool.{Bool, true, false, true≢false}
 use mathlib.Core.List.{List}
 use native.Mathlib.Nat.{not-suc-le-zero}
@@ -13,31 +13,28 @@ use lib.Seq.{getD-set-same, getD-set-other}
 use borrow.Author.Tests.{eqb-true}
 use Rattle.base.proofs.TestLaws.{true-or-false}
 use Rattle.base.proofs.RowLaws.{row-end, row-cell, row-of}
-use Rattle.model.specs.Map.{Map, view}
+use Rattle.model.specs.Map.{view}
 use Rattle.model.specs.Scheme.{left, orbitDim, has}
 use Rattle.model.specs.Conditions.{explicit, implicit, arcAt}
-use Rattle.model.specs.Orbit.{orbit}
+use Rattle.model.specs.Site.{Site, Sound}
 use Rattle.model.specs.Match.{image, arcHolds, matches, Assignment}
-use Rattle.model.specs.declared.Scheme.{Scheme}
 use Rattle.model.proofs.AcceptedLaws.{small}
 use Rattle.model.proofs.MatchLaws.{GoodOrbit, match-assigns, arc-of}
 use Rattle.model.proofs.MatchIff.{good-orbit}
 use Rattle.table.specs.Words.{Sized}
+use Rattle.orbit.specs.At.{site}
 use Rattle.orbit.specs.Store.{mark, place, dartAt, Taken}
-use Rattle.matching.specs.Columns.{BeforeMatching, matchesAt, Linked, Column, Columned, Grown, ColumnedAll}
+use Rattle.matching.specs.Columns.{BeforeMatching, Linked, Column, Columned, Grown, ColumnedAll}
 use Rattle.orbit.proofs.StoreLaws.{among-at, among-of}
 use Rattle.matching.proofs.ColumnLaws.{dart-place, longer-dart, longer-less, longer-trans}
 
-module _ (N : ℕ) (t s : List ℕ) (size : ℕ) (nodes parents dims : List ℕ) (count : ℕ)
+module _ {N : ℕ} {t s : List ℕ} {size : ℕ} {nodes parents dims : List ℕ} {count : ℕ}
     (R : BeforeMatching N t s size nodes parents dims count) where
-  abbrev S : Scheme
-  S = R .scheme
+  abbrev E : Site
+  E = site (R .at)
 
-  abbrev m : Map
-  m = view N t
-
-  abbrev O : ℕ → Bool
-  O = orbit m (S .places) (orbitDim S) (R .dart)
+  open Site E using (map as m, scheme as S, orbit as O)
+  open Sound (R .at .sound) using (accepted, well)
 
   abbrev node : ℕ → ℕ
   node k = getD nodes k 0
@@ -50,8 +47,8 @@ module _ (N : ℕ) (t s : List ℕ) (size : ℕ) (nodes parents dims : List ℕ)
 
   -- ---- the orbit by its places
 
-  pub good : GoodOrbit m S O
-  good = good-orbit m S (R .dart) (R .accepted) (R .well) (R .below) (R .alive)
+  pub good : GoodOrbit E
+  good = good-orbit m S (R .at .dart) (R .at .sound)
 
   pub orbit-at : (r : ℕ) → r < size → O (place N s r) ≡ true
   orbit-at r h =
@@ -66,10 +63,10 @@ module _ (N : ℕ) (t s : List ℕ) (size : ℕ) (nodes parents dims : List ℕ)
       (mark s u - 1, omega (arith, b .0, b .1), R .walked .found u h a, omega (arith, b .0))
 
   pub node-below : (k : ℕ) → k < count → node k < 16
-  node-below k h = omega (arith, R .rooted .onLeft k h .0, R .accepted .shaped .nodesFew)
+  node-below k h = omega (arith, R .rooted .onLeft k h .0, accepted .shaped .nodesFew)
 
   pub dim-below : (k : ℕ) → 1 ≤ k → k < count → dim k ≤ 3
-  dim-below k l h = omega (arith, R .rooted .arc k l h .0, small S (R .accepted .shaped))
+  dim-below k l h = omega (arith, R .rooted .arc k l h .0, small S (accepted .shaped))
 
   -- ---- one entry more
 
@@ -90,7 +87,7 @@ module _ (N : ℕ) (t s : List ℕ) (size : ℕ) (nodes parents dims : List ℕ)
         steps = λ j r l h k. absurd (omega arith);
       }
 
-  module _ (s′ cols : List ℕ) (k : ℕ) (G : Grown m nodes parents dims s s′ cols size k) where
+  module _ {s′ cols : List ℕ} {k : ℕ} (G : Grown m nodes parents dims s s′ cols size k) where
     -- the dart of entry j at place r of the orbit
     abbrev dart : ℕ → ℕ → ℕ
     dart j r = dartAt s′ (getD cols (node j) 0) r
@@ -118,7 +115,7 @@ module _ (N : ℕ) (t s : List ℕ) (size : ℕ) (nodes parents dims : List ℕ)
           subst (λ (v : ℕ). (dartAt s′ (getD cols v 0) r < N) × (m .state (dartAt s′ (getD cols v 0) r) ≡ 1)) (p .2) (dart-slot (p .0) r (p .1) b)
 
       pub linked : Linked m (dim k) s′ (getD cols (parent k) 0) size
-      linked = record { slot = λ r b. let e = source-slot r b in R .well .below _ (e .0) (e .1) (dim k) (R .rooted .arc k l h .0) }
+      linked = record { slot = λ r b. let e = source-slot r b in well .below _ (e .0) (e .1) (dim k) (R .rooted .arc k l h .0) }
 
       module _ (s″ : List ℕ) (C : Column m (dim k) (getD cols (parent k) 0) s′ s″ (k * size) size) where
         abbrev cols′ : List ℕ
@@ -155,7 +152,7 @@ module _ (N : ℕ) (t s : List ℕ) (size : ℕ) (nodes parents dims : List ℕ)
                   let at : e ≡ k * size + (e - k * size) = omega arith in
                   let p = source-slot (e - k * size) q in
                   ap (λ (z : ℕ). m .state (place N s″ z)) at ∙ ap (m .state) (C .darts (e - k * size) q)
-                  ∙ R .well .alive _ (p .0) (p .1) (dim k) (R .rooted .arc k l h .0));
+                  ∙ well .alive _ (p .0) (p .1) (dim k) (R .rooted .arc k l h .0));
               begins = λ j b. by-cases (ℕ-discrete j k)
                   (λ e. rw e col-new)
                   (λ ne. let c : j < k = omega arith in col-old j c ∙ G .begins j c);
@@ -168,22 +165,22 @@ module _ (N : ℕ) (t s : List ℕ) (size : ℕ) (nodes parents dims : List ℕ)
 
   -- ---- where there is a match
 
-  module _ (q : matches m S O ≡ true) where
-    pub assignment : Assignment m S O (image m S)
-    assignment = match-assigns m S (R .accepted) O good (R .well) q
+  module _ (q : matches E ≡ true) where
+    pub assignment : Assignment E (image E)
+    assignment = match-assigns E accepted good well q
 
     pub arc-image : (u v i w : ℕ) → O u ≡ true → v < S .nodes → has S left v ≡ true → i ≤ S .n → arcAt S left v i ≡ explicit w
-        → m .link i (image m S u v) ≡ image m S u w
+        → m .link i (image E u v) ≡ image E u w
     unfolding arcHolds
-    arc-image u v i w e h l k a = eqb-true _ _ (arc-of m S (R .accepted) O good (image m S) assignment u e v h l i k (explicit w) a)
+    arc-image u v i w e h l k a = eqb-true _ _ (arc-of E accepted good (image E) assignment u e v h l i k (explicit w) a)
 
     pub turn-image : (u v i p : ℕ) → O u ≡ true → v < S .nodes → has S left v ≡ true → i ≤ S .n → arcAt S left v i ≡ implicit p
-        → m .link i (image m S u v) ≡ image m S (m .link (orbitDim S p) u) v
+        → m .link i (image E u v) ≡ image E (m .link (orbitDim S p) u) v
     unfolding arcHolds
-    turn-image u v i p e h l k a = eqb-true _ _ (arc-of m S (R .accepted) O good (image m S) assignment u e v h l i k (implicit p) a)
+    turn-image u v i p e h l k a = eqb-true _ _ (arc-of E accepted good (image E) assignment u e v h l i k (implicit p) a)
 
     -- the step along the tree's arc to entry k
-    tree-image : (u k x : ℕ) → O u ≡ true → 1 ≤ k → k < count → x ≡ image m S u (parent k) → m .link (dim k) x ≡ image m S u (node k)
+    tree-image : (u k x : ℕ) → O u ≡ true → 1 ≤ k → k < count → x ≡ image E u (parent k) → m .link (dim k) x ≡ image E u (node k)
     tree-image u k x e l h a =
         let b = R .rooted .arc k l h in
         let p = R .rooted .earlier k l h in
@@ -193,7 +190,7 @@ module _ (N : ℕ) (t s : List ℕ) (size : ℕ) (nodes parents dims : List ℕ)
 
     -- two pairs with one image are one pair
     one-pair : (r q j i : ℕ) → r < size → q < size → j < count → i < count
-        → image m S (place N s r) (node j) ≡ image m S (place N s q) (node i) → (r ≡ q) × (j ≡ i)
+        → image E (place N s r) (node j) ≡ image E (place N s q) (node i) → (r ≡ q) × (j ≡ i)
     one-pair r q j i a b c e f =
         let on = R .rooted .onLeft j c in
         let at = R .rooted .onLeft i e in
@@ -202,49 +199,50 @@ module _ (N : ℕ) (t s : List ℕ) (size : ℕ) (nodes parents dims : List ℕ)
         let same : mark s (place N s r) ≡ mark s (place N s q) = ap (mark s) (p .0) in
         (omega (arith, R .walked .back r a, R .walked .back q b), R .rooted .once j i c e (p .1))
 
-    module _ (s′ cols : List ℕ) (k : ℕ) (few : k ≤ count) (G : Grown m nodes parents dims s s′ cols size k) where
+    module _ {s′ cols : List ℕ} {k : ℕ} (G : Grown m nodes parents dims s s′ cols size k) (few : k ≤ count) where
       -- the first column is the orbit
-      first-image : (r : ℕ) → 1 ≤ k → r < size → dartAt s′ (getD cols (node 0) 0) r ≡ image m S (place N s r) (node 0)
+      first-image : (r : ℕ) → 1 ≤ k → r < size → dartAt s′ (getD cols (node 0) 0) r ≡ image E (place N s r) (node 0)
       first-image r l h =
           let u = place N s r in
           let z : 0 * size + r ≡ r = omega arith in
-          dart-at s′ cols k G 0 r l ∙ ap (place N s′) z ∙ G .longer .places r h
-          ∙ sym (assignment .hook u (R .walked .slot r h) (orbit-at r h)) ∙ ap (image m S u) (sym (R .rooted .root))
+          dart-at G 0 r l ∙ ap (place N s′) z ∙ G .longer .places r h
+          ∙ sym (assignment .hook u (R .walked .slot r h) (orbit-at r h)) ∙ ap (image E u) (sym (R .rooted .root))
 
-      images-below : (b j r : ℕ) → j < b → j < k → r < size → dartAt s′ (getD cols (node j) 0) r ≡ image m S (place N s r) (node j)
+      images-below : (b j r : ℕ) → j < b → j < k → r < size → dartAt s′ (getD cols (node j) 0) r ≡ image E (place N s r) (node j)
       images-below zero j r h l c = absurd (not-suc-le-zero h)
       images-below (suc b) j r h l c = by-cases (ℕ-discrete j 0)
-          (λ z. subst (λ (i : ℕ). dartAt s′ (getD cols (node i) 0) r ≡ image m S (place N s r) (node i)) (sym z) (first-image r (omega arith) c))
+          (λ z. subst (λ (i : ℕ). dartAt s′ (getD cols (node i) 0) r ≡ image E (place N s r) (node i)) (sym z) (first-image r (omega arith) c))
           (λ ne.
           let some : 1 ≤ j = omega arith in
           let p = R .rooted .earlier j some (omega arith) in
-          let up : dartAt s′ (getD cols (parent j) 0) r ≡ image m S (place N s r) (parent j) =
-          subst (λ (v : ℕ). dartAt s′ (getD cols v 0) r ≡ image m S (place N s r) v) (p .2) (images-below b (p .0) r (omega (arith, p .1)) (omega (arith, p .1)) c) in
+          let up : dartAt s′ (getD cols (parent j) 0) r ≡ image E (place N s r) (parent j) =
+          subst (λ (v : ℕ). dartAt s′ (getD cols v 0) r ≡ image E (place N s r) v) (p .2)
+          (images-below b (p .0) r (omega (arith, p .1)) (omega (arith, p .1)) c) in
           G .steps j r some l c ∙ tree-image (place N s r) j _ (orbit-at r c) some (omega arith) up)
 
       -- what stands in a column is the image of its pair
-      pub images : (j r : ℕ) → j < k → r < size → dartAt s′ (getD cols (node j) 0) r ≡ image m S (place N s r) (node j)
+      pub images : (j r : ℕ) → j < k → r < size → dartAt s′ (getD cols (node j) 0) r ≡ image E (place N s r) (node j)
       images j r l c = images-below (suc j) j r (omega arith) l c
 
       module _ (l : 1 ≤ k) (h : k < count) where
-        next-image : (r : ℕ) → r < size → m .link (dim k) (dartAt s′ (getD cols (parent k) 0) r) ≡ image m S (place N s r) (node k)
+        next-image : (r : ℕ) → r < size → m .link (dim k) (dartAt s′ (getD cols (parent k) 0) r) ≡ image E (place N s r) (node k)
         next-image r c =
             let p = R .rooted .earlier k l h in
             tree-image (place N s r) k _ (orbit-at r c) l h
-            (subst (λ (v : ℕ). dartAt s′ (getD cols v 0) r ≡ image m S (place N s r) v) (p .2) (images (p .0) r (p .1) c))
+            (subst (λ (v : ℕ). dartAt s′ (getD cols v 0) r ≡ image E (place N s r) v) (p .2) (images (p .0) r (p .1) c))
 
         -- a dart of the next column that has a place already is the image of two pairs
         pub taken-twice : (s″ : List ℕ) (r : ℕ) → r < size → Column m (dim k) (getD cols (parent k) 0) s′ s″ (k * size) r
             → 1 ≤ mark s″ (m .link (dim k) (dartAt s′ (getD cols (parent k) 0) r)) → ⊥
         taken-twice s″ r c C a =
             let y = m .link (dim k) (dartAt s′ (getD cols (parent k) 0) r) in
-            let f = C .taken .found y (linked s′ cols k G l h .slot r c) a in
+            let f = C .taken .found y (linked G l h .slot r c) a in
             let e = mark s″ y - 1 in
             by-cases (decLt e (k * size))
             (λ old.
             let w = row-of size k e (R .walked .some) old in
             let at : place N s″ e ≡ dartAt s′ (getD cols (node (w .0)) 0) (w .1) =
-            C .longer .places e old ∙ ap (place N s′) (w .4) ∙ sym (dart-at s′ cols k G (w .0) (w .1) (w .2)) in
+            C .longer .places e old ∙ ap (place N s′) (w .4) ∙ sym (dart-at G (w .0) (w .1) (w .2)) in
             let p = one-pair r (w .1) k (w .0) c (w .3) h (omega (arith, w .2)) (sym (next-image r c) ∙ sym (f .1) ∙ at ∙ images (w .0) (w .1) (w .2) (w .3)) in
             absurd (omega (arith, p .1, w .2)))
             (λ new.
@@ -257,39 +255,40 @@ module _ (N : ℕ) (t s : List ℕ) (size : ℕ) (nodes parents dims : List ℕ)
 
 -- ---- the loop over the entries
 
-pub columns-done : (N : ℕ) (t nodes parents dims s s′ cols : List ℕ) (size count k : ℕ) → k ≤ count → count ≤ k
+pub columns-done : {N : ℕ} {t nodes parents dims s s′ cols : List ℕ} {size count k : ℕ} → k ≤ count → count ≤ k
     → Grown (view N t) nodes parents dims s s′ cols size k → ColumnedAll N t nodes parents dims s s′ cols size count true
-columns-done N t nodes parents dims s s′ cols size count k h l G = record {
+columns-done {count = count} {k = k} h l G = record {
   done = λ e. let same : k ≡ count = omega arith in rw (← same) G;
   none = λ e. absurd (true≢false e);
 }
 
 -- the nodes of an entry are within the arrays
-module _ (N : ℕ) (t s : List ℕ) (size : ℕ) (nodes parents dims : List ℕ) (count : ℕ) (R : BeforeMatching N t s size nodes parents dims count) (k x : ℕ) (h : k < count) where
+module _ {N : ℕ} {t s : List ℕ} {size : ℕ} {nodes parents dims : List ℕ} {count : ℕ}
+    (R : BeforeMatching N t s size nodes parents dims count) {k x : ℕ} (h : k < count) where
   pub node-fits : x ≡ getD nodes k 0 → x < 16
-  node-fits a = rw a (node-below N t s size nodes parents dims count R k h)
+  node-fits a = rw a (node-below R k h)
 
   pub parent-fits : 1 ≤ k → x ≡ getD parents k 0 → x < 16
   parent-fits l a =
       let p = R .rooted .earlier k l h in
-      rw (a, ← p .2) (node-below N t s size nodes parents dims count R (p .0) (omega (arith, p .1)))
+      rw (a, ← p .2) (node-below R (p .0) (omega (arith, p .1)))
 
 -- from, i and end are what the loop hands to the column of entry k
-module _ (N : ℕ) (t s : List ℕ) (size : ℕ) (nodes parents dims : List ℕ) (count : ℕ) (s′ cols : List ℕ) (k : ℕ)
-    (G : Grown (view N t) nodes parents dims s s′ cols size k) (l : 1 ≤ k) (h : k < count) (x i end : ℕ)
+module _ {N : ℕ} {t s : List ℕ} {size : ℕ} {nodes parents dims : List ℕ} {count : ℕ} {s′ cols : List ℕ} {k : ℕ}
+    (G : Grown (view N t) nodes parents dims s s′ cols size k) (l : 1 ≤ k) (h : k < count) {x i end : ℕ}
     (a : x ≡ getD parents k 0) (b : i ≡ getD dims k 0) (e : end ≡ k * size) where
   module _ (R : BeforeMatching N t s size nodes parents dims count) where
     pub column-asks : Sized N t × (Taken N s′ end × (((i ≤ 3) × (size ≤ N) × (N ≤ getD cols x 0) × (getD cols x 0 + size ≤ N + end))
         × Linked (view N t) i s′ (getD cols x 0) size))
     column-asks =
-        let from = source N t s size nodes parents dims count R s′ cols k G l h in
+        let from = source R G l h in
         let few = R .walked .fits in (
-          R .sized,
+          R .at .sized,
           (
             rw e (G .taken),
             (
-              (rw b (dim-below N t s size nodes parents dims count R k l h), few, rw a (from .0), rw (a, e) (from .1)),
-              rw (a, b) (linked N t s size nodes parents dims count R s′ cols k G l h),
+              (rw b (dim-below R k l h), few, rw a (from .0), rw (a, e) (from .1)),
+              rw (a, b) (linked R G l h),
             ),
           ),
         )
@@ -298,16 +297,17 @@ module _ (N : ℕ) (t s : List ℕ) (size : ℕ) (nodes parents dims : List ℕ)
         → Grown (view N t) nodes parents dims s s″ (set cols y (N + end)) size (k + 1)
     columns-more s″ y c w C z =
         let D : Column (view N t) (getD dims k 0) (getD cols (getD parents k 0) 0) s′ s″ (k * size) size = rw (a, b, e) at (C .done z) in
-        rw (c, e) (grown-more N t s size nodes parents dims count R s′ cols k G l h s″ D)
+        rw (c, e) (grown-more R G l h s″ D)
 
-  pub columns-clash : (s″ : List ℕ) (w : Bool) → Columned (view N t) i (getD cols x 0) s′ s″ end size w → w ≡ false → ColumnedAll N t nodes parents dims s s″ cols size count false
+  pub columns-clash : (s″ : List ℕ) (w : Bool) → Columned (view N t) i (getD cols x 0) s′ s″ end size w → w ≡ false
+      → ColumnedAll N t nodes parents dims s s″ cols size count false
   columns-clash s″ w C z = record {
     done = λ f. absurd (true≢false (sym f));
     none = λ f R. ⊎-elim
         (λ q.
         let y : (r : ℕ) × (r < size) × Column (view N t) (getD dims k 0) (getD cols (getD parents k 0) 0) s′ s″ (k * size) r
         × (1 ≤ mark s″ (view N t .link (getD dims k 0) (dartAt s′ (getD cols (getD parents k 0) 0) r))) = rw (a, b, e) at (C .clash z) in
-        absurd (taken-twice N t s size nodes parents dims count R q s′ cols k (omega arith) G l h s″ (y .0) (y .1) (y .2) (y .3)))
+        absurd (taken-twice R q G (omega arith) l h s″ (y .0) (y .1) (y .2) (y .3)))
         (λ q. q)
-        (true-or-false (matchesAt (view N t) (R .scheme) (R .dart)));
+        (true-or-false (matches (site (R .at))));
   }

@@ -5,27 +5,28 @@ use mathlib.Core.Path.{_≡_}
 use mathlib.Core.Bool.{Bool, true}
 use mathlib.Core.List.{List}
 use lib.ListN.{length}
-use Rattle.model.specs.Map.{view}
 use Rattle.model.specs.Scheme.{left}
-use Rattle.model.specs.declared.Scheme.{Scheme}
+use Rattle.model.specs.Site.{Site}
+use Rattle.model.specs.Match.{matches}
 use Rattle.conditions.specs.Arcs.{Coded}
 use Rattle.orbit.specs.Store.{Assigned, Kept}
-use Rattle.matching.specs.Columns.{BeforeMatching, matchesAt}
+use Rattle.orbit.specs.At.{site}
+use Rattle.matching.specs.Columns.{BeforeMatching}
 
 -- what the columns start from, with the codes of the scheme's left arcs, and room for the columns of all nodes
 pub record Posed (N : ℕ) (t s : List ℕ) (size : ℕ) (nodes parents dims : List ℕ) (count : ℕ) (codes cols : List ℕ) : Type 0 where
   pub ready : BeforeMatching N t s size nodes parents dims count
-  pub coded : Coded (ready .scheme) left codes
+  pub coded : Coded (ready .at .scheme) left codes
   pub colsLong : length cols ≡ 16
 
--- the answer on the match at the orbit of d, and what the store and the columns hold where there is one
-pub record Matched (S : Scheme) (d N : ℕ) (t s s′ cols : List ℕ) (size : ℕ) (answer : Bool) : Type 0 where
-  pub is : answer ≡ matchesAt (view N t) S d
+-- the answer on the match at a site, and what the store and the columns hold where there is one
+pub record Matched (E : Site) (s s′ cols : List ℕ) (size : ℕ) (answer : Bool) : Type 0 where
+  pub is : answer ≡ matches E
   pub long : length s′ ≡ length s
-  pub assigned : answer ≡ true → Assigned (view N t) S s′ cols size
-  pub kept : answer ≡ true → Kept N s s′ size
+  pub assigned : answer ≡ true → Assigned E s′ cols size
+  pub kept : answer ≡ true → Kept (E .map .slots) s s′ size
   pub wide : answer ≡ true → length cols ≡ 16
 
--- it is the answer for the scheme and the dart that it was asked for
+-- it is the answer for the site at which it was asked
 pub record Answered (N : ℕ) (t s : List ℕ) (size : ℕ) (nodes parents dims : List ℕ) (count : ℕ) (codes cols s′ cols′ : List ℕ) (answer : Bool) : Type 0 where
-  pub at : (P : Posed N t s size nodes parents dims count codes cols) → Matched (P .ready .scheme) (P .ready .dart) N t s s′ cols′ size answer
+  pub at : (P : Posed N t s size nodes parents dims count codes cols) → Matched (site (P .ready .at)) s s′ cols′ size answer

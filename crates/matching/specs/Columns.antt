@@ -6,15 +6,12 @@ use mathlib.Core.Bool.{Bool, true, false}
 use mathlib.Core.List.{List}
 use lib.ListN.{length, getD}
 use Rattle.model.specs.Map.{Map, view}
-use Rattle.model.specs.WellFormed.{WellFormed}
-use Rattle.model.specs.Scheme.{left, orbitDim, has}
+use Rattle.model.specs.Scheme.{left, has}
 use Rattle.model.specs.Conditions.{explicit, arcAt}
-use Rattle.model.specs.Accepted.{Accepted}
-use Rattle.model.specs.Orbit.{orbit}
 use Rattle.model.specs.Match.{matches}
 use Rattle.model.specs.declared.Scheme.{Scheme}
-use Rattle.table.specs.Words.{Sized}
-use Rattle.orbit.specs.Store.{mark, place, dartAt, Taken, Walked}
+use Rattle.orbit.specs.Store.{mark, place, dartAt, Taken}
+use Rattle.orbit.specs.At.{At, site, WalkedAt}
 
 -- a tree of left arcs over all left nodes: entry k is a node that an arc joins to the node of an earlier entry
 pub record Rooted (S : Scheme) (size : ℕ) (node parent dim : List ℕ) : Type 0 where
@@ -27,22 +24,12 @@ pub record Rooted (S : Scheme) (size : ℕ) (node parent dim : List ℕ) : Type 
   pub once : (j k : ℕ) → j < size → k < size → getD node j 0 ≡ getD node k 0 → j ≡ k
   pub every : (s : ℕ) → s < S .nodes → has S left s ≡ true → (k : ℕ) × (k < size) × (getD node k 0 ≡ s)
 
--- an accepted scheme with its tree, a table that is well-formed for it, and in the store the orbit of a live dart
+-- an accepted scheme with its tree, at a live dart of a table that is well-formed for it, and in the store the orbit of the dart
 pub record BeforeMatching (N : ℕ) (t s : List ℕ) (size : ℕ) (nodes parents dims : List ℕ) (count : ℕ) : Type 0 where
-  pub scheme : Scheme
-  pub dart : ℕ
-  pub accepted : Accepted scheme
-  pub sized : Sized N t
-  pub well : WellFormed (scheme .n) (view N t)
-  pub below : dart < N
-  pub alive : view N t .state dart ≡ 1
-  pub walked : Walked (view N t) (scheme .places) (orbitDim scheme) dart s size
+  pub at : At N t
+  pub walked : WalkedAt (site at) s size
   pub taken : Taken N s size
-  pub rooted : Rooted scheme count nodes parents dims
-
--- whether there is a match at the orbit of d
-abbrev pub matchesAt : Map → Scheme → ℕ → Bool
-matchesAt m S d = matches m S (orbit m (S .places) (orbitDim S) d)
+  pub rooted : Rooted (at .scheme) count nodes parents dims
 
 -- s′ has what s has at its first `end` places and behind the places
 pub record Longer (N : ℕ) (s s′ : List ℕ) (end : ℕ) : Type 0 where
@@ -77,4 +64,4 @@ pub record Grown (m : Map) (nodes parents dims : List ℕ) (s s′ cols : List �
 -- all entries have their columns, or else there is no match
 pub record ColumnedAll (N : ℕ) (t : List ℕ) (nodes parents dims : List ℕ) (s s′ cols : List ℕ) (size count : ℕ) (whole : Bool) : Type 0 where
   pub done : whole ≡ true → Grown (view N t) nodes parents dims s s′ cols size count
-  pub none : whole ≡ false → (R : BeforeMatching N t s size nodes parents dims count) → matchesAt (view N t) (R .scheme) (R .dart) ≡ false
+  pub none : whole ≡ false → (R : BeforeMatching N t s size nodes parents dims count) → matches (site (R .at)) ≡ false

@@ -15,8 +15,8 @@ use Rattle.base.specs.Below.{countBelow}
 use Rattle.model.specs.Map.{Map}
 use Rattle.model.specs.Scheme.{left, has}
 use Rattle.model.specs.Orbit.{orbit}
+use Rattle.model.specs.Site.{Site}
 use Rattle.model.specs.Match.{image}
-use Rattle.model.specs.declared.Scheme.{Scheme}
 
 unfoldable pub mark : List ℕ → ℕ → ℕ
 mark s x = getD s x 0
@@ -70,7 +70,10 @@ pub record Kept (N : ℕ) (s s′ : List ℕ) (size : ℕ) : Type 0 where
   pub ranks : (x : ℕ) → x < N → among s size x ≡ true → mark s′ x ≡ mark s x
   pub nexts : (r p : ℕ) → r < size → p < 4 → next N s′ r p ≡ next N s r p
 
--- the darts of the left pairs stand in columns, of which `cols` has the begin for each node
-pub record Assigned (m : Map) (S : Scheme) (s cols : List ℕ) (size : ℕ) : Type 0 where
-  pub inside : (v : ℕ) → v < S .nodes → has S left v ≡ true → (m .slots ≤ getD cols v 0) × (getD cols v 0 + size ≤ 2 * m .slots)
-  pub dart : (v r : ℕ) → v < S .nodes → has S left v ≡ true → r < size → dartAt s (getD cols v 0) r ≡ image m S (place (m .slots) s r) v
+module _ (E : Site) where
+  open Site E using (map as m, scheme as S)
+
+  -- the darts of the left pairs stand in columns, of which `cols` has the begin for each node
+  pub record Assigned (s cols : List ℕ) (size : ℕ) : Type 0 where
+    pub inside : (v : ℕ) → v < S .nodes → has S left v ≡ true → (m .slots ≤ getD cols v 0) × (getD cols v 0 + size ≤ 2 * m .slots)
+    pub dart : (v r : ℕ) → v < S .nodes → has S left v ≡ true → r < size → dartAt s (getD cols v 0) r ≡ image E (place (m .slots) s r) v

@@ -15,14 +15,14 @@ same-length c = search needs
 returns : tie.Need-returns
 returns c =
     let k = c .before .before .before in
-    record { at = λ p. unmatched _ _ _ _ _ _ _ _ (k .columns .ensures .none (not-true _ (c .if1 .taken)) (p .ready)) (k .columns .kept .1 .1 .0) }
+    record { at = λ p. unmatched (k .columns .ensures .none (not-true _ (c .if1 .taken)) (p .ready)) (k .columns .kept .1 .1 .0) }
 
 arcs-requires : tie.Need-arcs-requires
 arcs-requires c κs =
     let e = c .before .before in
     let k = e .before .before .before in
     let p = k .before .before .before .before .before .pre in
-    firm _ _ _ _ _ _ _ _ (p .ready) _ _ (k .columns .ensures .done (not-false _ (e .if1 .left))) _ (p .coded)
+    firm (p .ready) (k .columns .ensures .done (not-false _ (e .if1 .left))) (p .coded)
 
 same-length-2 : tie.Need-same-length-2
 same-length-2 c = search needs
@@ -31,7 +31,7 @@ returns-2 : tie.Need-returns-2
 returns-2 c =
     let e = c .before .before .before in
     let k = e .before .before .before in
-    record { at = λ p. matched _ _ _ _ _ _ _ _ (p .ready) _ _ (k .columns .ensures .done (not-false _ (e .if1 .left))) _ (p .coded) _ (c .arcs .ensures) }
+    record { at = λ p. matched (p .ready) (k .columns .ensures .done (not-false _ (e .if1 .left))) (p .coded) _ (c .arcs .ensures) }
 
 pub assign-spec : {M : Type 1} → statement M
 assign-spec =

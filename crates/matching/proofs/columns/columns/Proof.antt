@@ -23,13 +23,13 @@ parent : (c : tie.After-wide Inv-loop μ-loop) → c .wide .result < 16
 parent c =
     let l = c .before .before in
     let a = l .before .before .before .before in
-    parent-fits _ _ _ _ _ _ _ _ (a .pre .1) _ _ (l .loop-test .taken) (l .before .loop .inv .0) (c .wide .ensures .0)
+    parent-fits (a .pre .1) (l .loop-test .taken) (l .before .loop .inv .0) (c .wide .ensures .0)
 
 node : (c : tie.After-wide3 Inv-loop μ-loop) → c .wide3 .result < 16
 node c =
     let l = c .before .before .before .before .before .before .before .before .before .before .before .before in
     let a = l .before .before .before .before in
-    node-fits _ _ _ _ _ _ _ _ (a .pre .1) _ _ (l .loop-test .taken) (c .wide3 .ensures .0)
+    node-fits (a .pre .1) (l .loop-test .taken) (c .wide3 .ensures .0)
 
 element-write-cols : tie.Need-element-write-cols Inv-loop μ-loop
 element-write-cols c = search needs
@@ -37,7 +37,7 @@ element-write-cols c = search needs
 loop-holds : tie.Need-loop-holds Inv-loop μ-loop
 loop-holds c =
     let p = c .before .before .pre in
-    (omega arith, p .1 .rooted .some, omega arith, grown-one _ _ _ _ _ _ _ _ (p .1) (now (c .before .before .args .cols)) (p .0))
+    (omega arith, p .1 .rooted .some, omega arith, grown-one (p .1) (now (c .before .before .args .cols)) (p .0))
 
 element-copy-out-wide : tie.Need-element-copy-out-wide Inv-loop μ-loop
 element-copy-out-wide c = search needs
@@ -63,7 +63,7 @@ column-requires c κs =
     let l = w .before .before in
     let inv = l .before .loop .inv in
     let a = l .before .before .before .before in
-    column-asks _ _ _ _ _ _ _ _ _ _ _ (inv .3) (inv .0) (l .loop-test .taken) _ _ _ (w .wide .ensures .0) (c .wide2 .ensures .0) (inv .2) (a .pre .1)
+    column-asks (inv .3) (inv .0) (l .loop-test .taken) (w .wide .ensures .0) (c .wide2 .ensures .0) (inv .2) (a .pre .1)
 
 same-length : tie.Need-same-length Inv-loop μ-loop
 same-length c = search needs
@@ -75,7 +75,8 @@ returns c =
     let w = d .before .before .before .before in
     let l = w .before .before in
     let inv = l .before .loop .inv in
-    columns-clash _ _ _ _ _ _ _ _ _ _ _ (inv .3) (inv .0) (l .loop-test .taken) _ _ _ (w .wide .ensures .0) (d .wide2 .ensures .0) (inv .2) _ _ (k .column .ensures) (not-true _ (c .if1 .taken))
+    columns-clash (inv .3) (inv .0) (l .loop-test .taken) (w .wide .ensures .0) (d .wide2 .ensures .0) (inv .2) _ _
+    (k .column .ensures) (not-true _ (c .if1 .taken))
 
 add-cols : tie.Need-add-cols Inv-loop μ-loop
 add-cols c = search needs
@@ -113,7 +114,7 @@ loop-again c =
       omega arith,
       omega arith,
       omega arith,
-      columns-more _ _ _ _ _ _ _ _ _ _ _ (inv .3) (inv .0) (l .loop-test .taken) _ _ _ (w .wide .ensures .0) (d .wide2 .ensures .0) (inv .2) (a .pre .1)
+      columns-more (inv .3) (inv .0) (l .loop-test .taken) (w .wide .ensures .0) (d .wide2 .ensures .0) (inv .2) (a .pre .1)
           _ _ (c .wide3 .ensures .0) _ (k .column .ensures) (not-false _ (e .if1 .left)),
     )
 
@@ -123,7 +124,7 @@ same-length-2 c = search needs
 returns-2 : tie.Need-returns-2 Inv-loop μ-loop
 returns-2 c =
     let inv = c .before .loop .inv in
-    columns-done _ _ _ _ _ _ _ _ _ _ _ (inv .1) (c .loop-test .left) (inv .3)
+    columns-done (inv .1) (c .loop-test .left) (inv .3)
 
 pub columns-spec : {M : Type 1} → statement M
 columns-spec =
