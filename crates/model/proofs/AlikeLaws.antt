@@ -12,12 +12,12 @@ use Rattle.base.specs.First.{nthLowest}
 use Rattle.base.proofs.TestLaws.{same-test}
 use Rattle.base.proofs.BelowLaws.{count-same}
 use Rattle.base.proofs.FirstLaws.{nth-same}
-use Rattle.model.specs.Map.{Map, view, tableOf, live, unused}
+use Rattle.model.specs.Map.{Map, State, Link, Tag, view, tableOf, live, unused}
 use Rattle.model.specs.WellFormed.{WellFormed, wellFormed}
 use Rattle.model.specs.Orbit.{orbit, InOrbit, itself, onward}
 use Rattle.model.specs.Alike.{Alike}
 use Rattle.model.proofs.WellFormedLaws.{wellFormed-iff}
-use Rattle.model.proofs.MapLaws.{state-words, link-words, tag-words}
+use Rattle.model.proofs.MapLaws.{field-words}
 use Rattle.model.proofs.OrbitLaws.{orbit-reached, reached-dart, orbit-iff}
 
 -- ---- an equivalence
@@ -50,9 +50,9 @@ alike-trans {m} {m′} {m″} a b = record {
 pub words-alike : (m : Map) → Alike (view (m .slots) (tableOf m)) m
 words-alike m = record {
   slots = refl;
-  live = λ x h. ((λ e. sym (state-words m x h) ∙ e), (λ e. state-words m x h ∙ e));
-  link = λ x h l i k. link-words m x h i k;
-  tag = λ x h l. tag-words m x h;
+  live = λ x h. ((λ e. sym (field-words m x h State (omega arith)) ∙ e), (λ e. field-words m x h State (omega arith) ∙ e));
+  link = λ x h l i k. field-words m x h (Link i) k;
+  tag = λ x h l. field-words m x h Tag (omega arith);
 }
 
 -- ---- well-formedness
@@ -94,12 +94,12 @@ module _ (n : ℕ) (small : n ≤ 3) (m m′ : Map) (a : Alike m m′) (w : Well
 -- the table of a well-formed map is well-formed
 pub words-well : (n : ℕ) (m : Map) → n ≤ 3 → WellFormed n m → WellFormed n (view (m .slots) (tableOf m))
 words-well n m small w = well-alike n small m _ (alike-sym (words-alike m)) w
-    (λ x h. ⊎-elim (λ e. inl (state-words m x h ∙ e)) (λ e. inr (state-words m x h ∙ e)) (w .states x h))
+    (λ x h. ⊎-elim (λ e. inl (field-words m x h State (omega arith) ∙ e)) (λ e. inr (field-words m x h State (omega arith) ∙ e)) (w .states x h))
 
 -- and only of one
 well-words : (n : ℕ) (m : Map) → n ≤ 3 → WellFormed n (view (m .slots) (tableOf m)) → WellFormed n m
 well-words n m small w = well-alike n small _ m (words-alike m) w
-    (λ x h. ⊎-elim (λ e. inl (sym (state-words m x h) ∙ e)) (λ e. inr (sym (state-words m x h) ∙ e)) (w .states x h))
+    (λ x h. ⊎-elim (λ e. inl (sym (field-words m x h State (omega arith)) ∙ e)) (λ e. inr (sym (field-words m x h State (omega arith)) ∙ e)) (w .states x h))
 
 -- a map is well-formed just if its table is
 pub words-formed : (n : ℕ) (m : Map) → n ≤ 3 → wellFormed n (view (m .slots) (tableOf m)) ≡ wellFormed n m

@@ -4,7 +4,7 @@ use Rattle.base.specs.Test.{_and_, _or_, _⇒_}
 use Rattle.base.specs.Below.{allBelow, anyBelow, countBelow}
 use Rattle.base.specs.First.{someIf, _orElse_, there, first, least, nthLowest}
 use Rattle.base.specs.Lists.{list, listFrom, joined}
-use Rattle.model.specs.Map.{tableOf}
+use Rattle.model.specs.Map.{fieldAt, tableOf}
 use Rattle.model.specs.WellFormed as W
 use Rattle.model.specs.Reach.{next, rounds, paths}
 use Rattle.model.specs.Arc.{farEnd}
@@ -18,7 +18,7 @@ use Rattle.model.specs.File as F
 use Rattle.model.specs.Calls as A
 
 unfoldable pub computes : Unit {0}
-unfolding _and_ _or_ _⇒_ someIf _orElse_ there allBelow anyBelow countBelow first least nthLowest list listFrom joined tableOf next rounds paths
+unfolding _and_ _or_ _⇒_ someIf _orElse_ there allBelow anyBelow countBelow first least nthLowest list listFrom joined fieldAt tableOf next rounds paths
     W.allPairs W.linkOk W.squareOk W.dartOk W.wellFormed S.orbitForm S.wordForm S.wordEmpty S.nodeForm S.arcForm S.arcsForm S.inForm farEnd S.wordsOf
     placed targetsOf S.arcsOf S.schemeOf C.arcsOfDim C.arcAt C.leftArc C.pathTo C.hookRight C.hookFault C.incidenceOk C.incidenceFault C.fourArcs
     C.oneArc C.bothImplicit C.onCycle C.cycleOk C.cycleFault C.schemeFault O.leads O.orbit M.walk M.image M.arcHolds M.eachPair M.onlyPair M.matches

@@ -7,14 +7,14 @@ use mathlib.Core.Bool.{Bool, true, false, not, cond}
 use mathlib.Core.Option.{Option, none, some, Option·getD}
 use mathlib.Core.List.{List, [], _++_}
 use native.Mathlib.Omega.{arith}
-use lib.ListN.{length, getD, take, drop, replicate, length-replicate, getD-replicate}
+use lib.ListN.{length, getD, take, drop, replicate, length-replicate}
 use lib.Seq.{take-append-seam}
 use lib.Dec.{eqb, ltb, leb}
 use borrow.Author.Tests.{eq-eqb, ne-eqb}
 use Rattle.base.specs.Test.{_and_, _or_}
 use Rattle.base.specs.First.{someIf, there, _orElse_}
 use Rattle.base.proofs.FirstLaws.{or-else-none}
-use Rattle.model.specs.Map.{Map, view, tableOf, tableSize}
+use Rattle.model.specs.Map.{Map, State, view, tableOf, tableSize}
 use Rattle.model.specs.WellFormed.{WellFormed, wellFormed}
 use Rattle.model.specs.Edit.{edited}
 use Rattle.model.specs.File.{file, fileMap}
@@ -26,7 +26,7 @@ use Rattle.model.specs.declared.Answer.{Answer}
 use Rattle.model.specs.declared.Answer.the-variants.{Done, Written, BadCall, BadTable, ShortOutput}
 use Rattle.model.proofs.SizeLaws.{sizes-iff}
 use Rattle.model.proofs.WellFormedLaws.{wellFormed-iff}
-use Rattle.model.proofs.MapLaws.{length-words}
+use Rattle.model.proofs.MapLaws.{field-zero, length-words}
 use Rattle.model.proofs.AlikeLaws.{words-well}
 use Rattle.model.proofs.CallLaws.{passed, granted, edit-table, edit-table-well}
 
@@ -75,7 +75,7 @@ module _ (n N : ℕ) (t : List ℕ) where
     zeros-hold = record {
       sizes = sizes-too (zeros t) (length-replicate (length t) 0);
       well = record {
-        states = λ x h. inl (unused-zero x h);
+        states = λ x h. inl (field-zero (length t) State x);
         below = λ x h l i k. absurd (dead x h l);
         alive = λ x h l i k. absurd (dead x h l);
         back = λ x h l i k. absurd (dead x h l);
@@ -84,11 +84,8 @@ module _ (n N : ℕ) (t : List ℕ) where
       };
     }
       where
-        unused-zero : (x : ℕ) → x < N → view N (zeros t) .state x ≡ 0
-        unused-zero x h = let len = table-length in getD-replicate (length t) (6 * x) 0 0 (omega arith)
-
         dead : (x : ℕ) → x < N → view N (zeros t) .state x ≡ 1 → ⊥
-        dead x h l = let z = unused-zero x h in omega arith
+        dead x h l = omega (arith, field-zero (length t) State x)
 
 -- ---- what the calls leave
 

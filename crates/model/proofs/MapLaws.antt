@@ -1,85 +1,131 @@
 -- The view and the table are two forms of one thing: a table is the words of its view, and a map is the view of its words.
 -- Assumes nothing.
-use Prim.Native.Nat.{ℕ, zero, suc, _+_, _*_, _≤_, _<_}
-use mathlib.Core.Path.{_≡_, refl, sym, ap, ap₂, _∙_}
-use mathlib.Core.List.{List, [], _∷_, _++_}
+use Prim.Native.Nat.{ℕ, zero, suc, _+_, _*_, _/_, _%_, _≤_, _<_}
+use mathlib.Core.Path.{_≡_, refl, sym, ap, _∙_}
+use mathlib.Core.Logic.{⊎-elim}
+use mathlib.Core.List.{List}
 use native.Mathlib.Omega.{arith}
-use lib.ListN.{length, getD, take, drop, length-drop}
-use lib.Seq.{take-add, take-all, getD-drop}
-use Rattle.base.specs.Lists.{joined}
-use Rattle.model.specs.Map.{Map, view, tableSize, recordOf, tableOf}
-use Rattle.base.proofs.ListLaws.{length-joined, getD-joined, joined-same}
+use lib.ListN.{length, getD, replicate, length-set}
+use lib.Seq.{getD-set-same, getD-set-other, ext-getD}
+use borrow.Author.Tests.{le-leb, lt-leb}
+use Rattle.model.specs.Map.{Map, Field, State, Link, Tag, fieldOf, dimension, recordSize, column, recordOf, tableSize, fieldAt, put, tableOf}
+use Rattle.base.proofs.BelowLaws.{le-or-lt}
+use Rattle.base.proofs.ListLaws.{length-joined, getD-joined}
 
--- ---- the words of a view are the table
+-- ---- the fields and their columns
 
-six : (l : List ℕ) → 6 ≤ length l → take 6 l ≡ getD l 0 0 ∷ getD l 1 0 ∷ getD l 2 0 ∷ getD l 3 0 ∷ getD l 4 0 ∷ getD l 5 0 ∷ []
-six [] h = absurd (omega arith)
-six (a ∷ []) h = absurd (omega arith)
-six (a ∷ b ∷ []) h = absurd (omega arith)
-six (a ∷ b ∷ c ∷ []) h = absurd (omega arith)
-six (a ∷ b ∷ c ∷ d ∷ []) h = absurd (omega arith)
-six (a ∷ b ∷ c ∷ d ∷ e ∷ []) h = absurd (omega arith)
-six (a ∷ b ∷ c ∷ d ∷ e ∷ f ∷ l) h = refl
+pub state-not-tag : State ≡ Tag → ⊥
+state-not-tag e = let z : _≡_ {A = ℕ} 0 1 = cc in omega arith
 
-at : (t : List ℕ) (x j k : ℕ) → 6 * x + j ≡ k → getD (drop (6 * x) t) j 0 ≡ getD t k 0
-at t x j k e = getD-drop (6 * x) t j 0 ∙ ap (λ (z : ℕ). getD t z 0) e
+pub state-not-link : {i : ℕ} → State ≡ Link i → ⊥
+state-not-link e = let z : _≡_ {A = ℕ} 0 1 = cc in omega arith
 
-recordOf-view : (N : ℕ) (t : List ℕ) (x : ℕ) → 6 * x + 6 ≤ length t → recordOf (view N t) x ≡ take 6 (drop (6 * x) t)
-recordOf-view N t x h =
-    sym (six (drop (6 * x) t) (rw (length-drop (6 * x) t) (omega arith)) ∙ each)
+pub tag-not-link : {i : ℕ} → Tag ≡ Link i → ⊥
+tag-not-link e = let z : _≡_ {A = ℕ} 0 1 = cc in omega arith
+
+pub column-below : (f : Field) → dimension f ≤ 3 → column f < recordSize
+column-below State h = omega arith
+column-below (Link i) h = omega arith
+column-below Tag h = omega arith
+
+pub column-once : (f g : Field) → dimension f ≤ 3 → dimension g ≤ 3 → column f ≡ column g → f ≡ g
+column-once State State h l e = refl
+column-once State (Link j) h l e = absurd (omega arith)
+column-once State Tag h l e = absurd (omega arith)
+column-once (Link i) State h l e = absurd (omega arith)
+column-once (Link i) (Link j) h l e = ap Link (omega arith)
+column-once (Link i) Tag h l e = absurd (omega arith)
+column-once Tag State h l e = absurd (omega arith)
+column-once Tag (Link j) h l e = absurd (omega arith)
+column-once Tag Tag h l e = refl
+
+-- every column is that of a field
+field-in : (c : ℕ) → c < recordSize → (f : Field) × (dimension f ≤ 3) × (column f ≡ c)
+field-in zero h = (State, omega arith, refl)
+field-in (suc zero) h = (Link 0, omega arith, refl)
+field-in (suc (suc zero)) h = (Link 1, omega arith, refl)
+field-in (suc (suc (suc zero))) h = (Link 2, omega arith, refl)
+field-in (suc (suc (suc (suc zero)))) h = (Link 3, omega arith, refl)
+field-in (suc (suc (suc (suc (suc zero))))) h = (Tag, omega arith, refl)
+field-in (suc (suc (suc (suc (suc (suc c)))))) h = absurd (omega arith)
+
+-- ---- the word of a field in a table
+
+module _ (t : List ℕ) (f : Field) (x : ℕ) where
+  pub field-at : dimension f ≤ 3 → fieldAt t f x ≡ getD t (recordSize * x + column f) 0
+  unfolding fieldAt
+  field-at h = rw (le-leb _ _ h) refl
+
+  pub field-none : 3 < dimension f → fieldAt t f x ≡ 0
+  unfolding fieldAt
+  field-none h = rw (lt-leb _ _ h) refl
+
+-- in zeros every word is 0
+pub field-zero : (n : ℕ) (f : Field) (x : ℕ) → fieldAt (replicate n 0) f x ≡ 0
+field-zero n f x = ⊎-elim
+    (λ l. field-at _ f x l ∙ at n _)
+    (λ l. field-none _ f x l)
+    (le-or-lt (dimension f) 3)
   where
-    each : getD (drop (6 * x) t) 0 0 ∷ getD (drop (6 * x) t) 1 0 ∷ getD (drop (6 * x) t) 2 0 ∷ getD (drop (6 * x) t) 3 0
-        ∷ getD (drop (6 * x) t) 4 0 ∷ getD (drop (6 * x) t) 5 0 ∷ [] ≡ recordOf (view N t) x
-    each i =
-        at t x 0 (6 * x) (omega arith) i ∷ at t x 1 (6 * x + 1 + 0) (omega arith) i ∷ at t x 2 (6 * x + 1 + 1) (omega arith) i
-        ∷ at t x 3 (6 * x + 1 + 2) (omega arith) i ∷ at t x 4 (6 * x + 1 + 3) (omega arith) i ∷ at t x 5 (6 * x + 5) (omega arith) i ∷ []
+    at : (n k : ℕ) → getD (replicate {A = ℕ} n 0) k 0 ≡ 0
+    at zero k = refl
+    at (suc n) zero = refl
+    at (suc n) (suc k) = at n k
 
-words-take : (N : ℕ) (t : List ℕ) (k : ℕ) → 6 * k ≤ length t → joined k (recordOf (view N t)) ≡ take (6 * k) t
-unfolding joined
-words-take N t zero h = refl
-words-take N t (suc k) h =
-    let e : 6 * k + 6 ≡ 6 * suc k = omega arith in
-    ap₂ _++_ (words-take N t k (omega arith)) (recordOf-view N t k (omega arith))
-    ∙ sym (take-add (6 * k) 6 t) ∙ ap (λ (z : ℕ). take z t) e
+-- ---- a word that is put
 
-pub words-view : (N : ℕ) (t : List ℕ) → length t ≡ tableSize N → tableOf (view N t) ≡ t
-unfolding tableOf
-words-view N t h = words-take N t N (omega arith) ∙ take-all (6 * N) t (omega arith)
+module _ (t : List ℕ) (f : Field) (x v : ℕ) where
+  pub length-put : length (put t f x v) ≡ length t
+  unfolding put
+  length-put = length-set t (recordSize * x + column f) v
 
--- a table whose view has the words of m is the table of m
-pub words-are : (m : Map) (t : List ℕ) → length t ≡ tableSize (m .slots)
-    → ((x : ℕ) → x < m .slots → view (m .slots) t .state x ≡ m .state x)
-    → ((i x : ℕ) → i < 4 → x < m .slots → view (m .slots) t .link i x ≡ m .link i x)
-    → ((x : ℕ) → x < m .slots → view (m .slots) t .tag x ≡ m .tag x)
-    → t ≡ tableOf m
-unfolding tableOf
-words-are m t h s l g =
-    sym (words-view (m .slots) t h) ∙ joined-same (m .slots) (recordOf (view (m .slots) t)) (recordOf m) each
-  where
-    each : (x : ℕ) → x < m .slots → recordOf (view (m .slots) t) x ≡ recordOf m x
-    each x b i =
-        s x b i ∷ l 0 x (omega arith) b i ∷ l 1 x (omega arith) b i ∷ l 2 x (omega arith) b i ∷ l 3 x (omega arith) b i ∷ g x b i ∷ []
+  module _ (l : dimension f ≤ 3) where
+    pub put-same : (N : ℕ) → length t ≡ tableSize N → x < N → fieldAt (put t f x v) f x ≡ v
+    unfolding put
+    put-same N e h = field-at _ f x l ∙ getD-set-same t (recordSize * x + column f) v 0 (omega (arith, column-below f l))
+
+    -- the word of another slot or another field
+    pub put-other : (g : Field) (y : ℕ) → (y ≡ x → g ≡ f → ⊥) → fieldAt (put t f x v) g y ≡ fieldAt t g y
+    unfolding put
+    put-other g y ne = ⊎-elim
+        (λ k. field-at _ g y k
+        ∙ getD-set-other t (recordSize * x + column f) (recordSize * y + column g) v 0
+        (λ e. ne (omega (arith, column-below f l, column-below g k)) (column-once g f k l (omega (arith, column-below f l, column-below g k))))
+        ∙ sym (field-at t g y k))
+        (λ k. field-none _ g y k ∙ sym (field-none t g y k))
+        (le-or-lt (dimension g) 3)
 
 -- ---- the view of a map's words is the map
 
 pub length-words : (m : Map) → length (tableOf m) ≡ tableSize (m .slots)
 unfolding tableOf
-length-words m = length-joined 6 (recordOf m) (λ x. refl) (m .slots)
+length-words m = length-joined recordSize (recordOf m) (λ x. refl) (m .slots)
 
 module _ (m : Map) (x : ℕ) (h : x < m .slots) where
-  word-at : (j k : ℕ) → j < 6 → 6 * x + j ≡ k → getD (tableOf m) k 0 ≡ getD (recordOf m x) j 0
+  in-record : (f : Field) → dimension f ≤ 3 → getD (recordOf m x) (column f) 0 ≡ fieldOf m f x
+  in-record State l = refl
+  in-record (Link zero) l = refl
+  in-record (Link (suc zero)) l = refl
+  in-record (Link (suc (suc zero))) l = refl
+  in-record (Link (suc (suc (suc zero)))) l = refl
+  in-record (Link (suc (suc (suc (suc i))))) l = absurd (omega arith)
+  in-record Tag l = refl
+
+  in-table : (f : Field) → dimension f ≤ 3 → getD (tableOf m) (recordSize * x + column f) 0 ≡ fieldOf m f x
   unfolding tableOf
-  word-at j k l e = ap (λ (z : ℕ). getD (joined (m .slots) (recordOf m)) z 0) (sym e) ∙ getD-joined 6 (recordOf m) (λ y. refl) (m .slots) x j 0 h l
+  in-table f l = getD-joined recordSize (recordOf m) (λ y. refl) (m .slots) x (column f) 0 h (column-below f l) ∙ in-record f l
 
-  pub state-words : view (m .slots) (tableOf m) .state x ≡ m .state x
-  state-words = word-at 0 (6 * x) (omega arith) (omega arith)
+  pub field-words : (f : Field) → dimension f ≤ 3 → fieldAt (tableOf m) f x ≡ fieldOf m f x
+  field-words f l = field-at (tableOf m) f x l ∙ in-table f l
 
-  pub link-words : (i : ℕ) → i ≤ 3 → view (m .slots) (tableOf m) .link i x ≡ m .link i x
-  link-words zero l = word-at 1 (6 * x + 1 + 0) (omega arith) (omega arith)
-  link-words (suc zero) l = word-at 2 (6 * x + 1 + 1) (omega arith) (omega arith)
-  link-words (suc (suc zero)) l = word-at 3 (6 * x + 1 + 2) (omega arith) (omega arith)
-  link-words (suc (suc (suc zero))) l = word-at 4 (6 * x + 1 + 3) (omega arith) (omega arith)
-  link-words (suc (suc (suc (suc i)))) l = absurd (omega arith)
+-- ---- the words of a view are the table
 
-  pub tag-words : view (m .slots) (tableOf m) .tag x ≡ m .tag x
-  tag-words = word-at 5 (6 * x + 5) (omega arith) (omega arith)
+-- a table that has the words of m is the table of m
+pub words-are : (m : Map) (t : List ℕ) → length t ≡ tableSize (m .slots)
+    → ((f : Field) (x : ℕ) → dimension f ≤ 3 → x < m .slots → fieldAt t f x ≡ fieldOf m f x) → t ≡ tableOf m
+words-are m t e same = ext-getD 0 t (tableOf m) (e ∙ sym (length-words m)) (λ i h.
+    let x : i / recordSize < m .slots = omega arith in
+    let f = field-in (i % recordSize) (omega arith) in
+    let at : recordSize * (i / recordSize) + column (f .0) ≡ i = omega (arith, f .2) in
+    ap (λ (k : ℕ). getD t k 0) (sym at) ∙ sym (field-at t (f .0) _ (f .1)) ∙ same (f .0) _ (f .1) x ∙ sym (in-table m _ x (f .0) (f .1))
+    ∙ ap (λ (k : ℕ). getD (tableOf m) k 0) at)

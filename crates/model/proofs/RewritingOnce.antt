@@ -4,23 +4,21 @@ use Prim.Native.Nat.{ℕ, _≤_, _<_}
 use mathlib.Core.Path.{_≡_, refl, sym, ap, _∙_, subst}
 use mathlib.Core.Logic.{_⊎_, inl, inr, ⊎-elim}
 use mathlib.Core.Bool.{Bool, true, true≢false}
-use mathlib.Core.List.{[], _∷_}
 use native.Mathlib.Omega.{arith}
 use lib.Dec.{eqb}
 use borrow.Author.Tests.{eqb-true, eq-eqb}
 use Rattle.base.specs.Test.{_and_}
 use Rattle.base.specs.Below.{anyBelow}
-use Rattle.base.specs.Lists.{joined}
 use Rattle.base.proofs.TestLaws.{and-left, and-right, and-of, or-cases, true-or-false}
 use Rattle.base.proofs.BelowLaws.{any-at, any-of, count-injective, le-or-lt}
-use Rattle.base.proofs.ListLaws.{joined-same}
-use Rattle.model.specs.Map.{Map, unused, recordOf, tableOf}
+use Rattle.model.specs.Map.{Map, Field, State, Link, Tag, fieldOf, dimension, unused, tableSize, tableOf}
 use Rattle.model.specs.Scheme.{right, orbitDim, has, deleted, added}
 use Rattle.model.specs.Conditions.{Arc, absent, explicit, implicit, arcAt}
 use Rattle.model.specs.Accepted.{Accepted}
 use Rattle.model.specs.Site.{Site}
 use Rattle.model.specs.Edit.{edited}
 use Rattle.model.specs.Rewriting.{Rewriting, SameRecord}
+use Rattle.model.proofs.MapLaws.{words-are, length-words, field-words}
 use Rattle.model.proofs.ArcLaws.{explicit-end, implicit-from, absent-from}
 use Rattle.model.proofs.AcceptedLaws.{at-least-two, kind-cases, left-or-added}
 use Rattle.model.proofs.MatchLaws.{GoodOrbit, assigned}
@@ -121,16 +119,16 @@ module _ (E : Site) (a : Accepted (E .scheme)) (o : GoodOrbit E) {m′ m″ : Ma
 
   -- two rewritings are the same table
   pub rewriting-once : tableOf m′ ≡ tableOf m″
-  unfolding tableOf
-  rewriting-once =
-      ap (λ (k : ℕ). joined k (recordOf m′)) (r .slots ∙ sym (q .slots))
-      ∙ joined-same (m″ .slots) (recordOf m′) (recordOf m″) (λ x b. each x)
+  rewriting-once = words-are m″ (tableOf m′) (length-words m′ ∙ ap tableSize same-slots)
+      (λ f x l b. field-words m′ x (omega (arith, same-slots)) f l ∙ each f x l)
     where
-      each : (x : ℕ) → recordOf m′ x ≡ recordOf m″ x
-      each x i =
-          let w = record-once x in
-          sym (w .state) i ∷ sym (w .link 0 (omega arith)) i ∷ sym (w .link 1 (omega arith)) i ∷ sym (w .link 2 (omega arith)) i
-          ∷ sym (w .link 3 (omega arith)) i ∷ sym (w .tag) i ∷ []
+      same-slots : m′ .slots ≡ m″ .slots
+      same-slots = r .slots ∙ sym (q .slots)
+
+      each : (f : Field) (x : ℕ) → dimension f ≤ 3 → fieldOf m′ f x ≡ fieldOf m″ f x
+      each State x l = sym (record-once x .state)
+      each (Link i) x l = sym (record-once x .link i l)
+      each Tag x l = sym (record-once x .tag)
 
 -- every rewriting is the computed edit
 pub edit-once : (E : Site) (r : Ready E) {m′ : Map} {f : ℕ → ℕ → ℕ} → Rewriting E m′ f → tableOf m′ ≡ tableOf (edited E)

@@ -1,11 +1,11 @@
 -- 'The dart table': a map looked at through a view, the state, links and tag of each slot. All rules are over the view.
--- The table's layout, six words a slot, is `view`, `tableSize` and `tableOf`.
+-- The table's layout is `recordSize`, `column` and `recordOf`; beside the crate `table`, nothing else knows it.
 -- Assumes nothing.
 use Prim.Native.Nat.{ℕ, _+_, _*_}
-use mathlib.Core.Bool.{Bool}
+use mathlib.Core.Bool.{Bool, cond}
 use mathlib.Core.List.{List, [], _∷_}
-use lib.ListN.{getD}
-use lib.Dec.{eqb}
+use lib.ListN.{getD, set}
+use lib.Dec.{eqb, leb}
 use Rattle.base.specs.Lists.{joined}
 
 -- `link i x` is αi(x)
@@ -15,22 +15,54 @@ pub record Map : Type 0 where
   pub link : ℕ → ℕ → ℕ
   pub tag : ℕ → ℕ
 
--- the map in a table of N slots
-abbrev pub view : ℕ → List ℕ → Map
-view N t = record {
-  slots = N;
-  state = λ x. getD t (6 * x) 0;
-  link = λ i x. getD t (6 * x + 1 + i) 0;
-  tag = λ x. getD t (6 * x + 5) 0;
-}
+-- the words of a record by name
+pub data Field : Type 0 where
+  State : Field
+  Link : ℕ → Field
+  Tag : Field
+
+abbrev pub fieldOf : Map → Field → ℕ → ℕ
+fieldOf m State x = m .state x
+fieldOf m (Link i) x = m .link i x
+fieldOf m Tag x = m .tag x
+
+-- a record has the fields of a dimension up to 3
+abbrev pub dimension : Field → ℕ
+dimension State = 0
+dimension (Link i) = i
+dimension Tag = 0
+
+-- ---- the layout
+
+-- how many words a record has
+abbrev pub recordSize : ℕ
+recordSize = 6
+
+-- which of them a field is
+abbrev pub column : Field → ℕ
+column State = 0
+column (Link i) = 1 + i
+column Tag = 5
+
+-- the words of a slot
+abbrev pub recordOf : Map → ℕ → List ℕ
+recordOf m x = m .state x ∷ m .link 0 x ∷ m .link 1 x ∷ m .link 2 x ∷ m .link 3 x ∷ m .tag x ∷ []
 
 -- how many words a table of N slots has
 abbrev pub tableSize : ℕ → ℕ
-tableSize N = 6 * N
+tableSize N = recordSize * N
 
--- the six words of a slot
-abbrev pub recordOf : Map → ℕ → List ℕ
-recordOf m x = m .state x ∷ m .link 0 x ∷ m .link 1 x ∷ m .link 2 x ∷ m .link 3 x ∷ m .tag x ∷ []
+-- the word of a slot in a table; 0 for a link that a record has not
+unfoldable pub fieldAt : List ℕ → Field → ℕ → ℕ
+fieldAt t f x = cond (leb (dimension f) 3) (getD t (recordSize * x + column f) 0) 0
+
+-- the table with v as the word of a slot
+unfoldable pub put : List ℕ → Field → ℕ → ℕ → List ℕ
+put t f x v = set t (recordSize * x + column f) v
+
+-- the map in a table of N slots
+abbrev pub view : ℕ → List ℕ → Map
+view N t = record { slots = N; state = fieldAt t State; link = λ i. fieldAt t (Link i); tag = fieldAt t Tag }
 
 -- the table of a map
 unfoldable pub tableOf : Map → List ℕ

@@ -43,5 +43,5 @@ pub fn unmark(slots: usize, store: &mut [u32])
     requires { ⌜ slots ≤ length (now store) ⌝ }
     ensures { λ _. ⌜ now (store .exit) ≡ unmarked slots (now (store .entry)) ⌝ }
 {
-    table::words::clear(&mut store[..slots]);
+    base::clear(&mut store[..slots]);
 }

@@ -1,7 +1,7 @@
--- The laws of `links::rewrite`: after the loops the table is that of the edited map: slot by slot and column by column, the word that stands
+-- The laws of `links::rewrite`: after the loops the table is that of the edited map: slot by slot and field by field, the word that stands
 -- there is the model's. The darts of all pairs are different slots, so each word is written once.
 -- Assumes nothing.
-use Prim.Native.Nat.{ℕ, _+_, _*_, _-_, _/_, _%_, _<_}
+use Prim.Native.Nat.{ℕ, _+_, _*_, _-_, _/_, _%_, _≤_, _<_}
 use mathlib.Core.Path.{_≡_, refl, sym, ap, _∙_, subst}
 use mathlib.Core.Logic.{_⊎_, ⊎-elim}
 use mathlib.Core.Bool.{Bool, true, false, true≢false}
@@ -13,23 +13,22 @@ use lib.Dec.{leb}
 use borrow.Author.Tests.{eqb-true, eq-eqb, lt-ltb, ltb-true, le-leb, leb-true, leb-false}
 use Rattle.base.proofs.TestLaws.{and-left, and-right, and-of, true-or-false}
 use Rattle.base.proofs.FirstLaws.{some-not-none}
-use Rattle.model.specs.Map.{Map, view, tableSize, tableOf}
+use Rattle.model.specs.Map.{Map, Field, State, Link, Tag, fieldOf, dimension, tableSize, fieldAt, view, tableOf}
 use Rattle.model.specs.Scheme.{left, right, orbitDim, has, deleted, added}
 use Rattle.model.specs.Conditions.{Arc, absent, explicit, implicit, arcAt}
 use Rattle.model.specs.Edit.{Pair, dartOf, pairOf, edited}
 use Rattle.model.specs.declared.Scheme.{Scheme}
-use Rattle.model.proofs.MapLaws.{words-are}
+use Rattle.model.proofs.MapLaws.{state-not-link, tag-not-link, words-are}
 use Rattle.model.proofs.AcceptedLaws.{small, left-or-added}
 use Rattle.model.proofs.ArcLaws.{explicit-end, implicit-from, absent-from}
 use Rattle.model.proofs.OrbitLaws.{orbit-slot}
 use Rattle.model.proofs.RankLaws.{left-not-added}
 use Rattle.model.proofs.EditLaws as E
-use Rattle.table.specs.Words.{wordAt}
-use Rattle.table.proofs.WordLaws.{word-state, word-link, word-tag}
 use Rattle.orbit.specs.Store.{mark, place, next, among}
 use Rattle.model.specs.Codes.{arcCode}
 use Rattle.rewriting.specs.Links.{orbitFor, relinked, cleared, Turnable, Legible, Columns, Codes, BeforeRewriting, editedBy}
-use Rattle.rewriting.proofs.LinkWriteLaws.{pairDart, Different, relinked-long, relinked-leaves, relinked-node, relinked-position, relinked-none, cleared-long, cleared-leaves, cleared-sets}
+use Rattle.rewriting.proofs.LinkWriteLaws.{pairDart, Different, relinked-long, relinked-leaves, relinked-node, relinked-position, relinked-none}
+use Rattle.rewriting.proofs.LinkWriteLaws.{cleared-long, cleared-leaves, cleared-sets}
 
 module _ {slots : ℕ} {table store : List ℕ} {size : ℕ} {kinds codes : List ℕ} {c : ℕ} {cols : List ℕ}
     (R : BeforeRewriting slots table store size kinds codes c cols) where
@@ -169,68 +168,69 @@ module _ {slots : ℕ} {table store : List ℕ} {size : ℕ} {kinds codes : List
   not-none u v e h n = some-not-none (E.pair-of m S O slot sides (R .match) (R .room) u v e h) n
 
   -- a slot that is no pair's dart
-  untouched : (x : ℕ) → pairOf m S O x ≡ none → (d : ℕ) → d < 6 → wordAt after x d ≡ wordAt (R .before) x d
-  untouched x e d h =
-      cleared-leaves slots store size cols kinds c x d h (λ v r hv k hr w. off v r hv hr w) linked linked-long
-      ∙ relinked-leaves slots store size cols codes (4 * c) x d h (λ k r hk hr w z. off (k / 4) r (omega arith) hr w) table (R .sized .long)
-      ∙ R .given .other x d h (λ a. not-none (a .dart) (a .node) (a .inOrbit) (a .below) (ap (pairOf m S O) (a .same) ∙ e))
+  untouched : (x : ℕ) → pairOf m S O x ≡ none → (f : Field) → fieldAt after f x ≡ fieldAt (R .before) f x
+  untouched x e f =
+      cleared-leaves slots store size cols kinds c x f (λ v r hv k hr w. off v r hv hr w) linked linked-long
+      ∙ relinked-leaves slots store size cols codes (4 * c) x f (λ k r hk hr w z. off (k / 4) r (omega arith) hr w) table (R .sized .long)
+      ∙ R .given .other x f (λ a. not-none (a .dart) (a .node) (a .inOrbit) (a .below) (ap (pairOf m S O) (a .same) ∙ e))
     where
       off : (v r : ℕ) → v < c → r < size → dart v r ≡ x → ⊥
       off v r hv hr w = not-none (P r) v (place-in r hr) (node hv) (ap (pairOf m S O) (sym (dart-is v r (node hv) hr) ∙ w) ∙ e)
 
   -- the dart of a pair whose node is deleted
-  gone : (v r : ℕ) → v < S .nodes → r < size → deleted S v ≡ true → (d : ℕ) → d < 6 → wordAt after (D (P r) v) d ≡ 0
-  gone v r hv hr k d h =
-      ap (λ (x : ℕ). wordAt after x d) (sym (dart-is v r hv hr))
-      ∙ cleared-sets slots store size cols kinds c different v r d (counted hv) hr h (ap (λ (l : List ℕ). getD l v 0) (R .kinded) ∙ eqb-true _ _ k) linked linked-long
+  gone : (v r : ℕ) → v < S .nodes → r < size → deleted S v ≡ true → (f : Field) → fieldAt after f (D (P r) v) ≡ 0
+  gone v r hv hr k f =
+      ap (fieldAt after f) (sym (dart-is v r hv hr))
+      ∙ cleared-sets slots store size cols kinds c different v r f (counted hv) hr
+      (ap (λ (l : List ℕ). getD l v 0) (R .kinded) ∙ eqb-true _ _ k) linked linked-long
 
   -- ---- the dart of a pair whose node is on the right
 
   module _ (v r : ℕ) (hv : v < S .nodes) (hr : r < size) where
     -- its words before the links are written
-    old : added S v ≡ false → (d : ℕ) → d < 6 → wordAt table (D (P r) v) d ≡ wordAt (R .before) (D (P r) v) d
-    old n d h = R .given .other (D (P r) v) d h (λ a.
+    old : added S v ≡ false → (f : Field) → fieldAt table f (D (P r) v) ≡ fieldAt (R .before) f (D (P r) v)
+    old n f = R .given .other (D (P r) v) f (λ a.
         let q = E.dart-injective m S O slot sides (R .match) (R .room) (a .dart) (a .node) (P r) v (a .inOrbit) (place-in r hr) (a .below) hv (a .same) in
         true≢false (sym (a .isAdded) ∙ ap (added S) (q .1) ∙ n))
 
     module _ (k : deleted S v ≡ false) where
-      spared : (d : ℕ) → d < 6 → wordAt after (dart v r) d ≡ wordAt linked (dart v r) d
-      spared d h = cleared-leaves slots store size cols kinds c (dart v r) d h
+      spared : (f : Field) → fieldAt after f (dart v r) ≡ fieldAt linked f (dart v r)
+      spared f = cleared-leaves slots store size cols kinds c (dart v r) f
           (λ w q hw one hq z.
           let same = different .once w q v r hw hq (counted hv) hr z .0 in
           true≢false (sym (eq-eqb _ _ (ap (λ (l : List ℕ). getD l w 0) (sym (R .kinded)) ∙ one)) ∙ ap (deleted S) same ∙ k))
           linked linked-long
 
-      -- a column that holds no link
-      unlinked : (d : ℕ) → d < 6 → ((i : ℕ) → i < 4 → d ≡ 1 + i → ⊥) → wordAt after (D (P r) v) d ≡ wordAt table (D (P r) v) d
-      unlinked d h no-link =
-          ap (λ (x : ℕ). wordAt after x d) (sym (dart-is v r hv hr))
-          ∙ spared d h
-          ∙ relinked-leaves slots store size cols codes (4 * c) (dart v r) d h (λ j q hj hq w z. no-link (j % 4) (omega arith) z) table (R .sized .long)
-          ∙ ap (λ (x : ℕ). wordAt table x d) (dart-is v r hv hr)
+      -- a field that is no link
+      unlinked : (f : Field) → ((i : ℕ) → f ≡ Link i → ⊥) → fieldAt after f (D (P r) v) ≡ fieldAt table f (D (P r) v)
+      unlinked f no-link =
+          ap (fieldAt after f) (sym (dart-is v r hv hr))
+          ∙ spared f
+          ∙ relinked-leaves slots store size cols codes (4 * c) (dart v r) f (λ j q hj hq w. no-link (j % 4)) table (R .sized .long)
+          ∙ ap (fieldAt table f) (dart-is v r hv hr)
 
-      state-stays : wordAt after (D (P r) v) 0 ≡ new .state (D (P r) v)
+      state-stays : fieldAt after State (D (P r) v) ≡ new .state (D (P r) v)
       state-stays =
-          unlinked 0 (omega arith) (λ i l z. omega arith)
+          unlinked State (λ i. state-not-link)
           ∙ ⊎-elim
-          (λ l. old (left-not-added S v l) 0 (omega arith) ∙ word-state slots (R .before) (D (P r) v) ∙ E.left-alive m S O slot sides (R .match) (R .room) (P r) v (place-in r hr) hv l)
-          (λ a. R .given .state (P r) v (place-in r hr) hv a)
+          (λ l. old (left-not-added S v l) State ∙ E.left-alive m S O slot sides (R .match) (R .room) (P r) v (place-in r hr) hv l)
+          (λ a. R .given .fresh (P r) v State (place-in r hr) hv a)
           (sides v hv)
           ∙ sym (E.state-pair m S O slot sides (R .match) (R .room) (P r) v (place-in r hr) hv k)
 
-      tag-stays : wordAt after (D (P r) v) 5 ≡ new .tag (D (P r) v)
+      tag-stays : fieldAt after Tag (D (P r) v) ≡ new .tag (D (P r) v)
       tag-stays =
-          unlinked 5 (omega arith) (λ i l z. omega arith)
+          unlinked Tag (λ i. tag-not-link)
           ∙ ⊎-elim
-          (λ l. old (left-not-added S v l) 5 (omega arith) ∙ word-tag slots (R .before) (D (P r) v)
+          (λ l. old (left-not-added S v l) Tag
           ∙ sym (E.tag-kept m S O slot sides (R .match) (R .room) (P r) v (place-in r hr) hv k (left-not-added S v l)))
-          (λ a. R .given .tag (P r) v (place-in r hr) hv a ∙ sym (E.tag-new m S O slot sides (R .match) (R .room) (P r) v (place-in r hr) hv k a))
+          (λ a. R .given .fresh (P r) v Tag (place-in r hr) hv a ∙ sym (E.tag-new m S O slot sides (R .match) (R .room) (P r) v (place-in r hr) hv k a))
           (sides v hv)
 
       -- where the right side names no i-arc: a preserved dart keeps the link, and of an added one it is α3 with n = 2, which is the dart itself
-      link-absent : (i : ℕ) → i < 4 → arcAt S right v i ≡ absent → wordAt table (D (P r) v) (1 + i) ≡ new .link i (D (P r) v)
+      link-absent : (i : ℕ) → i ≤ 3 → arcAt S right v i ≡ absent → fieldAt table (Link i) (D (P r) v) ≡ new .link i (D (P r) v)
       link-absent i l a = ⊎-elim
-          (λ z. old (left-not-added S v z) (1 + i) (omega arith) ∙ word-link slots (R .before) (D (P r) v) i
+          (λ z. old (left-not-added S v z) (Link i)
           ∙ sym (E.link-kept m S O slot sides (R .match) (R .room) (P r) v (place-in r hr) hv k i (left-not-added S v z) a))
           (λ z. ⊎-elim
           (λ w.
@@ -239,22 +239,24 @@ module _ {slots : ℕ} {table store : List ℕ} {size : ℕ} {kinds codes : List
           absurd (omega arith))
           (λ w.
           let third : i ≡ 3 = third-is i l (leb-false i (S .n) w) in
-          ap (λ (j : ℕ). wordAt table (D (P r) v) (1 + j)) third ∙ R .given .own (P r) v (place-in r hr) hv z
+          ap (λ (j : ℕ). fieldAt table (Link j) (D (P r) v)) third ∙ R .given .fresh (P r) v (Link 3) (place-in r hr) hv z
           ∙ sym (E.link-own m S O slot sides (R .match) (R .room) (P r) v (place-in r hr) hv k i z a))
           (true-or-false (leb i (S .n))))
           (sides v hv)
         where
-          third-is : (i : ℕ) → i < 4 → S .n < i → i ≡ 3
+          third-is : (i : ℕ) → i ≤ 3 → S .n < i → i ≡ 3
           third-is i l g = ⊎-elim (λ e. omega arith) (λ e. omega arith) (R .accepted .shaped .dimension)
 
-      link-linked : (i : ℕ) → i < 4 → (a : Arc) → arcAt S right v i ≡ a → wordAt linked (dart v r) (1 + i) ≡ new .link i (D (P r) v)
+      link-linked : (i : ℕ) → i ≤ 3 → (a : Arc) → arcAt S right v i ≡ a → fieldAt linked (Link i) (dart v r) ≡ new .link i (D (P r) v)
       link-linked i l absent a =
-          relinked-none slots store size cols codes c different v i r (counted hv) l hr 255 (code-is v i hv l ∙ ap arcCode a) table (R .sized .long) (omega arith)
-          ∙ ap (λ (x : ℕ). wordAt table x (1 + i)) (dart-is v r hv hr) ∙ link-absent i l a
+          relinked-none slots store size cols codes c different v i r (counted hv) (omega arith) hr 255
+          (code-is v i hv (omega arith) ∙ ap arcCode a) table (R .sized .long) (omega arith)
+          ∙ ap (fieldAt table (Link i)) (dart-is v r hv hr) ∙ link-absent i l a
       link-linked i l (explicit t) a =
           let b = explicit-end S right (R .accepted .sides right) v i t a .0 in
           let few = R .accepted .shaped .nodesFew in
-          relinked-node slots store size cols codes c different v i r (counted hv) l hr t (code-is v i hv l ∙ ap arcCode a) table (R .sized .long) (omega arith)
+          relinked-node slots store size cols codes c different v i r (counted hv) (omega arith) hr t
+          (code-is v i hv (omega arith) ∙ ap arcCode a) table (R .sized .long) (omega arith)
           ∙ dart-is t r b hr ∙ sym (E.link-explicit m S O slot sides (R .match) (R .room) (P r) v (place-in r hr) hv k i t a)
       link-linked i l (implicit p) a =
           let b = implicit-from S right v i p a .0 in
@@ -262,13 +264,15 @@ module _ {slots : ℕ} {table store : List ℕ} {size : ℕ} {kinds codes : List
           let n3 = small S (R .accepted .shaped) in
           let same : 16 + p - 16 ≡ p = omega arith in
           let w = R .walked .links r p hr b in
-          relinked-position slots store size cols codes c different v i r (counted hv) l hr (16 + p) (code-is v i hv l ∙ ap arcCode a) table (R .sized .long) (omega arith) (omega arith)
+          relinked-position slots store size cols codes c different v i r (counted hv) (omega arith) hr (16 + p)
+          (code-is v i hv (omega arith) ∙ ap arcCode a) table (R .sized .long) (omega arith) (omega arith)
           ∙ ap (λ (q : ℕ). dart v (next slots store r q)) same ∙ dart-is v (next slots store r p) hv (w .0) ∙ ap (λ (u : ℕ). D u v) (w .1)
           ∙ sym (E.link-implicit m S O slot sides (R .match) (R .room) (P r) v (place-in r hr) hv k i p a)
 
-      link-stays : (i : ℕ) → i < 4 → wordAt after (D (P r) v) (1 + i) ≡ new .link i (D (P r) v)
-      link-stays i l =
-          ap (λ (x : ℕ). wordAt after x (1 + i)) (sym (dart-is v r hv hr)) ∙ spared (1 + i) (omega arith) ∙ link-linked i l (arcAt S right v i) refl
+      field-stays : (f : Field) → dimension f ≤ 3 → fieldAt after f (D (P r) v) ≡ fieldOf new f (D (P r) v)
+      field-stays State l = state-stays
+      field-stays (Link i) l = ap (fieldAt after (Link i)) (sym (dart-is v r hv hr)) ∙ spared (Link i) ∙ link-linked i l (arcAt S right v i) refl
+      field-stays Tag l = tag-stays
 
   -- ---- every slot
 
@@ -292,31 +296,25 @@ module _ {slots : ℕ} {table store : List ℕ} {size : ℕ} {kinds codes : List
           (λ k. rightPair (p .node) (w .0) (q .1) (w .1) k same)
           (true-or-false (deleted S (p .node)))
 
-  state-is : (x : ℕ) → Role x → wordAt after x 0 ≡ new .state x
-  state-is x (noPair e) = untouched x e 0 (omega arith) ∙ word-state slots (R .before) x ∙ sym (E.state-other m S O slot sides (R .match) (R .room) x e)
-  state-is x (deletedPair v r hv hr k e) = subst (λ (y : ℕ). wordAt after y 0 ≡ new .state y) e
-      (gone v r hv hr k 0 (omega arith) ∙ sym (E.state-deleted m S O slot sides (R .match) (R .room) (P r) v (place-in r hr) hv k))
-  state-is x (rightPair v r hv hr k e) = subst (λ (y : ℕ). wordAt after y 0 ≡ new .state y) e (state-stays v r hv hr k)
+  other-is : (f : Field) (x : ℕ) → pairOf m S O x ≡ none → fieldOf new f x ≡ fieldAt (R .before) f x
+  other-is State x e = E.state-other m S O slot sides (R .match) (R .room) x e
+  other-is (Link i) x e = E.link-other m S O slot sides (R .match) (R .room) i x e
+  other-is Tag x e = E.tag-other m S O slot sides (R .match) (R .room) x e
 
-  link-is : (i x : ℕ) → i < 4 → Role x → wordAt after x (1 + i) ≡ new .link i x
-  link-is i x l (noPair e) =
-      untouched x e (1 + i) (omega arith) ∙ word-link slots (R .before) x i ∙ sym (E.link-other m S O slot sides (R .match) (R .room) i x e)
-  link-is i x l (deletedPair v r hv hr k e) = subst (λ (y : ℕ). wordAt after y (1 + i) ≡ new .link i y) e
-      (gone v r hv hr k (1 + i) (omega arith) ∙ sym (E.link-deleted m S O slot sides (R .match) (R .room) (P r) v (place-in r hr) hv i k))
-  link-is i x l (rightPair v r hv hr k e) = subst (λ (y : ℕ). wordAt after y (1 + i) ≡ new .link i y) e (link-stays v r hv hr k i l)
+  deleted-is : (f : Field) (u v : ℕ) → O u ≡ true → v < S .nodes → deleted S v ≡ true → fieldOf new f (D u v) ≡ 0
+  deleted-is State u v e h k = E.state-deleted m S O slot sides (R .match) (R .room) u v e h k
+  deleted-is (Link i) u v e h k = E.link-deleted m S O slot sides (R .match) (R .room) u v e h i k
+  deleted-is Tag u v e h k = E.tag-deleted m S O slot sides (R .match) (R .room) u v e h k
 
-  tag-is : (x : ℕ) → Role x → wordAt after x 5 ≡ new .tag x
-  tag-is x (noPair e) = untouched x e 5 (omega arith) ∙ word-tag slots (R .before) x ∙ sym (E.tag-other m S O slot sides (R .match) (R .room) x e)
-  tag-is x (deletedPair v r hv hr k e) = subst (λ (y : ℕ). wordAt after y 5 ≡ new .tag y) e
-      (gone v r hv hr k 5 (omega arith) ∙ sym (E.tag-deleted m S O slot sides (R .match) (R .room) (P r) v (place-in r hr) hv k))
-  tag-is x (rightPair v r hv hr k e) = subst (λ (y : ℕ). wordAt after y 5 ≡ new .tag y) e (tag-stays v r hv hr k)
+  field-is : (f : Field) (x : ℕ) → dimension f ≤ 3 → Role x → fieldAt after f x ≡ fieldOf new f x
+  field-is f x l (noPair e) = untouched x e f ∙ sym (other-is f x e)
+  field-is f x l (deletedPair v r hv hr k e) = subst (λ (y : ℕ). fieldAt after f y ≡ fieldOf new f y) e
+      (gone v r hv hr k f ∙ sym (deleted-is f (P r) v (place-in r hr) hv k))
+  field-is f x l (rightPair v r hv hr k e) = subst (λ (y : ℕ). fieldAt after f y ≡ fieldOf new f y) e (field-stays v r hv hr k f l)
 
   edited-words : after ≡ tableOf new
   unfolding edited
-  edited-words = words-are new after after-long
-      (λ x h. sym (word-state slots after x) ∙ state-is x (role x))
-      (λ i x l h. sym (word-link slots after x i) ∙ link-is i x l (role x))
-      (λ x h. sym (word-tag slots after x) ∙ tag-is x (role x))
+  edited-words = words-are new after after-long (λ f x l h. field-is f x l (role x))
 
   pub rewritten : (t t′ : List ℕ) → t ≡ relinked slots store size cols codes (4 * c) table → t′ ≡ cleared store size cols kinds c t
       → t′ ≡ tableOf (editedBy R)

@@ -1,4 +1,5 @@
--- The laws of `slots::give`, which gives slots to all added pairs: from the phases before it to the first pair, from one orbit dart to the next, and from the last pair to the phases after it.
+-- The laws of `slots::give`, which gives slots to all added pairs: from the phases before it to the first pair, from one orbit
+-- dart to the next, and from the last pair to the phases after it.
 -- Assumes nothing.
 use Prim.Native.Nat.{ℕ, _+_, _*_, _-_, _≤_, _<_}
 use mathlib.Core.Path.{_≡_, sym, ap, ap₂, _∙_, subst}
@@ -83,11 +84,13 @@ module _ {N : ℕ} {t s : List ℕ} {size : ℕ} {nodes : List ℕ} {many : ℕ}
     room = R .room;
     counted = R .walked .counted;
     slot = in-table;
-    alive = λ u e. reached-dart (view N t) (R .scheme .places) (orbitDim (R .scheme)) (R .dart) (R .scheme .n) (R .well) (R .shaped .orbitDims) (R .slot) (R .alive)
+    alive = λ u e. reached-dart (view N t) (R .scheme .places) (orbitDim (R .scheme)) (R .dart) (R .scheme .n) (R .well)
+        (R .shaped .orbitDims) (R .slot) (R .alive)
         (orbit-reached (view N t) (R .scheme .places) (orbitDim (R .scheme)) (R .dart) u e) .1;
     is = R .walked .is;
     placed = λ u e. among-at s size u (in-store u e);
-    once = λ u v e f q. sym (R .walked .found u (in-table u e) (in-store u e)) ∙ ap (λ (k : ℕ). place N s (k - 1)) q ∙ R .walked .found v (in-table v f) (in-store v f);
+    once = λ u v e f q. sym (R .walked .found u (in-table u e) (in-store u e))
+        ∙ ap (λ (k : ℕ). place N s (k - 1)) q ∙ R .walked .found v (in-table v f) (in-store v f);
   }
 
   pub placed-of : Placed N s size
@@ -101,7 +104,8 @@ module _ {N : ℕ} {t s : List ℕ} {size : ℕ} {nodes : List ℕ} {many : ℕ}
   }
 
   -- the a-th listed node is the a-th added one
-  listed-at : (a : ℕ) → a < many → (getD nodes a 0 < R .scheme .nodes) × (added (R .scheme) (getD nodes a 0) ≡ true) × (countBelow (getD nodes a 0) (added (R .scheme)) ≡ a)
+  listed-at : (a : ℕ) → a < many
+      → (getD nodes a 0 < R .scheme .nodes) × (added (R .scheme) (getD nodes a 0) ≡ true) × (countBelow (getD nodes a 0) (added (R .scheme)) ≡ a)
   listed-at a h = nth-at (R .scheme .nodes) (added (R .scheme)) a (getD nodes a 0) (R .listed .node a h)
 
   pub apart-of : Apart N size nodes many
@@ -131,12 +135,9 @@ module _ {N : ℕ} {t s : List ℕ} {size : ℕ} {nodes : List ℕ} {many : ℕ}
     given-of : Given (view N t) (R .scheme) (orbitOf R) t t′
     given-of = record {
       long = g .tableLong;
-      state = λ u v e h a. g .state u v (all-due u v e h a);
-      own = λ u v e h a. g .own u v (all-due u v e h a);
-      tag = λ u v e h a. g .tag u v (all-due u v e h a);
-      links = g .links;
-      other = λ y c h f. g .other y c h
-          (λ u v d e. f (record { dart = u; node = v; inOrbit = d .inOrbit; below = d .below; isAdded = d .isAdded; same = e }));
+      fresh = λ u v f e h a. g .fresh u v f (all-due u v e h a);
+      other = λ y f no. g .other y f
+          (λ u v d e. no (record { dart = u; node = v; inOrbit = d .inOrbit; below = d .below; isAdded = d .isAdded; same = e }));
     }
 
     kept-of : Kept N s s′ size
@@ -197,7 +198,9 @@ module _ {N : ℕ} {t s : List ℕ} {size : ℕ} {nodes : List ℕ} {many : ℕ}
 
   -- once x is past the last slot
   pub granted : {x free : ℕ} {t′ s′ cols′ : List ℕ} → ColumnsBegin N size nodes many cols cols′ → N ≤ x
-      → Granting N (R .scheme) (orbitOf R) t s size (countBelow x (orbitOf R) * many) free t′ s′ → Granted (view N t) (R .scheme) (orbitOf R) t s t′ s′ cols′ size
+      → Granting N (R .scheme) (orbitOf R) t s size (countBelow x (orbitOf R) * many) free t′ s′
+      → Granted (view N t) (R .scheme) (orbitOf R) t s t′ s′ cols′ size
   granted {x} {free} {t′} {s′} {cols′} C h g =
-      let e : countBelow x (orbitOf R) ≡ countBelow N (orbitOf R) = count-gap (orbitOf R) N x h (λ z l k. impossible _ (λ q. let b = in-table z q in omega arith)) in
+      let e : countBelow x (orbitOf R) ≡ countBelow N (orbitOf R) = count-gap (orbitOf R) N x h
+      (λ z l k. impossible _ (λ q. let b = in-table z q in omega arith)) in
       granted-all C (rw e at g)

@@ -1,15 +1,17 @@
--- The laws of `slots::lowest`, `slots::revive` and `slots::row`, which give slots to the added pairs one after the other: what the first pairs got stays as it is, and the lowest slot that is left is that of the next rank.
+-- The laws of `slots::lowest`, `slots::revive` and `slots::row`, which give slots to the added pairs one after the other: what
+-- the first pairs got stays as it is, and the lowest slot that is left is that of the next rank.
 -- Assumes nothing.
 use Prim.Native.Nat.{ℕ, _+_, _*_, _-_, _≤_, _<_}
 use mathlib.Core.Path.{_≡_, refl, sym, ap, ap₂, _∙_, subst}
 use mathlib.Core.Logic.{_⊎_, inl, inr, ⊎-elim, by-cases}
-use mathlib.Core.Bool.{Bool, true}
+use mathlib.Core.Bool.{Bool, true, cond}
 use mathlib.Core.Option.{Option, Option·getD}
 use mathlib.Core.List.{List}
-use native.Mathlib.Nat.{add-zero, mul-le-mul-right, lt-of-lt-of-le}
+use native.Mathlib.Nat.{mul-le-mul-right, lt-of-lt-of-le}
 use native.Mathlib.Decide.{ℕ-discrete, decLt}
 use native.Mathlib.Omega.{arith}
 use lib.ListN.{length, getD, set, length-set}
+use lib.Dec.{eqb}
 use lib.Seq.{getD-set-same, getD-set-other}
 use borrow.Author.Tests.{eqb-true, eq-eqb, ne-eqb}
 use Rattle.base.specs.Test.{bit}
@@ -17,14 +19,15 @@ use Rattle.base.specs.Below.{countBelow}
 use Rattle.base.proofs.BelowLaws.{count-le, count-lt, count-injective, count-reaches, count-step, count-gap}
 use Rattle.base.proofs.FirstLaws.{nth-is}
 use Rattle.base.proofs.RowLaws.{digits}
-use Rattle.model.specs.Map.{view, unused}
+use Rattle.model.specs.Map.{Field, State, Link, Tag, dimension, tableSize, fieldAt, put, view, unused}
 use Rattle.model.specs.Scheme.{added}
 use Rattle.model.specs.Edit.{orbitSize, addedDarts, rank, freeSlot, dartOf}
 use Rattle.model.specs.declared.Scheme.{Scheme}
 use Rattle.model.proofs.RankLaws.{rank-low, rank-once, dart-added}
-use Rattle.table.specs.Words.{Sized, wordAt, put}
-use Rattle.table.proofs.WordLaws.{length-put, put-same, put-other}
+use Rattle.model.proofs.MapLaws.{state-not-tag, state-not-link, tag-not-link, length-put, put-same, put-other}
+use Rattle.table.specs.Words.{Sized}
 use Rattle.orbit.specs.Store.{mark, dartAt}
+use Rattle.rewriting.specs.Darts.{newField}
 use Rattle.rewriting.specs.Slots.{Room, Lowest, revived, columnStart, Grant, Due, Granting, Turn}
 
 -- ---- the scan for an unused slot
@@ -53,45 +56,33 @@ module _ {N : ℕ} {t : List ℕ} {from y : ℕ} (p : Scanned N t from y) where
 
 -- ---- one slot
 
-pub revived-of : (t t₁ t₂ t₃ : List ℕ) (y v : ℕ) → t₁ ≡ put t y 0 1 → t₂ ≡ put t₁ y 4 y → t₃ ≡ put t₂ y 5 v → t₃ ≡ revived t y v
+pub revived-of : (t t₁ t₂ t₃ : List ℕ) (y v : ℕ) → t₁ ≡ put t State y 1 → t₂ ≡ put t₁ (Link 3) y y → t₃ ≡ put t₂ Tag y v → t₃ ≡ revived t y v
 unfolding revived
 revived-of t t₁ t₂ t₃ y v e f g =
-    g ∙ ap (λ (l : List ℕ). put l y 5 v) (f ∙ ap (λ (l : List ℕ). put l y 4 y) e)
-
-state-word : (N : ℕ) (t : List ℕ) (x : ℕ) → wordAt t x 0 ≡ view N t .state x
-unfolding wordAt
-state-word N t x = ap (λ (z : ℕ). getD t z 0) (add-zero (6 * x))
+    g ∙ ap (λ (l : List ℕ). put l Tag y v) (f ∙ ap (λ (l : List ℕ). put l (Link 3) y y) e)
 
 module _ (t : List ℕ) (y v : ℕ) where
   pub length-revived : length (revived t y v) ≡ length t
   unfolding revived
-  length-revived = length-put _ y 5 v ∙ length-put _ y 4 y ∙ length-put t y 0 1
+  length-revived = length-put _ Tag y v ∙ length-put _ (Link 3) y y ∙ length-put t State y 1
 
-  -- a word of another slot, or a link of dimension 0 to 2
-  revived-other : (x c : ℕ) → c < 6 → (x ≡ y → ⊥) ⊎ ((1 ≤ c) × (c ≤ 3)) → wordAt (revived t y v) x c ≡ wordAt t x c
+  revived-other : (x : ℕ) (f : Field) → (x ≡ y → ⊥) → fieldAt (revived t y v) f x ≡ fieldAt t f x
   unfolding revived
-  revived-other x c h a = put-other _ y 5 v x c (omega arith) h (apart 5 (λ l k e. omega arith))
-      ∙ put-other _ y 4 y x c (omega arith) h (apart 4 (λ l k e. omega arith))
-      ∙ put-other t y 0 1 x c (omega arith) h (apart 0 (λ l k e. omega arith))
-    where
-      apart : (d : ℕ) → (1 ≤ c → c ≤ 3 → c ≡ d → ⊥) → (x ≡ y → ⊥) ⊎ (c ≡ d → ⊥)
-      apart d f = ⊎-elim (λ (n : x ≡ y → ⊥). inl n) (λ (w : (1 ≤ c) × (c ≤ 3)). inr (f (w .0) (w .1))) a
+  revived-other x f ne = put-other _ Tag y v (omega arith) f x (λ e q. ne e)
+      ∙ put-other _ (Link 3) y y (omega arith) f x (λ e q. ne e)
+      ∙ put-other t State y 1 (omega arith) f x (λ e q. ne e)
 
-  module _ (fits : 6 * y + 6 ≤ length t) where
-    revived-state : wordAt (revived t y v) y 0 ≡ 1
-    unfolding revived
-    revived-state = put-other _ y 5 v y 0 (omega arith) (omega arith) (inr (λ e. omega arith))
-        ∙ put-other _ y 4 y y 0 (omega arith) (omega arith) (inr (λ e. omega arith))
-        ∙ put-same t y 0 1 (omega arith)
-
-    revived-own : wordAt (revived t y v) y 4 ≡ y
-    unfolding revived
-    revived-own = put-other _ y 5 v y 4 (omega arith) (omega arith) (inr (λ e. omega arith))
-        ∙ put-same (put t y 0 1) y 4 y (omega (arith, length-put t y 0 1))
-
-    revived-tag : wordAt (revived t y v) y 5 ≡ v
-    unfolding revived
-    revived-tag = put-same (put (put t y 0 1) y 4 y) y 5 v (omega (arith, length-put (put t y 0 1) y 4 y, length-put t y 0 1))
+  revived-same : (N : ℕ) → length t ≡ tableSize N → y < N → (f : Field) → fieldAt (revived t y v) f y ≡ newField (view N t) v y f
+  unfolding revived
+  revived-same N e h State = put-other _ Tag y v (omega arith) State y (λ p. state-not-tag)
+      ∙ put-other _ (Link 3) y y (omega arith) State y (λ p. state-not-link)
+      ∙ put-same t State y 1 (omega arith) N e h
+  revived-same N e h (Link i) = put-other _ Tag y v (omega arith) (Link i) y (λ p q. tag-not-link (sym q)) ∙ by-cases (ℕ-discrete i 3)
+      (λ (same : i ≡ 3). rw same (put-same (put t State y 1) (Link 3) y y (omega arith) N (length-put t State y 1 ∙ e) h))
+      (λ (ne : i ≡ 3 → ⊥). put-other _ (Link 3) y y (omega arith) (Link i) y (λ p q. ne (ap dimension q))
+      ∙ put-other t State y 1 (omega arith) (Link i) y (λ p q. state-not-link (sym q)) ∙ rw (ne-eqb i 3 ne) refl)
+  revived-same N e h Tag = put-same (put (put t State y 1) (Link 3) y y) Tag y v (omega arith) N
+      (length-put _ (Link 3) y y ∙ length-put t State y 1 ∙ e) h
 
 -- ---- one pair
 
@@ -104,11 +95,8 @@ module _ {N : ℕ} {S : Scheme} {O : ℕ → Bool} {t₀ s₀ : List ℕ} {size 
     taken = refl;
     low = λ u v d. absurd (omega (arith, d .early));
     was = λ u v d. absurd (omega (arith, d .early));
-    state = λ u v d. absurd (omega (arith, d .early));
-    own = λ u v d. absurd (omega (arith, d .early));
-    tag = λ u v d. absurd (omega (arith, d .early));
-    links = λ y c l h. refl;
-    other = λ y c h f. refl;
+    fresh = λ u v f d. absurd (omega (arith, d .early));
+    other = λ y f no. refl;
     dart = λ u v d. absurd (omega (arith, d .early));
     kept = λ i w. refl;
   }
@@ -145,7 +133,7 @@ module _ {N : ℕ} {S : Scheme} {O : ℕ → Bool} {t₀ s₀ : List ℕ} {size 
   module _ {done free : ℕ} {t s : List ℕ} (g : Granting N S O t₀ s₀ size done free t s) where
     -- a slot from `free` on is as it was
     ahead : (y : ℕ) → free ≤ y → view N t .state y ≡ view N t₀ .state y
-    ahead y h = sym (state-word N t y) ∙ g .other y 0 (omega arith) (λ u v d e. omega (arith, g .low u v d)) ∙ state-word N t₀ y
+    ahead y h = g .other y State (λ u v d e. omega (arith, g .low u v d))
 
     pub granting-sized : Sized N t
     granting-sized = record { few = G .sized .few; long = g .tableLong ∙ G .sized .long }
@@ -160,8 +148,8 @@ module _ {N : ℕ} {S : Scheme} {O : ℕ → Bool} {t₀ s₀ : List ℕ} {size 
         record { slot = r .0; fits = r .1; late = late; is = ahead (r .0) late ∙ eqb-true _ _ (r .2) }
 
     -- the orbit's darts are none of the slots given
-    pub orbit-word : (u c : ℕ) → O u ≡ true → c < 6 → wordAt t u c ≡ wordAt t₀ u c
-    orbit-word u c e h = g .other u c h
+    pub orbit-word : (u : ℕ) (f : Field) → O u ≡ true → fieldAt t f u ≡ fieldAt t₀ f u
+    orbit-word u f e = g .other u f
         (λ x v d q. let z : view N t₀ .state u ≡ 0 = ap (view N t₀ .state) (sym q) ∙ g .was x v d in omega (arith, G .alive u e))
 
     module _ {y : ℕ} (L : Lowest N t free y) where
@@ -207,21 +195,23 @@ module _ {N : ℕ} {S : Scheme} {O : ℕ → Bool} {t₀ s₀ : List ℕ} {size 
         let r : rank S O x w ≡ done = ap₂ (rank S O) (c .0) (c .1) ∙ next in
         omega (arith, d .early)
 
-    fits : 6 * y + 6 ≤ length t
-    fits = omega (arith, L .fits, g .tableLong, G .sized .long)
-
     cell-in : cell u v < length s
     cell-in = omega (arith, cell-fits u v e h a .1, g .storeLong, G .long)
 
-    -- a word of a slot that a pair has
-    given-word : (w i : ℕ) (f : ℕ → ℕ → ℕ) → wordAt (revived t y w) y i ≡ f u y
-        → ((x z : ℕ) → Due (view N t₀) S O done x z → wordAt t (dartOf (view N t₀) S O x z) i ≡ f x (dartOf (view N t₀) S O x z)) → i < 6
-        → (x z : ℕ) → Due (view N t₀) S O (done + 1) x z → wordAt (revived t y w) (dartOf (view N t₀) S O x z) i ≡ f x (dartOf (view N t₀) S O x z)
-    given-word w i f new old l x z d = ⊎-elim
-        (λ (b : Due (view N t₀) S O done x z). revived-other t y w _ i l (inl (other-slot x z b)) ∙ old x z b)
+    -- the words of a slot that a pair has
+    fresh-more : (w : ℕ) → w ≡ view N t₀ .tag u → (x z : ℕ) (f : Field) → Due (view N t₀) S O (done + 1) x z
+        → fieldAt (revived t y w) f (dartOf (view N t₀) S O x z) ≡ newField (view N t₀) (view N t₀ .tag x) (dartOf (view N t₀) S O x z) f
+    fresh-more w tag-is x z f d = ⊎-elim
+        (λ (b : Due (view N t₀) S O done x z). revived-other t y w _ f (other-slot x z b) ∙ g .fresh x z f b)
         (λ (b : (x ≡ u) × (z ≡ v)). let q = same x z (b .0) (b .1) in
-        ap (λ (k : ℕ). wordAt (revived t y w) k i) q ∙ new ∙ sym (ap₂ f (b .0) q))
+        ap (fieldAt (revived t y w) f) q ∙ revived-same t y w N (g .tableLong ∙ G .sized .long) (L .fits) f ∙ was f
+        ∙ sym (ap₂ (λ (a k : ℕ). newField (view N t₀) (view N t₀ .tag a) k f) (b .0) q))
         (old-or-new x z d)
+      where
+        was : (f : Field) → newField (view N t) w y f ≡ newField (view N t₀) (view N t₀ .tag u) y f
+        was State = refl
+        was (Link i) = ap (cond (eqb i 3) y) (g .other y (Link i) other-slot)
+        was Tag = tag-is
 
     pub granting-more : (w i : ℕ) → w ≡ view N t₀ .tag u → i ≡ cell u v → Granting N S O t₀ s₀ size (done + 1) (y + 1) (revived t y w) (set s i y)
     unfolding dartAt
@@ -237,11 +227,8 @@ module _ {N : ℕ} {S : Scheme} {O : ℕ → Bool} {t₀ s₀ : List ℕ} {size 
           (λ (b : Due (view N t₀) S O done x z). g .was x z b)
           (λ (b : (x ≡ u) × (z ≡ v)). ap (view N t₀ .state) (same x z (b .0) (b .1)) ∙ was-unused g L)
           (old-or-new x z d);
-      state = given-word w 0 (λ x z. 1) (revived-state t y w fits) (g .state) (omega arith);
-      own = given-word w 4 (λ x z. z) (revived-own t y w fits) (g .own) (omega arith);
-      tag = given-word w 5 (λ x z. view N t₀ .tag x) (revived-tag t y w fits ∙ tag-is) (g .tag) (omega arith);
-      links = λ x c l k. revived-other t y w x c (omega arith) (inr (l, k)) ∙ g .links x c l k;
-      other = λ x c l f. revived-other t y w x c l (inl (λ q. f u v due (here ∙ sym q))) ∙ g .other x c l (λ x z d. f x z (later x z d));
+      fresh = fresh-more w tag-is;
+      other = λ x f no. revived-other t y w x f (λ q. no u v due (here ∙ sym q)) ∙ g .other x f (λ a z d. no a z (later a z d));
       dart = λ x z d. ⊎-elim
           (λ (b : Due (view N t₀) S O done x z). getD-set-other s i (cell x z) y 0 (λ q. other-cell x z b (q ∙ cell-is)) ∙ g .dart x z b)
           (λ (b : (x ≡ u) × (z ≡ v)). ap (λ (k : ℕ). getD (set s i y) k 0) (ap₂ cell (b .0) (b .1) ∙ sym cell-is)
@@ -256,8 +243,7 @@ module _ {N : ℕ} {S : Scheme} {O : ℕ → Bool} {t₀ s₀ : List ℕ} {size 
 module _ {N : ℕ} {t s : List ℕ} {size many u r free : ℕ} (T : Turn N t s size many u r free) where
   -- the tag of the orbit dart is as it was
   pub turn-tag : view N t .tag u ≡ view N (T .table) .tag u
-  unfolding wordAt
-  turn-tag = orbit-word (T .grant) (T .granting) u 5 (T .inOrbit) (omega arith)
+  turn-tag = orbit-word (T .grant) (T .granting) u Tag (T .inOrbit)
 
   -- after the last of its pairs
   pub turn-done : {a from : ℕ} {t′ s′ : List ℕ} → a ≤ many → many ≤ a

@@ -3,14 +3,14 @@
 -- Assumes nothing.
 use Prim.Native.Nat.{ℕ, _+_, _*_, _≤_, _<_}
 use mathlib.Core.Path.{_≡_}
-use mathlib.Core.Bool.{Bool, true}
+use mathlib.Core.Bool.{Bool, true, cond}
 use mathlib.Core.List.{List}
 use lib.ListN.{length, getD}
-use Rattle.model.specs.Map.{Map}
+use lib.Dec.{eqb}
+use Rattle.model.specs.Map.{Map, Field, State, Link, Tag, fieldAt}
 use Rattle.model.specs.Scheme.{added}
 use Rattle.model.specs.Edit.{dartOf}
 use Rattle.model.specs.declared.Scheme.{Scheme}
-use Rattle.table.specs.Words.{wordAt}
 use Rattle.orbit.specs.Store.{place, dartAt}
 
 -- the darts of all pairs stand in columns
@@ -27,11 +27,15 @@ pub record AddedDart (m : Map) (S : Scheme) (O : ℕ → Bool) (y : ℕ) : Type 
   pub isAdded : added S node ≡ true
   pub same : dartOf m S O dart node ≡ y
 
--- the table t′ is t with the darts of the added pairs live, with a 3-link to themselves and the tag of the orbit dart
+-- the words of a slot y of m once it is live with the tag v: its 3-link is itself, and its other links are as they were
+abbrev pub newField : Map → ℕ → ℕ → Field → ℕ
+newField m v y State = 1
+newField m v y (Link i) = cond (eqb i 3) y (m .link i y)
+newField m v y Tag = v
+
+-- the table t′ is t with the darts of the added pairs live, with the tag of the orbit dart
 pub record Given (m : Map) (S : Scheme) (O : ℕ → Bool) (t t′ : List ℕ) : Type 0 where
   pub long : length t′ ≡ length t
-  pub state : (u s : ℕ) → O u ≡ true → s < S .nodes → added S s ≡ true → wordAt t′ (dartOf m S O u s) 0 ≡ 1
-  pub own : (u s : ℕ) → O u ≡ true → s < S .nodes → added S s ≡ true → wordAt t′ (dartOf m S O u s) 4 ≡ dartOf m S O u s
-  pub tag : (u s : ℕ) → O u ≡ true → s < S .nodes → added S s ≡ true → wordAt t′ (dartOf m S O u s) 5 ≡ m .tag u
-  pub links : (y c : ℕ) → 1 ≤ c → c ≤ 3 → wordAt t′ y c ≡ wordAt t y c
-  pub other : (y c : ℕ) → c < 6 → (AddedDart m S O y → ⊥) → wordAt t′ y c ≡ wordAt t y c
+  pub fresh : (u s : ℕ) (f : Field) → O u ≡ true → s < S .nodes → added S s ≡ true
+      → fieldAt t′ f (dartOf m S O u s) ≡ newField m (m .tag u) (dartOf m S O u s) f
+  pub other : (y : ℕ) (f : Field) → (AddedDart m S O y → ⊥) → fieldAt t′ f y ≡ fieldAt t f y

@@ -8,31 +8,27 @@ use lib.ListN.{length, getD}
 use lib.Dec.{eqb, ltb}
 use Rattle.base.specs.Below.{countBelow}
 use Rattle.base.specs.Steps.{steps}
-use Rattle.model.specs.Map.{Map, view, unused}
+use Rattle.model.specs.Map.{Map, Link, put, view, unused}
 use Rattle.model.specs.Scheme.{right, orbitDim}
 use Rattle.model.specs.Accepted.{Accepted}
 use Rattle.model.specs.Orbit.{orbit}
 use Rattle.model.specs.Match.{image, Assignment}
 use Rattle.model.specs.Edit.{addedDarts, edited}
 use Rattle.model.specs.declared.Scheme.{Scheme}
-use Rattle.table.specs.Words.{Sized, put}
+use Rattle.table.specs.Words.{Sized, blanked}
 use Rattle.orbit.specs.Store.{next, dartAt, Walked}
 use Rattle.conditions.specs.Arcs.{Coded}
 use Rattle.rewriting.specs.Darts.{Darts, Given}
 
 -- ---- what is written
 
--- word c of the slots `at 0` .. `at (n - 1)` becomes `v 0` .. `v (n - 1)`
+-- the i-links of the slots `at 0` .. `at (n - 1)` become `v 0` .. `v (n - 1)`
 unfoldable pub overwritten : ℕ → (ℕ → ℕ) → (ℕ → ℕ) → ℕ → List ℕ → List ℕ
-overwritten c at v n = steps n (λ r t. put t (at r) c (v r))
-
--- the record of slot x becomes six zeros
-unfoldable pub zeroed : ℕ → List ℕ → List ℕ
-zeroed x = steps 6 (λ c t. put t x c 0)
+overwritten i at v n = steps n (λ r t. put t (Link i) (at r) (v r))
 
 -- the records of the slots `at 0` .. `at (n - 1)` become zeros
 unfoldable pub erased : (ℕ → ℕ) → ℕ → List ℕ → List ℕ
-erased at n = steps n (λ r. zeroed (at r))
+erased at n = steps n (λ r. blanked (at r))
 
 -- the records of the darts of the node whose column of the store begins at `base`, where its kind is deleted
 unfoldable pub clearedBy : List ℕ → ℕ → ℕ → ℕ → List ℕ → List ℕ
@@ -44,15 +40,15 @@ module _ (store : List ℕ) (size : ℕ) (cols : List ℕ) where
   cleared kinds n = steps n (λ v. clearedBy store size (getD cols v 0) (getD kinds v 0))
 
 module _ (N : ℕ) (store : List ℕ) (size : ℕ) (cols : List ℕ) where
-  -- word c of the darts of the node whose column of the store begins at `base`, by the code of an arc
+  -- the i-links of the darts of the node whose column of the store begins at `base`, by the code of an arc
   unfoldable pub followed : ℕ → ℕ → ℕ → List ℕ → List ℕ
-  followed c base code t =
-      cond (ltb code 16) (overwritten c (dartAt store base) (dartAt store (getD cols code 0)) size t)
-      (cond (ltb code 255) (overwritten c (dartAt store base) (λ r. dartAt store base (next N store r (code - 16))) size t) t)
+  followed i base code t =
+      cond (ltb code 16) (overwritten i (dartAt store base) (dartAt store (getD cols code 0)) size t)
+      (cond (ltb code 255) (overwritten i (dartAt store base) (λ r. dartAt store base (next N store r (code - 16))) size t) t)
 
   -- the links of the darts of all nodes, by the first n codes of their arcs
   unfoldable pub relinked : List ℕ → ℕ → List ℕ → List ℕ
-  relinked codes n = steps n (λ k. followed (1 + k % 4) (getD cols (k / 4) 0) (getD codes k 0))
+  relinked codes n = steps n (λ k. followed (k % 4) (getD cols (k / 4) 0) (getD codes k 0))
 
 -- ---- what makes it safe
 

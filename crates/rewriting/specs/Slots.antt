@@ -12,16 +12,16 @@ use Rattle.base.specs.Test.{_and_}
 use Rattle.base.specs.Below.{countBelow}
 use Rattle.base.specs.First.{nthLowest}
 use Rattle.base.specs.Binary.{binary}
-use Rattle.model.specs.Map.{Map, view, unused}
+use Rattle.model.specs.Map.{Map, Field, State, Link, Tag, fieldAt, put, view, unused}
 use Rattle.model.specs.WellFormed.{WellFormed}
 use Rattle.model.specs.Scheme.{orbitDim, added}
 use Rattle.model.specs.Shaped.{Shaped}
 use Rattle.model.specs.Orbit.{orbit}
 use Rattle.model.specs.Edit.{addedDarts, rank, dartOf}
 use Rattle.model.specs.declared.Scheme.{Scheme}
-use Rattle.table.specs.Words.{Sized, wordAt, put}
+use Rattle.table.specs.Words.{Sized}
 use Rattle.orbit.specs.Store.{mark, place, dartAt, among, Walked, Kept, Assigned}
-use Rattle.rewriting.specs.Darts.{Darts, Given}
+use Rattle.rewriting.specs.Darts.{Darts, newField, Given}
 
 -- ---- one slot
 
@@ -41,7 +41,7 @@ pub record Lowest (N : ℕ) (t : List ℕ) (from y : ℕ) : Type 0 where
 
 -- t with the slot y live, with a 3-link to itself and the tag v
 unfoldable pub revived : List ℕ → ℕ → ℕ → List ℕ
-revived t y v = put (put (put t y 0 1) y 4 y) y 5 v
+revived t y v = put (put (put t State y 1) (Link 3) y y) Tag y v
 
 -- ---- the columns of the added nodes
 
@@ -97,11 +97,9 @@ pub record Granting (N : ℕ) (S : Scheme) (O : ℕ → Bool) (t₀ s₀ : List 
   pub taken : countBelow free (unused (view N t₀)) ≡ done
   pub low : (u v : ℕ) → Due (view N t₀) S O done u v → dartOf (view N t₀) S O u v < free
   pub was : (u v : ℕ) → Due (view N t₀) S O done u v → view N t₀ .state (dartOf (view N t₀) S O u v) ≡ 0
-  pub state : (u v : ℕ) → Due (view N t₀) S O done u v → wordAt t (dartOf (view N t₀) S O u v) 0 ≡ 1
-  pub own : (u v : ℕ) → Due (view N t₀) S O done u v → wordAt t (dartOf (view N t₀) S O u v) 4 ≡ dartOf (view N t₀) S O u v
-  pub tag : (u v : ℕ) → Due (view N t₀) S O done u v → wordAt t (dartOf (view N t₀) S O u v) 5 ≡ view N t₀ .tag u
-  pub links : (y c : ℕ) → 1 ≤ c → c ≤ 3 → wordAt t y c ≡ wordAt t₀ y c
-  pub other : (y c : ℕ) → c < 6 → ((u v : ℕ) → Due (view N t₀) S O done u v → dartOf (view N t₀) S O u v ≡ y → ⊥) → wordAt t y c ≡ wordAt t₀ y c
+  pub fresh : (u v : ℕ) (f : Field) → Due (view N t₀) S O done u v
+      → fieldAt t f (dartOf (view N t₀) S O u v) ≡ newField (view N t₀) (view N t₀ .tag u) (dartOf (view N t₀) S O u v) f
+  pub other : (y : ℕ) (f : Field) → ((u v : ℕ) → Due (view N t₀) S O done u v → dartOf (view N t₀) S O u v ≡ y → ⊥) → fieldAt t f y ≡ fieldAt t₀ f y
   pub dart : (u v : ℕ) → Due (view N t₀) S O done u v → dartAt s (columnStart N size (countBelow v (added S))) (mark s₀ u - 1) ≡ dartOf (view N t₀) S O u v
   pub kept : (i : ℕ) → (i < 2 * N) ⊎ (3 * N ≤ i) → getD s i 0 ≡ getD s₀ i 0
 

@@ -2,75 +2,63 @@
 // in the store by place, so nothing is read from the table.
 use conditions::arcs::wide;
 use orbit::store::word;
-use table::words::put;
+use table::words::blank;
+use table::words::put_link;
 ghost use mathlib.Core.Path.{_≡_};
 ghost use Prim.Native.Nat.{_+_, _*_, _≤_, _<_};
 ghost use lib.ListN.{length};
 ghost use Rattle.model.specs.Map.{tableOf};
 ghost use Rattle.table.specs.Words.{Sized};
 ghost use Rattle.orbit.specs.Store.{next, dartAt};
-ghost use Rattle.rewriting.specs.Links.{overwritten, zeroed, erased, followed, relinked, cleared, HoldsSlots, Turnable, Legible, Columns, Codes, BeforeRewriting, editedBy};
+ghost use Rattle.rewriting.specs.Links.{overwritten, erased, followed, relinked, cleared, HoldsSlots, Turnable, Legible, Columns, Codes, BeforeRewriting, editedBy};
 
-// Word c of the darts of one node becomes the darts of another node, for the same orbit darts.
+// The i-links of the darts of one node become the darts of another node, for the same orbit darts.
 fn join(
     slots: usize,
     table: &mut [u32],
     store: &[u32],
     size: usize,
-    c: usize,
+    i: usize,
     from: usize,
     to: usize,
 )
     requires { ⌜ Sized slots (now table) ⌝ }
     requires { ⌜ HoldsSlots slots (now store) from size ⌝ }
-    requires { ⌜ (to + size ≤ length (now store)) × (c < 6) ⌝ }
-    ensures { λ _. ⌜ now (table .exit) ≡ overwritten c (dartAt (now (store .entry)) from)
+    requires { ⌜ (to + size ≤ length (now store)) × (i ≤ 3) ⌝ }
+    ensures { λ _. ⌜ now (table .exit) ≡ overwritten i (dartAt (now (store .entry)) from)
         (dartAt (now (store .entry)) to) size (now (table .entry)) ⌝ }
 {
     let mut r = 0;
     while r < size {
         let x = word(store, from + r);
-        put(slots, table, x, c, store[to + r]);
+        put_link(slots, table, i, x, store[to + r]);
         r += 1;
     }
 }
 
-// Word c of the darts of one node becomes the node's darts for the orbit darts to which the links at position p lead.
+// The i-links of the darts of one node become the node's darts for the orbit darts to which the links at position p lead.
 fn turn(
     slots: usize,
     table: &mut [u32],
     store: &[u32],
     size: usize,
-    c: usize,
+    i: usize,
     base: usize,
     p: usize,
 )
     requires { ⌜ Sized slots (now table) ⌝ }
     requires { ⌜ HoldsSlots slots (now store) base size ⌝ }
     requires { ⌜ Turnable slots (now store) size p ⌝ }
-    requires { ⌜ c < 6 ⌝ }
-    ensures { λ _. ⌜ now (table .exit) ≡ overwritten c (dartAt (now (store .entry)) base)
+    requires { ⌜ i ≤ 3 ⌝ }
+    ensures { λ _. ⌜ now (table .exit) ≡ overwritten i (dartAt (now (store .entry)) base)
         (λ r. dartAt (now (store .entry)) base (next slots (now (store .entry)) r p)) size (now (table .entry)) ⌝ }
 {
     let mut r = 0;
     while r < size {
         let x = word(store, base + r);
         let q = word(store, 4 * slots + 4 * r + p);
-        put(slots, table, x, c, store[base + q]);
+        put_link(slots, table, i, x, store[base + q]);
         r += 1;
-    }
-}
-
-// The record of slot x becomes six zeros.
-fn blank(slots: usize, table: &mut [u32], x: usize)
-    requires { ⌜ Sized slots (now table) ⌝ }
-    requires { ⌜ x < slots ⌝ }
-    ensures { λ _. ⌜ now (table .exit) ≡ zeroed x (now (table .entry)) ⌝ }
-{
-    let mut c = 0;
-    while c < 6 {
-        put(slots, table, x, c, 0);
-        c += 1;
     }
 }
 
@@ -88,13 +76,13 @@ fn erase(slots: usize, table: &mut [u32], store: &[u32], size: usize, base: usiz
     }
 }
 
-// Word c of the darts of the node whose column of the store begins at `base`, by the code of an arc.
+// The i-links of the darts of the node whose column of the store begins at `base`, by the code of an arc.
 fn follow(
     slots: usize,
     table: &mut [u32],
     store: &[u32],
     size: usize,
-    c: usize,
+    i: usize,
     base: usize,
     code: usize,
     cols: &[usize; 16],
@@ -102,14 +90,14 @@ fn follow(
     requires { ⌜ Sized slots (now table) ⌝ }
     requires { ⌜ HoldsSlots slots (now store) base size ⌝ }
     requires { ⌜ Legible slots (now store) size (now cols) code ⌝ }
-    requires { ⌜ c < 6 ⌝ }
+    requires { ⌜ i ≤ 3 ⌝ }
     ensures { λ _. ⌜ now (table .exit) ≡ followed slots (now (store .entry)) size (now (cols .entry))
-        c base code (now (table .entry)) ⌝ }
+        i base code (now (table .entry)) ⌝ }
 {
     if code < 16 {
-        join(slots, table, store, size, c, base, cols[code]);
+        join(slots, table, store, size, i, base, cols[code]);
     } else if code < 255 {
-        turn(slots, table, store, size, c, base, code - 16);
+        turn(slots, table, store, size, i, base, code - 16);
     }
 }
 
@@ -136,7 +124,7 @@ fn relink(
             table,
             store,
             size,
-            1 + k % 4,
+            k % 4,
             cols[k / 4],
             wide(codes[k]),
             cols,

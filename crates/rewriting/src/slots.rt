@@ -1,7 +1,9 @@
 // The darts of the added pairs: each takes the lowest slot that is left of those unused before the edit, by orbit dart and then by node.
 use orbit::store::keep;
 use orbit::store::word;
-use table::words::put;
+use table::words::put_link;
+use table::words::put_state;
+use table::words::put_tag;
 use table::words::state;
 use table::words::tag;
 ghost use mathlib.Core.Path.{_≡_};
@@ -42,9 +44,9 @@ fn revive(slots: usize, table: &mut [u32], y: usize, v: u32)
     requires { ⌜ y < slots ⌝ }
     ensures { λ _. ⌜ now (table .exit) ≡ revived (now (table .entry)) y v ⌝ }
 {
-    put(slots, table, y, 0, 1);
-    put(slots, table, y, 4, y as u32);
-    put(slots, table, y, 5, v);
+    put_state(slots, table, y, 1);
+    put_link(slots, table, 3, y, y as u32);
+    put_tag(slots, table, y, v);
 }
 
 // The darts of the orbit dart u, at place r, with each added node. The answer is the slot past the last that was taken.

@@ -1,9 +1,18 @@
-// The words of a table, one by one, by its layout of six words a slot.
+// The words of a table, one by one and by name: the layout of records in code.
 ghost use mathlib.Core.Path.{_≡_};
-ghost use Prim.Native.Nat.{_<_, _≤_};
-ghost use lib.ListN.{length, replicate};
-ghost use Rattle.model.specs.Map.{view};
-ghost use Rattle.table.specs.Words.{Sized, put as putWord};
+ghost use Prim.Native.Nat.{_+_, _*_, _<_, _≤_};
+ghost use lib.ListN.{getD, set};
+ghost use Rattle.model.specs.Map.{State, Link, Tag, recordSize, tableSize, put, view};
+ghost use Rattle.table.specs.Words.{Sized, blanked};
+
+// The words of a record: the state, the link of dimension 0 with the others behind it, and the tag.
+const RECORD: usize = 6;
+
+const STATE: usize = 0;
+
+const LINKS: usize = 1;
+
+const TAG: usize = 5;
 
 fn wide(x: u32) -> usize
     ensures { λ r. ⌜ r ≡ x ⌝ }
@@ -11,12 +20,37 @@ fn wide(x: u32) -> usize
     x as usize
 }
 
+// How many words a table has.
+pub fn size(slots: u32) -> usize
+    ensures { λ r. ⌜ r ≡ tableSize slots ⌝ }
+{
+    RECORD * wide(slots)
+}
+
+// The word of slot x in column c.
+fn at(slots: usize, table: &[u32], c: usize, x: usize) -> u32
+    requires { ⌜ Sized slots (now table) ⌝ }
+    requires { ⌜ (x < slots) × (c < recordSize) ⌝ }
+    ensures { λ r. ⌜ r ≡ getD (now (table .entry)) (recordSize * x + c) 0 ⌝ }
+{
+    table[RECORD * x + c]
+}
+
+// The word of slot x in column c becomes v.
+fn put_at(slots: usize, table: &mut [u32], c: usize, x: usize, v: u32)
+    requires { ⌜ Sized slots (now table) ⌝ }
+    requires { ⌜ (x < slots) × (c < recordSize) ⌝ }
+    ensures { λ _. ⌜ now (table .exit) ≡ set (now (table .entry)) (recordSize * x + c) v ⌝ }
+{
+    table[RECORD * x + c] = v;
+}
+
 pub fn state(slots: usize, table: &[u32], x: usize) -> u32
     requires { ⌜ Sized slots (now table) ⌝ }
     requires { ⌜ x < slots ⌝ }
     ensures { λ r. ⌜ r ≡ view slots (now (table .entry)) .state x ⌝ }
 {
-    table[6 * x]
+    at(slots, table, STATE, x)
 }
 
 // The word of αi(x).
@@ -25,7 +59,7 @@ pub fn word(slots: usize, table: &[u32], i: usize, x: usize) -> u32
     requires { ⌜ (x < slots) × (i ≤ 3) ⌝ }
     ensures { λ r. ⌜ r ≡ view slots (now (table .entry)) .link i x ⌝ }
 {
-    table[6 * x + 1 + i]
+    at(slots, table, LINKS + i, x)
 }
 
 // αi(x)
@@ -42,25 +76,43 @@ pub fn tag(slots: usize, table: &[u32], x: usize) -> u32
     requires { ⌜ x < slots ⌝ }
     ensures { λ r. ⌜ r ≡ view slots (now (table .entry)) .tag x ⌝ }
 {
-    table[6 * x + 5]
+    at(slots, table, TAG, x)
 }
 
-// Column c of slot x becomes v: column 0 is the state, 1 + i the link αi, 5 the tag.
-pub fn put(slots: usize, table: &mut [u32], x: usize, c: usize, v: u32)
+pub fn put_state(slots: usize, table: &mut [u32], x: usize, v: u32)
     requires { ⌜ Sized slots (now table) ⌝ }
-    requires { ⌜ (x < slots) × (c < 6) ⌝ }
-    ensures { λ _. ⌜ now (table .exit) ≡ putWord (now (table .entry)) x c v ⌝ }
+    requires { ⌜ x < slots ⌝ }
+    ensures { λ _. ⌜ now (table .exit) ≡ put (now (table .entry)) State x v ⌝ }
 {
-    table[6 * x + c] = v;
+    put_at(slots, table, STATE, x, v);
 }
 
-// Every word of a table or of a store becomes 0.
-pub fn clear(words: &mut [u32])
-    ensures { λ _. ⌜ now (words .exit) ≡ replicate (length (now (words .entry))) 0 ⌝ }
+// αi(x) becomes v.
+pub fn put_link(slots: usize, table: &mut [u32], i: usize, x: usize, v: u32)
+    requires { ⌜ Sized slots (now table) ⌝ }
+    requires { ⌜ (x < slots) × (i ≤ 3) ⌝ }
+    ensures { λ _. ⌜ now (table .exit) ≡ put (now (table .entry)) (Link i) x v ⌝ }
 {
-    let mut i = 0;
-    while i < words.len() {
-        words[i] = 0;
-        i += 1;
+    put_at(slots, table, LINKS + i, x, v);
+}
+
+pub fn put_tag(slots: usize, table: &mut [u32], x: usize, v: u32)
+    requires { ⌜ Sized slots (now table) ⌝ }
+    requires { ⌜ x < slots ⌝ }
+    ensures { λ _. ⌜ now (table .exit) ≡ put (now (table .entry)) Tag x v ⌝ }
+{
+    put_at(slots, table, TAG, x, v);
+}
+
+// The record of slot x becomes zeros.
+pub fn blank(slots: usize, table: &mut [u32], x: usize)
+    requires { ⌜ Sized slots (now table) ⌝ }
+    requires { ⌜ x < slots ⌝ }
+    ensures { λ _. ⌜ now (table .exit) ≡ blanked x (now (table .entry)) ⌝ }
+{
+    let mut c = 0;
+    while c < RECORD {
+        put_at(slots, table, c, x, 0);
+        c += 1;
     }
 }

@@ -6,7 +6,8 @@ use mathlib.Core.Logic.{⊎-elim}
 use lib.ListN.{length, getD}
 use borrow.Author.Needs.{needs}
 use Rattle.rewriting.specs.Links.{clearedBy, cleared}
-use Rattle.rewriting.proofs.LinkLaws.{Stage, stage-none, stage-more, stage-length, stage-done, by-deleted, by-other}
+use Rattle.table.proofs.StageLaws.{Stage, stage-none, stage-more, stage-length, stage-done}
+use Rattle.rewriting.proofs.LinkLaws.{by-deleted, by-other}
 use Rattle.rewriting.proofs.links.clear.Statement.{statement}
 use Rattle.rewriting.proofs.links.clear.Tie as tie
 

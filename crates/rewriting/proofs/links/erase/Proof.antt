@@ -2,14 +2,16 @@
 -- Assumes nothing.
 use Prim.Native.Nat.{_-_}
 use borrow.Author.Needs.{needs}
+use Rattle.table.specs.Words.{blanked}
 use Rattle.orbit.specs.Store.{dartAt}
-use Rattle.rewriting.specs.Links.{zeroed, erased}
-use Rattle.rewriting.proofs.LinkLaws.{Stage, stage-none, stage-more, stage-length, stage-done, slot-at, zeroed-at}
+use Rattle.rewriting.specs.Links.{erased}
+use Rattle.table.proofs.StageLaws.{Stage, stage-none, stage-more, stage-length, stage-done}
+use Rattle.rewriting.proofs.LinkLaws.{slot-at, blanked-at}
 use Rattle.rewriting.proofs.links.erase.Statement.{statement}
 use Rattle.rewriting.proofs.links.erase.Tie as tie
 
 abbrev Inv-loop : tie.InvT-loop
-Inv-loop slots table₀ store size base r₀ table r = Stage slots table₀ (λ k. zeroed (dartAt store base k)) size r table
+Inv-loop slots table₀ store size base r₀ table r = Stage slots table₀ (λ k. blanked (dartAt store base k)) size r table
 
 abbrev μ-loop : tie.MeasureT-loop
 μ-loop slots table₀ store size base r₀ table r = size - r
@@ -40,7 +42,7 @@ unfolding dartAt
 loop-again c =
     let w = c .before .before .before .before in
     stage-more (w .before .before .loop .inv) (w .before .loop-test .taken) (c .before .before .blank .kept .1 .0)
-    (zeroed-at _ _ _ _ (c .before .before .blank .ensures) (w .word .ensures))
+    (blanked-at _ _ _ _ (c .before .before .blank .ensures) (w .word .ensures))
 
 same-length : tie.Need-same-length Inv-loop μ-loop
 same-length c = stage-length (c .before .loop .inv) (c .before .before .before .before .pre .0)

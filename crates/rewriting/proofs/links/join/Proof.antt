@@ -1,21 +1,22 @@
--- `rewriting::links::join` meets its contract. The loop's invariant: the column is written for the first r darts.
+-- `rewriting::links::join` meets its contract. The loop's invariant: the links are written for the first r darts.
 -- Assumes nothing.
 use Prim.Native.Nat.{_-_}
 use mathlib.Core.Path.{refl}
 use borrow.Author.Needs.{needs}
-use Rattle.table.specs.Words.{put}
+use Rattle.model.specs.Map.{Link, put}
+use Rattle.table.proofs.StageLaws.{Stage, stage-none, stage-more, stage-length, stage-done}
 use Rattle.orbit.specs.Store.{dartAt}
 use Rattle.rewriting.specs.Links.{overwritten}
-use Rattle.rewriting.proofs.LinkLaws.{Stage, stage-none, stage-more, stage-length, stage-done, put-at, slot-at}
+use Rattle.rewriting.proofs.LinkLaws.{put-at, slot-at}
 use Rattle.rewriting.proofs.links.join.Statement.{statement}
 use Rattle.rewriting.proofs.links.join.Tie as tie
 
 abbrev Inv-loop : tie.InvT-loop
-Inv-loop slots table₀ store size c from to r₀ table r =
-    Stage slots table₀ (λ k t. put t (dartAt store from k) c (dartAt store to k)) size r table
+Inv-loop slots table₀ store size i from to r₀ table r =
+    Stage slots table₀ (λ k t. put t (Link i) (dartAt store from k) (dartAt store to k)) size r table
 
 abbrev μ-loop : tie.MeasureT-loop
-μ-loop slots table₀ store size c from to r₀ table r = size - r
+μ-loop slots table₀ store size i from to r₀ table r = size - r
 
 loop-holds : tie.Need-loop-holds Inv-loop μ-loop
 loop-holds c = stage-none (c .before .before .pre .0)
@@ -26,17 +27,17 @@ add-word c = search needs
 word-requires : tie.Need-word-requires Inv-loop μ-loop
 word-requires c κs = search needs
 
-add-put : tie.Need-add-put Inv-loop μ-loop
-add-put c = search needs
+add-put-link : tie.Need-add-put-link Inv-loop μ-loop
+add-put-link c = search needs
 
-mul-put : tie.Need-mul-put Inv-loop μ-loop
-mul-put c = search needs
+mul-put-link : tie.Need-mul-put-link Inv-loop μ-loop
+mul-put-link c = search needs
 
-shared-slice-read-put : tie.Need-shared-slice-read-put Inv-loop μ-loop
-shared-slice-read-put c = search needs
+shared-slice-read-put-link : tie.Need-shared-slice-read-put-link Inv-loop μ-loop
+shared-slice-read-put-link c = search needs
 
-put-requires : tie.Need-put-requires Inv-loop μ-loop
-put-requires c κs =
+put-link-requires : tie.Need-put-link-requires Inv-loop μ-loop
+put-link-requires c κs =
     let w = c .before .before in
     let l = w .before .before in
     let pre = l .before .before .before .pre in
@@ -53,8 +54,8 @@ unfolding dartAt
 loop-again c =
     let w = c .before .before .before .before .before in
     let l = w .before .before in
-    stage-more (l .loop .inv) (w .before .loop-test .taken) (c .before .before .put .kept .1 .0)
-    (put-at _ _ _ _ _ _ _ (c .before .before .put .ensures) (w .word .ensures) refl)
+    stage-more (l .loop .inv) (w .before .loop-test .taken) (c .before .before .put-link .kept .1 .0)
+    (put-at _ _ _ _ _ _ _ (c .before .before .put-link .ensures) (w .word .ensures) refl)
 
 same-length : tie.Need-same-length Inv-loop μ-loop
 same-length c = stage-length (c .before .loop .inv) (c .before .before .before .before .pre .0)
@@ -72,10 +73,10 @@ join-spec =
     loop-holds
     add-word
     word-requires
-    add-put
-    mul-put
-    shared-slice-read-put
-    put-requires
+    add-put-link
+    mul-put-link
+    shared-slice-read-put-link
+    put-link-requires
     add-r
     loop-less
     loop-again

@@ -1,17 +1,18 @@
 -- `rewriting::links::relink` meets its contract. The loop's invariant: the first k arcs are followed.
 -- Assumes nothing.
-use Prim.Native.Nat.{_+_, _*_, _-_, _/_, _%_}
+use Prim.Native.Nat.{_*_, _-_, _/_, _%_}
 use native.Mathlib.Omega.{arith}
 use lib.ListN.{getD}
 use borrow.Author.Needs.{needs}
 use Rattle.rewriting.specs.Links.{followed, relinked}
-use Rattle.rewriting.proofs.LinkLaws.{Stage, stage-none, stage-more, stage-length, stage-done, followed-at}
+use Rattle.table.proofs.StageLaws.{Stage, stage-none, stage-more, stage-length, stage-done}
+use Rattle.rewriting.proofs.LinkLaws.{followed-at}
 use Rattle.rewriting.proofs.links.relink.Statement.{statement}
 use Rattle.rewriting.proofs.links.relink.Tie as tie
 
 abbrev Inv-loop : tie.InvT-loop
 Inv-loop slots table₀ store size codes c cols k₀ table k =
-    Stage slots table₀ (λ j. followed slots store size cols (1 + j % 4) (getD cols (j / 4) 0) (getD codes j 0)) (4 * c) k table
+    Stage slots table₀ (λ j. followed slots store size cols (j % 4) (getD cols (j / 4) 0) (getD codes j 0)) (4 * c) k table
 
 abbrev μ-loop : tie.MeasureT-loop
 μ-loop slots table₀ store size codes c cols k₀ table k = 4 * c - k
@@ -21,9 +22,6 @@ loop-holds c = stage-none (c .before .before .pre .0)
 
 mul-loop : tie.Need-mul-loop Inv-loop μ-loop
 mul-loop c = search needs
-
-add-follow : tie.Need-add-follow Inv-loop μ-loop
-add-follow c = search needs
 
 mul-follow : tie.Need-mul-follow Inv-loop μ-loop
 mul-follow c = search needs
@@ -73,7 +71,6 @@ relink-spec =
     μ-loop
     loop-holds
     mul-loop
-    add-follow
     mul-follow
     element-copy-out-follow
     element-copy-out-wide

@@ -1,22 +1,23 @@
--- `rewriting::links::turn` meets its contract. The loop's invariant: the column is written for the first r darts.
+-- `rewriting::links::turn` meets its contract. The loop's invariant: the links are written for the first r darts.
 -- Assumes nothing.
 use Prim.Native.Nat.{_-_, _<_}
 use native.Mathlib.Omega.{arith}
 use borrow.Author.Needs.{needs}
 use denote.Ref.{now}
-use Rattle.table.specs.Words.{put}
+use Rattle.model.specs.Map.{Link, put}
+use Rattle.table.proofs.StageLaws.{Stage, stage-none, stage-more, stage-length, stage-done}
 use Rattle.orbit.specs.Store.{next, dartAt}
 use Rattle.rewriting.specs.Links.{overwritten}
-use Rattle.rewriting.proofs.LinkLaws.{Stage, stage-none, stage-more, stage-length, stage-done, put-at, slot-at, place-at, turned-at}
+use Rattle.rewriting.proofs.LinkLaws.{put-at, slot-at, place-at, turned-at}
 use Rattle.rewriting.proofs.links.turn.Statement.{statement}
 use Rattle.rewriting.proofs.links.turn.Tie as tie
 
 abbrev Inv-loop : tie.InvT-loop
-Inv-loop slots table₀ store size c base p r₀ table r =
-    Stage slots table₀ (λ k t. put t (dartAt store base k) c (dartAt store base (next slots store k p))) size r table
+Inv-loop slots table₀ store size i base p r₀ table r =
+    Stage slots table₀ (λ k t. put t (Link i) (dartAt store base k) (dartAt store base (next slots store k p))) size r table
 
 abbrev μ-loop : tie.MeasureT-loop
-μ-loop slots table₀ store size c base p r₀ table r = size - r
+μ-loop slots table₀ store size i base p r₀ table r = size - r
 
 loop-holds : tie.Need-loop-holds Inv-loop μ-loop
 loop-holds c = stage-none (c .before .before .pre .0)
@@ -48,17 +49,17 @@ place c =
     let l = c .before .before .before in
     place-at _ _ _ _ _ (c .word2 .ensures) _ (l .before .before .before .pre .1 .1 .0) (c .before .before .loop-test .taken)
 
-add-put : tie.Need-add-put Inv-loop μ-loop
-add-put c = omega (arith, place (c .before))
+add-put-link : tie.Need-add-put-link Inv-loop μ-loop
+add-put-link c = omega (arith, place (c .before))
 
-mul-put : tie.Need-mul-put Inv-loop μ-loop
-mul-put c = omega (arith, place (c .before))
+mul-put-link : tie.Need-mul-put-link Inv-loop μ-loop
+mul-put-link c = omega (arith, place (c .before))
 
-shared-slice-read-put : tie.Need-shared-slice-read-put Inv-loop μ-loop
-shared-slice-read-put c = omega (arith, place (c .before .before))
+shared-slice-read-put-link : tie.Need-shared-slice-read-put-link Inv-loop μ-loop
+shared-slice-read-put-link c = omega (arith, place (c .before .before))
 
-put-requires : tie.Need-put-requires Inv-loop μ-loop
-put-requires c κs =
+put-link-requires : tie.Need-put-link-requires Inv-loop μ-loop
+put-link-requires c κs =
     let w = c .before .before .before in
     let l = w .before .before in
     let pre = l .before .before .before .pre in
@@ -76,8 +77,8 @@ loop-again c =
     let w = c .before .before .before .before .before .before in
     let l = w .before .before in
     let a = l .before .before .before .args in
-    stage-more (l .loop .inv) (w .before .loop-test .taken) (c .before .before .put .kept .1 .0)
-    (put-at _ _ _ _ _ _ _ (c .before .before .put .ensures) (w .word .ensures)
+    stage-more (l .loop .inv) (w .before .loop-test .taken) (c .before .before .put-link .kept .1 .0)
+    (put-at _ _ _ _ _ _ _ (c .before .before .put-link .ensures) (w .word .ensures)
     (turned-at (a .slots) (now (a .store)) (l .loop .r) (a .p) _ (c .before .before .before .before .before .word2 .ensures) (a .base)))
 
 same-length : tie.Need-same-length Inv-loop μ-loop
@@ -101,10 +102,10 @@ turn-spec =
     add-word-2
     add-word-3
     word-requires-2
-    add-put
-    mul-put
-    shared-slice-read-put
-    put-requires
+    add-put-link
+    mul-put-link
+    shared-slice-read-put-link
+    put-link-requires
     add-r
     loop-less
     loop-again

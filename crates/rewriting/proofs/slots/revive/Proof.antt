@@ -5,17 +5,17 @@ use Rattle.rewriting.proofs.SlotRowLaws.{revived-of}
 use Rattle.rewriting.proofs.slots.revive.Statement.{statement}
 use Rattle.rewriting.proofs.slots.revive.Tie as tie
 
-put-requires : tie.Need-put-requires
-put-requires c κs = search needs
+put-state-requires : tie.Need-put-state-requires
+put-state-requires c κs = search needs
 
-cast-put : tie.Need-cast-put
-cast-put c = search needs
+cast-put-link : tie.Need-cast-put-link
+cast-put-link c = search needs
 
-put-requires-2 : tie.Need-put-requires-2
-put-requires-2 c κs = search needs
+put-link-requires : tie.Need-put-link-requires
+put-link-requires c κs = search needs
 
-put-requires-3 : tie.Need-put-requires-3
-put-requires-3 c κs = search needs
+put-tag-requires : tie.Need-put-tag-requires
+put-tag-requires c κs = search needs
 
 same-length : tie.Need-same-length
 same-length c = search needs
@@ -25,8 +25,8 @@ returns c =
     let b = c .before .before in
     let a = b .before .before .before .before in
     let p = a .before .before .before .before in
-    revived-of _ _ _ _ _ _ (p .put .ensures) (a .put2 .ensures) (b .put3 .ensures)
+    revived-of _ _ _ _ _ _ (p .put-state .ensures) (a .put-link .ensures) (b .put-tag .ensures)
 
 pub revive-spec : {M : Type 1} → statement M
 revive-spec =
-    tie.close (tie.spec put-requires cast-put put-requires-2 put-requires-3 same-length returns)
+    tie.close (tie.spec put-state-requires cast-put-link put-link-requires put-tag-requires same-length returns)

@@ -1,4 +1,4 @@
--- `table::words::clear` meets its contract. The loop's invariant: the first i words are 0.
+-- `base::clear` meets its contract. The loop's invariant: the first i words are 0.
 -- Assumes nothing.
 use Prim.Native.Nat.{_-_, _≤_}
 use mathlib.Core.Path.{_≡_, refl}
@@ -6,9 +6,9 @@ use native.Mathlib.Omega.{arith}
 use lib.ListN.{length, take, replicate, length-set}
 use borrow.Author.Needs.{needs}
 use denote.Ref.{now}
 use Rattle.base.proofs.ListLaws.{fill-more, fill-done}
-use Rattle.table.proofs.words.clear.Statement.{statement}
-use Rattle.table.proofs.words.clear.Tie as tie
+use Rattle.base.proofs.clear.Statement.{statement}
+use Rattle.base.proofs.clear.Tie as tie
 
 abbrev Inv-loop : tie.InvT-loop
 Inv-loop words₀ i₀ words i = (i ≤ length words₀) × (length words ≡ length words₀) × (take i words ≡ replicate i 0)

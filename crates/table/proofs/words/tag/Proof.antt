@@ -1,0 +1,16 @@
+-- `table::words::tag` meets its contract.
+-- Assumes nothing.
+use borrow.Author.Needs.{needs}
+use Rattle.model.specs.Map.{fieldAt}
+use Rattle.table.proofs.words.tag.Statement.{statement}
+use Rattle.table.proofs.words.tag.Tie as tie
+
+at-requires : tie.Need-at-requires
+at-requires c κs = search needs
+
+returns : tie.Need-returns
+unfolding fieldAt
+returns c = c .at .ensures
+
+pub tag-spec : {M : Type 1} → statement M
+tag-spec = tie.close (tie.spec at-requires returns)
