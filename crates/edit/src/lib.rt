@@ -11,8 +11,11 @@ ghost use Prim.Native.Nat.{_*_};
 ghost use lib.ListN.{length};
 ghost use Rattle.base.specs.Below.{countBelow};
 ghost use Rattle.model.specs.Map.{view, unused};
+ghost use Rattle.model.specs.Site.{siteAt, Sound};
+ghost use Rattle.table.specs.Words.{Sized};
 ghost use Rattle.conditions.specs.Tree.{TreeOf};
-ghost use Rattle.edit.specs.Apply.{At, Settling, Applied};
+ghost use Rattle.orbit.specs.At.{site};
+ghost use Rattle.edit.specs.Apply.{Settling, Applied};
 
 // The new darts and the new links of a match, where `room` slots are enough.
 fn settle<'a>(
@@ -24,12 +27,11 @@ fn settle<'a>(
     codes: &'a [u8; 64],
     size: usize,
     room: usize,
-    d: usize,
     cols: &mut [usize; 16],
 ) -> Answer
-    requires { ⌜ Settling slots (now table) (now store) c (now kinds) (now codes) size room d (now cols) ⌝ }
-    ensures { λ r. ⌜ ((E : Settling slots (now (table .entry)) (now (store .entry)) c (now (kinds .entry)) (now (codes .entry)) size room d (now (cols .entry)))
-        → Applied slots (now (table .entry)) (E .scheme) d r (now (table .exit))) ⌝ }
+    requires { ⌜ Settling slots (now table) (now store) c (now kinds) (now codes) size room (now cols) ⌝ }
+    ensures { λ r. ⌜ ((P : Settling slots (now (table .entry)) (now (store .entry)) c (now (kinds .entry)) (now (codes .entry)) size room (now (cols .entry)))
+        → Applied (site (P .at)) (now (table .entry)) r (now (table .exit))) ⌝ }
 {
     let gone = of_kind(c, kinds, 1);
     let new = of_kind(c, kinds, 3);
@@ -56,11 +58,12 @@ pub fn apply(
     room: usize,
     d: usize,
 ) -> Answer
-    requires { ⌜ At slots (now table) s d ⌝ }
+    requires { ⌜ Sized slots (now table) ⌝ }
+    requires { ⌜ Sound (siteAt (view slots (now table)) s d) ⌝ }
     requires { ⌜ TreeOf s t ⌝ }
     requires { ⌜ room ≡ countBelow slots (unused (view slots (now table))) ⌝ }
     requires { ⌜ length (now store) ≡ 16 * slots ⌝ }
-    ensures { λ r. ⌜ Applied slots (now (table .entry)) s d r (now (table .exit)) ⌝ }
+    ensures { λ r. ⌜ Applied (siteAt (view slots (now (table .entry))) s d) (now (table .entry)) r (now (table .exit)) ⌝ }
 {
     orbit::store::unmark(slots, store);
     let k = wide(s.places);
@@ -90,7 +93,6 @@ pub fn apply(
         &s.rtargets,
         size,
         room,
-        d,
         &mut cols,
     )
 }

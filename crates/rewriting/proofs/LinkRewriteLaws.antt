@@ -3,8 +3,8 @@
 -- Assumes nothing.
 use Prim.Native.Nat.{ℕ, _+_, _*_, _-_, _/_, _%_, _≤_, _<_}
 use mathlib.Core.Path.{_≡_, refl, sym, ap, _∙_, subst}
-use mathlib.Core.Logic.{_⊎_, ⊎-elim}
-use mathlib.Core.Bool.{Bool, true, false, true≢false}
+use mathlib.Core.Logic.{⊎-elim}
+use mathlib.Core.Bool.{true, false, true≢false}
 use mathlib.Core.Option.{Option, none, some}
 use mathlib.Core.List.{List}
 use native.Mathlib.Omega.{arith}
@@ -13,52 +13,48 @@ use lib.Dec.{leb}
 use borrow.Author.Tests.{eqb-true, eq-eqb, lt-ltb, ltb-true, le-leb, leb-true, leb-false}
 use Rattle.base.proofs.TestLaws.{and-left, and-right, and-of, true-or-false}
 use Rattle.base.proofs.FirstLaws.{some-not-none}
-use Rattle.model.specs.Map.{Map, Field, State, Link, Tag, fieldOf, dimension, tableSize, fieldAt, view, tableOf}
-use Rattle.model.specs.Scheme.{left, right, orbitDim, has, deleted, added}
+use Rattle.model.specs.Map.{Map, Field, State, Link, Tag, fieldOf, dimension, tableSize, fieldAt, tableOf}
+use Rattle.model.specs.Scheme.{right, deleted, added}
 use Rattle.model.specs.Conditions.{Arc, absent, explicit, implicit, arcAt}
+use Rattle.model.specs.Site.{Site, Sound}
 use Rattle.model.specs.Edit.{Pair, dartOf, pairOf, edited}
-use Rattle.model.specs.declared.Scheme.{Scheme}
 use Rattle.model.proofs.MapLaws.{state-not-link, tag-not-link, words-are}
-use Rattle.model.proofs.AcceptedLaws.{small, left-or-added}
+use Rattle.model.proofs.AcceptedLaws.{small}
 use Rattle.model.proofs.ArcLaws.{explicit-end, implicit-from, absent-from}
-use Rattle.model.proofs.OrbitLaws.{orbit-slot}
 use Rattle.model.proofs.RankLaws.{left-not-added}
-use Rattle.model.proofs.EditLaws as E
+use Rattle.model.proofs.EditLaws as L
+use Rattle.model.proofs.EditLaws.{Ready}
+use Rattle.model.proofs.MatchIff.{match-ready}
 use Rattle.orbit.specs.Store.{mark, place, next, among}
+use Rattle.orbit.specs.At.{site}
 use Rattle.model.specs.Codes.{arcCode}
-use Rattle.rewriting.specs.Links.{orbitFor, relinked, cleared, Turnable, Legible, Columns, Codes, BeforeRewriting, editedBy}
+use Rattle.rewriting.specs.Links.{relinked, cleared, Turnable, Legible, Columns, Codes, BeforeRewriting}
 use Rattle.rewriting.proofs.LinkWriteLaws.{pairDart, Different, relinked-long, relinked-leaves, relinked-node, relinked-position, relinked-none}
 use Rattle.rewriting.proofs.LinkWriteLaws.{cleared-long, cleared-leaves, cleared-sets}
 
 module _ {slots : ℕ} {table store : List ℕ} {size : ℕ} {kinds codes : List ℕ} {c : ℕ} {cols : List ℕ}
     (R : BeforeRewriting slots table store size kinds codes c cols) where
-  abbrev S : Scheme
-  S = R .scheme
+  abbrev E : Site
+  E = site (R .at)
 
-  abbrev m : Map
-  m = view slots (R .before)
+  open Site E using (map as m, scheme as S, orbit as O)
+  open Sound (R .at .sound) using (accepted)
 
-  abbrev O : ℕ → Bool
-  O = orbitFor m S (R .dart)
+  ready : Ready E
+  ready = match-ready m S (R .at .dart) (R .at .sound) (R .match) (R .room)
 
   abbrev new : Map
-  new = edited m S O
+  new = edited E
 
   -- the dart of a pair, by the orbit dart and by its place
   abbrev D : ℕ → ℕ → ℕ
-  D u v = dartOf m S O u v
+  D u v = dartOf E u v
 
   abbrev dart : ℕ → ℕ → ℕ
   dart v r = pairDart slots store size cols v r
 
   abbrev P : ℕ → ℕ
   P r = place slots store r
-
-  slot : (u : ℕ) → O u ≡ true → u < slots
-  slot = orbit-slot m (S .places) (orbitDim S) (R .dart)
-
-  sides : (v : ℕ) → v < S .nodes → (has S left v ≡ true) ⊎ (added S v ≡ true)
-  sides = left-or-added S (R .accepted .shaped)
 
   node : {v : ℕ} → v < c → v < S .nodes
   node {v} h = subst (λ (n : ℕ). v < n) (R .nodes) h
@@ -78,7 +74,7 @@ module _ {slots : ℕ} {table store : List ℕ} {size : ℕ} {kinds codes : List
   place-of : (u : ℕ) → O u ≡ true → (r : ℕ) × (r < size) × (P r ≡ u)
   unfolding among
   place-of u e =
-      let h = slot u e in
+      let h = ready .good .slot u e in
       let a = R .walked .is u h ∙ e in
       let low = ltb-true 0 (mark store u) (and-left _ _ a) in
       let high = leb-true (mark store u) size (and-right _ _ a) in
@@ -97,9 +93,9 @@ module _ {slots : ℕ} {table store : List ℕ} {size : ℕ} {kinds codes : List
   different : Different slots store size cols c
   different = record {
     slot = λ v r hv hr. subst (λ (x : ℕ). x < slots) (sym (dart-is v r (node hv) hr))
-        (E.dart-slot m S O slot sides (R .match) (R .room) (P r) v (place-in r hr) (node hv));
+        (L.dart-slot E ready (P r) v (place-in r hr) (node hv));
     once = λ v q w r hv hq hw hr e.
-        let d = E.dart-injective m S O slot sides (R .match) (R .room) (P q) v (P r) w (place-in q hq) (place-in r hr) (node hv) (node hw)
+        let d = L.dart-injective E ready (P q) v (P r) w (place-in q hq) (place-in r hr) (node hv) (node hw)
         (sym (dart-is v q (node hv) hq) ∙ e ∙ dart-is w r (node hw) hr) in
         (d .1, place-once q r hq hr (d .0));
   }
@@ -108,7 +104,7 @@ module _ {slots : ℕ} {table store : List ℕ} {size : ℕ} {kinds codes : List
 
   pub columns : Columns slots store size c cols
   columns = record {
-    few = let few = R .accepted .shaped .nodesFew in let same = R .nodes in omega arith;
+    few = let few = accepted .shaped .nodesFew in let same = R .nodes in omega arith;
     at = λ v h. record {
       inside = let i = R .darts .inside v (node h) .1 in let long = R .stored in omega arith;
       slot = λ r b. different .slot v r h b;
@@ -118,8 +114,8 @@ module _ {slots : ℕ} {table store : List ℕ} {size : ℕ} {kinds codes : List
   legible : (v i : ℕ) → v < S .nodes → (a : Arc) → arcAt S right v i ≡ a → Legible slots store size cols (arcCode a)
   legible v i h absent e = record { node = λ l. absurd (omega arith); position = λ l k. absurd (omega arith) }
   legible v i h (explicit t) e =
-      let b = explicit-end S right (R .accepted .sides right) v i t e .0 in
-      let few = R .accepted .shaped .nodesFew in
+      let b = explicit-end S right (accepted .sides right) v i t e .0 in
+      let few = accepted .shaped .nodesFew in
       let long = R .stored in
       record { node = λ l. let w = R .darts .inside t b .1 in omega arith; position = λ l k. absurd (omega arith) }
   legible v i h (implicit p) e =
@@ -130,14 +126,14 @@ module _ {slots : ℕ} {table store : List ℕ} {size : ℕ} {kinds codes : List
         position = λ l k. subst (Turnable slots store size) same record {
           long = R .stored;
           fits = R .walked .fits;
-          position = let few = R .accepted .shaped .placesFew in let n3 = small S (R .accepted .shaped) in omega arith;
+          position = let few = accepted .shaped .placesFew in let n3 = small S (accepted .shaped) in omega arith;
           place = λ r w. R .walked .links r p w b .0;
         };
       }
 
   code-is : (v i : ℕ) → v < S .nodes → i < 4 → getD codes (4 * v + i) 0 ≡ arcCode (arcAt S right v i)
   code-is v i h l =
-      let few = R .accepted .shaped .nodesFew in
+      let few = accepted .shaped .nodesFew in
       R .coded .at v i h l
 
   pub coding : Codes slots store size codes c cols
@@ -164,18 +160,18 @@ module _ {slots : ℕ} {table store : List ℕ} {size : ℕ} {kinds codes : List
   after-long = cleared-long slots store size cols kinds c linked linked-long
 
   -- the pair of a dart is found
-  not-none : (u v : ℕ) → O u ≡ true → v < S .nodes → pairOf m S O (D u v) ≡ none → ⊥
-  not-none u v e h n = some-not-none (E.pair-of m S O slot sides (R .match) (R .room) u v e h) n
+  not-none : (u v : ℕ) → O u ≡ true → v < S .nodes → pairOf E (D u v) ≡ none → ⊥
+  not-none u v e h n = some-not-none (L.pair-of E ready u v e h) n
 
   -- a slot that is no pair's dart
-  untouched : (x : ℕ) → pairOf m S O x ≡ none → (f : Field) → fieldAt after f x ≡ fieldAt (R .before) f x
+  untouched : (x : ℕ) → pairOf E x ≡ none → (f : Field) → fieldAt after f x ≡ fieldAt (R .before) f x
   untouched x e f =
       cleared-leaves slots store size cols kinds c x f (λ v r hv k hr w. off v r hv hr w) linked linked-long
       ∙ relinked-leaves slots store size cols codes (4 * c) x f (λ k r hk hr w z. off (k / 4) r (omega arith) hr w) table (R .sized .long)
-      ∙ R .given .other x f (λ a. not-none (a .dart) (a .node) (a .inOrbit) (a .below) (ap (pairOf m S O) (a .same) ∙ e))
+      ∙ R .given .other x f (λ a. not-none (a .dart) (a .node) (a .inOrbit) (a .below) (ap (pairOf E) (a .same) ∙ e))
     where
       off : (v r : ℕ) → v < c → r < size → dart v r ≡ x → ⊥
-      off v r hv hr w = not-none (P r) v (place-in r hr) (node hv) (ap (pairOf m S O) (sym (dart-is v r (node hv) hr) ∙ w) ∙ e)
+      off v r hv hr w = not-none (P r) v (place-in r hr) (node hv) (ap (pairOf E) (sym (dart-is v r (node hv) hr) ∙ w) ∙ e)
 
   -- the dart of a pair whose node is deleted
   gone : (v r : ℕ) → v < S .nodes → r < size → deleted S v ≡ true → (f : Field) → fieldAt after f (D (P r) v) ≡ 0
@@ -190,7 +186,7 @@ module _ {slots : ℕ} {table store : List ℕ} {size : ℕ} {kinds codes : List
     -- its words before the links are written
     old : added S v ≡ false → (f : Field) → fieldAt table f (D (P r) v) ≡ fieldAt (R .before) f (D (P r) v)
     old n f = R .given .other (D (P r) v) f (λ a.
-        let q = E.dart-injective m S O slot sides (R .match) (R .room) (a .dart) (a .node) (P r) v (a .inOrbit) (place-in r hr) (a .below) hv (a .same) in
+        let q = L.dart-injective E ready (a .dart) (a .node) (P r) v (a .inOrbit) (place-in r hr) (a .below) hv (a .same) in
         true≢false (sym (a .isAdded) ∙ ap (added S) (q .1) ∙ n))
 
     module _ (k : deleted S v ≡ false) where
@@ -213,39 +209,39 @@ module _ {slots : ℕ} {table store : List ℕ} {size : ℕ} {kinds codes : List
       state-stays =
           unlinked State (λ i. state-not-link)
           ∙ ⊎-elim
-          (λ l. old (left-not-added S v l) State ∙ E.left-alive m S O slot sides (R .match) (R .room) (P r) v (place-in r hr) hv l)
+          (λ l. old (left-not-added S v l) State ∙ L.left-alive E ready (P r) v (place-in r hr) hv l)
           (λ a. R .given .fresh (P r) v State (place-in r hr) hv a)
-          (sides v hv)
-          ∙ sym (E.state-pair m S O slot sides (R .match) (R .room) (P r) v (place-in r hr) hv k)
+          (L.kinds E ready v hv)
+          ∙ sym (L.state-pair E ready (P r) v (place-in r hr) hv k)
 
       tag-stays : fieldAt after Tag (D (P r) v) ≡ new .tag (D (P r) v)
       tag-stays =
           unlinked Tag (λ i. tag-not-link)
           ∙ ⊎-elim
           (λ l. old (left-not-added S v l) Tag
-          ∙ sym (E.tag-kept m S O slot sides (R .match) (R .room) (P r) v (place-in r hr) hv k (left-not-added S v l)))
-          (λ a. R .given .fresh (P r) v Tag (place-in r hr) hv a ∙ sym (E.tag-new m S O slot sides (R .match) (R .room) (P r) v (place-in r hr) hv k a))
-          (sides v hv)
+          ∙ sym (L.tag-kept E ready (P r) v (place-in r hr) hv k (left-not-added S v l)))
+          (λ a. R .given .fresh (P r) v Tag (place-in r hr) hv a ∙ sym (L.tag-new E ready (P r) v (place-in r hr) hv k a))
+          (L.kinds E ready v hv)
 
       -- where the right side names no i-arc: a preserved dart keeps the link, and of an added one it is α3 with n = 2, which is the dart itself
       link-absent : (i : ℕ) → i ≤ 3 → arcAt S right v i ≡ absent → fieldAt table (Link i) (D (P r) v) ≡ new .link i (D (P r) v)
       link-absent i l a = ⊎-elim
           (λ z. old (left-not-added S v z) (Link i)
-          ∙ sym (E.link-kept m S O slot sides (R .match) (R .room) (P r) v (place-in r hr) hv k i (left-not-added S v z) a))
+          ∙ sym (L.link-kept E ready (P r) v (place-in r hr) hv k i (left-not-added S v z) a))
           (λ z. ⊎-elim
           (λ w.
-          let some-arc = R .accepted .allRight v i hv (leb-true i (S .n) w) z in
+          let some-arc = accepted .allRight v i hv (leb-true i (S .n) w) z in
           let no-arc = absent-from S right v i a in
           absurd (omega arith))
           (λ w.
           let third : i ≡ 3 = third-is i l (leb-false i (S .n) w) in
           ap (λ (j : ℕ). fieldAt table (Link j) (D (P r) v)) third ∙ R .given .fresh (P r) v (Link 3) (place-in r hr) hv z
-          ∙ sym (E.link-own m S O slot sides (R .match) (R .room) (P r) v (place-in r hr) hv k i z a))
+          ∙ sym (L.link-own E ready (P r) v (place-in r hr) hv k i z a))
           (true-or-false (leb i (S .n))))
-          (sides v hv)
+          (L.kinds E ready v hv)
         where
           third-is : (i : ℕ) → i ≤ 3 → S .n < i → i ≡ 3
-          third-is i l g = ⊎-elim (λ e. omega arith) (λ e. omega arith) (R .accepted .shaped .dimension)
+          third-is i l g = ⊎-elim (λ e. omega arith) (λ e. omega arith) (accepted .shaped .dimension)
 
       link-linked : (i : ℕ) → i ≤ 3 → (a : Arc) → arcAt S right v i ≡ a → fieldAt linked (Link i) (dart v r) ≡ new .link i (D (P r) v)
       link-linked i l absent a =
@@ -253,21 +249,21 @@ module _ {slots : ℕ} {table store : List ℕ} {size : ℕ} {kinds codes : List
           (code-is v i hv (omega arith) ∙ ap arcCode a) table (R .sized .long) (omega arith)
           ∙ ap (fieldAt table (Link i)) (dart-is v r hv hr) ∙ link-absent i l a
       link-linked i l (explicit t) a =
-          let b = explicit-end S right (R .accepted .sides right) v i t a .0 in
-          let few = R .accepted .shaped .nodesFew in
+          let b = explicit-end S right (accepted .sides right) v i t a .0 in
+          let few = accepted .shaped .nodesFew in
           relinked-node slots store size cols codes c different v i r (counted hv) (omega arith) hr t
           (code-is v i hv (omega arith) ∙ ap arcCode a) table (R .sized .long) (omega arith)
-          ∙ dart-is t r b hr ∙ sym (E.link-explicit m S O slot sides (R .match) (R .room) (P r) v (place-in r hr) hv k i t a)
+          ∙ dart-is t r b hr ∙ sym (L.link-explicit E ready (P r) v (place-in r hr) hv k i t a)
       link-linked i l (implicit p) a =
           let b = implicit-from S right v i p a .0 in
-          let few = R .accepted .shaped .placesFew in
-          let n3 = small S (R .accepted .shaped) in
+          let few = accepted .shaped .placesFew in
+          let n3 = small S (accepted .shaped) in
           let same : 16 + p - 16 ≡ p = omega arith in
           let w = R .walked .links r p hr b in
           relinked-position slots store size cols codes c different v i r (counted hv) (omega arith) hr (16 + p)
           (code-is v i hv (omega arith) ∙ ap arcCode a) table (R .sized .long) (omega arith) (omega arith)
           ∙ ap (λ (q : ℕ). dart v (next slots store r q)) same ∙ dart-is v (next slots store r p) hv (w .0) ∙ ap (λ (u : ℕ). D u v) (w .1)
-          ∙ sym (E.link-implicit m S O slot sides (R .match) (R .room) (P r) v (place-in r hr) hv k i p a)
+          ∙ sym (L.link-implicit E ready (P r) v (place-in r hr) hv k i p a)
 
       field-stays : (f : Field) → dimension f ≤ 3 → fieldAt after f (D (P r) v) ≡ fieldOf new f (D (P r) v)
       field-stays State l = state-stays
@@ -278,17 +274,17 @@ module _ {slots : ℕ} {table store : List ℕ} {size : ℕ} {kinds codes : List
 
   -- x is no pair's dart, or that of a pair whose node is deleted, or of another
   data Role (x : ℕ) : Type 0 where
-    noPair : pairOf m S O x ≡ none → Role x
+    noPair : pairOf E x ≡ none → Role x
     deletedPair : (v r : ℕ) → v < S .nodes → r < size → deleted S v ≡ true → D (P r) v ≡ x → Role x
     rightPair : (v r : ℕ) → v < S .nodes → r < size → deleted S v ≡ false → D (P r) v ≡ x → Role x
 
   role : (x : ℕ) → Role x
-  role x = go (pairOf m S O x) refl
+  role x = go (pairOf E x) refl
     where
-      go : (p : Option Pair) → pairOf m S O x ≡ p → Role x
+      go : (p : Option Pair) → pairOf E x ≡ p → Role x
       go none e = noPair e
       go (some p) e =
-          let q = E.pair-at m S O slot sides (R .match) (R .room) x p e in
+          let q = L.pair-at E ready x p e in
           let w = place-of (p .dart) (q .0) in
           let same = ap (λ (u : ℕ). D u (p .node)) (w .2) ∙ q .2 in
           ⊎-elim
@@ -296,15 +292,15 @@ module _ {slots : ℕ} {table store : List ℕ} {size : ℕ} {kinds codes : List
           (λ k. rightPair (p .node) (w .0) (q .1) (w .1) k same)
           (true-or-false (deleted S (p .node)))
 
-  other-is : (f : Field) (x : ℕ) → pairOf m S O x ≡ none → fieldOf new f x ≡ fieldAt (R .before) f x
-  other-is State x e = E.state-other m S O slot sides (R .match) (R .room) x e
-  other-is (Link i) x e = E.link-other m S O slot sides (R .match) (R .room) i x e
-  other-is Tag x e = E.tag-other m S O slot sides (R .match) (R .room) x e
+  other-is : (f : Field) (x : ℕ) → pairOf E x ≡ none → fieldOf new f x ≡ fieldAt (R .before) f x
+  other-is State x e = L.state-other E ready x e
+  other-is (Link i) x e = L.link-other E ready i x e
+  other-is Tag x e = L.tag-other E ready x e
 
   deleted-is : (f : Field) (u v : ℕ) → O u ≡ true → v < S .nodes → deleted S v ≡ true → fieldOf new f (D u v) ≡ 0
-  deleted-is State u v e h k = E.state-deleted m S O slot sides (R .match) (R .room) u v e h k
-  deleted-is (Link i) u v e h k = E.link-deleted m S O slot sides (R .match) (R .room) u v e h i k
-  deleted-is Tag u v e h k = E.tag-deleted m S O slot sides (R .match) (R .room) u v e h k
+  deleted-is State u v e h k = L.state-deleted E ready u v e h k
+  deleted-is (Link i) u v e h k = L.link-deleted E ready u v e h i k
+  deleted-is Tag u v e h k = L.tag-deleted E ready u v e h k
 
   field-is : (f : Field) (x : ℕ) → dimension f ≤ 3 → Role x → fieldAt after f x ≡ fieldOf new f x
   field-is f x l (noPair e) = untouched x e f ∙ sym (other-is f x e)
@@ -317,5 +313,5 @@ module _ {slots : ℕ} {table store : List ℕ} {size : ℕ} {kinds codes : List
   edited-words = words-are new after after-long (λ f x l h. field-is f x l (role x))
 
   pub rewritten : (t t′ : List ℕ) → t ≡ relinked slots store size cols codes (4 * c) table → t′ ≡ cleared store size cols kinds c t
-      → t′ ≡ tableOf (editedBy R)
+      → t′ ≡ tableOf new
   rewritten t t′ e f = f ∙ ap (cleared store size cols kinds c) e ∙ edited-words

@@ -19,10 +19,12 @@ use Rattle.base.specs.Binary.{binary}
 use Rattle.base.proofs.TestLaws.{and-left, and-right, and-of, impossible, same-test}
 use Rattle.base.proofs.BelowLaws.{count-step, count-gap}
 use Rattle.base.proofs.BinaryLaws.{binary-same, binary-below, binary-more, binary-none, binary-zero, binary-lowest, shifted}
-use Rattle.model.specs.declared.Scheme.{Scheme}
+use Rattle.model.specs.Site.{Site}
 use Rattle.orbit.specs.Store.{mark, place}
+use Rattle.orbit.specs.At.{At, site}
 use Rattle.rewriting.specs.Slots.{Grant, Granting, Turn, early, Placed, NoDigits, Digits, Block}
 use Rattle.orbit.proofs.StoreLaws.{among-at, among-of}
+use Rattle.rewriting.proofs.SlotRowLaws.{good, placed}
 
 -- ---- a digit for each of the first places
 
@@ -113,41 +115,43 @@ module _ (N : ℕ) (s : List ℕ) (size : ℕ) (P : Placed N s size) (r : ℕ) (
       mark-more = digits-more _ _ word-is sum-is
 
 -- in the end every orbit dart has its digit
-pub early-orbit : {N : ℕ} {S : Scheme} {O : ℕ → Bool} {t s : List ℕ} {size many : ℕ} → Grant N S O t s size many → (x : ℕ) → early N s size x ≡ O x
-early-orbit {N} {S} {O} {t} {s} {size} G x = same-test _ _
-    (λ e. let m = early-at N s size x e in sym (G .is x (m .0)) ∙ among-of s size x (m .1) (m .2))
-    (λ e. let m = G .placed x e in early-of N s size x (G .slot x e) (m .0) (m .1))
+pub early-orbit : {N : ℕ} {t s : List ℕ} {A : At N t} {size many : ℕ} → Grant A s size many → (x : ℕ) → early N s size x ≡ site A .orbit x
+early-orbit {N} {t} {s} {A} {size} G x = same-test _ _
+    (λ e. let m = early-at N s size x e in sym (G .walked .is x (m .0)) ∙ among-of s size x (m .1) (m .2))
+    (λ e. let m = placed G x e in early-of N s size x (good G .slot x e) (m .0) (m .1))
 
 -- ---- the darts of one word of digits
 
 -- the orbit darts of the word below 64 × w + passed have their pairs; `rest` has a digit for each of the others
-pub record Passed (N : ℕ) (S : Scheme) (O : ℕ → Bool) (t₀ s₀ : List ℕ) (size many w rest from : ℕ) (t s : List ℕ) : Type 0 where
+pub record Passed {N : ℕ} {t₀ : List ℕ} (A : At N t₀) (s₀ : List ℕ) (size many w rest from : ℕ) (t s : List ℕ) : Type 0 where
   pub passed : ℕ
   pub few : passed ≤ 64
-  pub digits : rest ≡ binary 64 (λ k. leb passed k and O (64 * w + k))
-  pub granting : Granting N S O t₀ s₀ size (countBelow (64 * w + passed) O * many) from t s
+  pub digits : rest ≡ binary 64 (λ k. leb passed k and site A .orbit (64 * w + k))
+  pub granting : Granting A s₀ size (countBelow (64 * w + passed) (site A .orbit) * many) from t s
 
 pub passed-none : {N : ℕ} {t s : List ℕ} {size many w number free : ℕ} (B : Block N t s size many w number free)
-    → Passed N (B .scheme) (B .orbit) (B .table) (B .store) size many w number free t s
+    → Passed (B .at) (B .store) size many w number free t s
 passed-none {N} {t} {s} {size} {many} {w} {number} {free} B =
     let z : 64 * w ≡ 64 * w + 0 = omega arith in
     record {
       passed = 0;
       few = omega arith;
       digits = B .digits ∙ binary-same 64 _ _ (λ k l. same-test _ _ (λ e. and-of (le-leb 0 k (omega arith)) e) (λ e. and-right _ _ e));
-      granting = subst (λ (x : ℕ). Granting N (B .scheme) (B .orbit) (B .table) (B .store) size (countBelow x (B .orbit) * many) free t s) z (B .granting);
+      granting = subst (λ (x : ℕ). Granting (B .at) (B .store) size (countBelow x (site (B .at) .orbit) * many) free t s) z (B .granting);
     }
 
-module _ {N : ℕ} {S : Scheme} {O : ℕ → Bool} {t₀ s₀ : List ℕ} {size many w rest from : ℕ} {t s : List ℕ} (G : Grant N S O t₀ s₀ size many)
-    (p : Passed N S O t₀ s₀ size many w rest from t s) where
+module _ {N : ℕ} {t₀ s₀ : List ℕ} {A : At N t₀} {size many w rest from : ℕ} {t s : List ℕ} (G : Grant A s₀ size many)
+    (p : Passed A s₀ size many w rest from t s) where
+  open Site (site A) using (orbit as O)
+
   same-count : (j : ℕ) → p .passed ≤ j → ((k : ℕ) → p .passed ≤ k → k < j → O (64 * w + k) ≡ false)
-      → Granting N S O t₀ s₀ size (countBelow (64 * w + j) O * many) from t s
+      → Granting A s₀ size (countBelow (64 * w + j) O * many) from t s
   same-count j h f =
       let c : countBelow (64 * w + j) O ≡ countBelow (64 * w + p .passed) O = count-gap O (64 * w + p .passed) (64 * w + j) (omega arith)
       (λ z l g. let k : 64 * w + (z - 64 * w) ≡ z = omega arith in ap O (sym k) ∙ f (z - 64 * w) (omega arith) (omega arith)) in
       rw c (p .granting)
 
-  pub passed-all : rest ≡ 0 → Granting N S O t₀ s₀ size (countBelow (64 * w + 64) O * many) from t s
+  pub passed-all : rest ≡ 0 → Granting A s₀ size (countBelow (64 * w + 64) O * many) from t s
   passed-all e = same-count 64 (p .few)
       (λ k l h. impossible _ (λ q. true≢false (sym (and-of (le-leb (p .passed) k l) q) ∙ binary-none 64 _ (sym (p .digits) ∙ e) k h)))
 
@@ -187,25 +191,24 @@ module _ {N : ℕ} {S : Scheme} {O : ℕ → Bool} {t₀ s₀ : List ℕ} {size 
         rw e (omega (arith, rest-is), omega (arith, rest-is))
 
     pub dart-fits : 64 * w + j < N
-    dart-fits = G .slot (64 * w + j) in-orbit
+    dart-fits = good G .slot (64 * w + j) in-orbit
 
-    next : Granting N S O t₀ s₀ size (countBelow (64 * w + j) O * many) from t s
+    next : Granting A s₀ size (countBelow (64 * w + j) O * many) from t s
     next = same-count j late skipped
 
     same-mark : mark s (64 * w + j) ≡ mark s₀ (64 * w + j)
     unfolding mark
-    same-mark = p .granting .kept (64 * w + j) (inl (omega (arith, G .slot (64 * w + j) in-orbit)))
+    same-mark = p .granting .kept (64 * w + j) (inl (omega (arith, good G .slot (64 * w + j) in-orbit)))
 
     pub mark-some : (k : ℕ) → k ≡ getD s (64 * w + j) 0 → 1 ≤ k
     unfolding mark
-    mark-some k q = omega (arith, same-mark, G .placed (64 * w + j) in-orbit)
+    mark-some k q = omega (arith, same-mark, placed G (64 * w + j) in-orbit)
 
     pub turn-of : (k : ℕ) → k ≡ getD s (64 * w + j) 0 → Turn N t s size many (64 * w + j) (k - 1) from
     unfolding mark
     turn-of k q = record {
-      scheme = S;
-      orbit = O;
       table = t₀;
+      at = A;
       store = s₀;
       grant = G;
       inOrbit = in-orbit;
@@ -216,11 +219,12 @@ module _ {N : ℕ} {S : Scheme} {O : ℕ → Bool} {t₀ s₀ : List ℕ} {size 
     -- after the pairs of the lowest dart that is left
     pub passed-more : (k rest′ from′ : ℕ) (t′ s′ : List ℕ) → k ≡ getD s (64 * w + j) 0 → rest′ ≡ rest - (1 * 2 ^ j) % 2 ^ 64
         → ((T : Turn N t s size many (64 * w + j) (k - 1) from)
-        → Granting N (T .scheme) (T .orbit) (T .table) (T .store) size (countBelow (64 * w + j) (T .orbit) * many + many) from′ t′ s′)
-        → Passed N S O t₀ s₀ size many w rest′ from′ t′ s′
+        → Granting (T .at) (T .store) size (countBelow (64 * w + j) (site (T .at) .orbit) * many + many) from′ t′ s′)
+        → Passed A s₀ size many w rest′ from′ t′ s′
     unfolding turn-of
     passed-more k rest′ from′ t′ s′ q e f =
-        let c : countBelow (64 * w + j + 1) O ≡ countBelow (64 * w + j) O + 1 = count-step (64 * w + j) O ∙ ap (λ (b : Bool). countBelow (64 * w + j) O + bit b) in-orbit in
+        let c : countBelow (64 * w + j + 1) O ≡ countBelow (64 * w + j) O + 1 =
+        count-step (64 * w + j) O ∙ ap (λ (b : Bool). countBelow (64 * w + j) O + bit b) in-orbit in
         let a : 64 * w + (j + 1) ≡ 64 * w + j + 1 = omega arith in
         let d : (countBelow (64 * w + j) O + 1) * many ≡ countBelow (64 * w + j) O * many + many = omega arith in
         record {

@@ -21,12 +21,16 @@ use Rattle.base.proofs.FirstLaws.{nth-is}
 use Rattle.base.proofs.RowLaws.{digits}
 use Rattle.model.specs.Map.{Field, State, Link, Tag, dimension, tableSize, fieldAt, put, view, unused}
 use Rattle.model.specs.Scheme.{added}
+use Rattle.model.specs.Site.{Site}
 use Rattle.model.specs.Edit.{orbitSize, addedDarts, rank, freeSlot, dartOf}
-use Rattle.model.specs.declared.Scheme.{Scheme}
+use Rattle.model.proofs.MatchLaws.{GoodOrbit}
+use Rattle.model.proofs.MatchIff.{good-orbit}
 use Rattle.model.proofs.RankLaws.{rank-low, rank-once, dart-added}
 use Rattle.model.proofs.MapLaws.{state-not-tag, state-not-link, tag-not-link, length-put, put-same, put-other}
 use Rattle.table.specs.Words.{Sized}
-use Rattle.orbit.specs.Store.{mark, dartAt}
+use Rattle.orbit.specs.Store.{mark, place, dartAt, among}
+use Rattle.orbit.specs.At.{At, site}
+use Rattle.orbit.proofs.StoreLaws.{among-at}
 use Rattle.rewriting.specs.Darts.{newField}
 use Rattle.rewriting.specs.Slots.{Room, Lowest, revived, columnStart, Grant, Due, Granting, Turn}
 
@@ -86,8 +90,27 @@ module _ (t : List ℕ) (y v : ℕ) where
 
 -- ---- one pair
 
-module _ {N : ℕ} {S : Scheme} {O : ℕ → Bool} {t₀ s₀ : List ℕ} {size many : ℕ} (G : Grant N S O t₀ s₀ size many) where
-  pub granting-none : Granting N S O t₀ s₀ size 0 0 t₀ s₀
+module _ {N : ℕ} {t₀ s₀ : List ℕ} {A : At N t₀} {size many : ℕ} (G : Grant A s₀ size many) where
+  abbrev E : Site
+  E = site A
+
+  open Site E using (map as m, scheme as S, orbit as O)
+
+  -- the orbit's darts, and their marks
+  pub good : GoodOrbit E
+  good = good-orbit m S (A .dart) (A .sound)
+
+  in-store : (u : ℕ) → O u ≡ true → among s₀ size u ≡ true
+  in-store u e = G .walked .is u (good .slot u e) ∙ e
+
+  pub placed : (u : ℕ) → O u ≡ true → (1 ≤ mark s₀ u) × (mark s₀ u ≤ size)
+  placed u e = among-at s₀ size u (in-store u e)
+
+  one-place : (u v : ℕ) → O u ≡ true → O v ≡ true → mark s₀ u ≡ mark s₀ v → u ≡ v
+  one-place u v e f q = sym (G .walked .found u (good .slot u e) (in-store u e))
+      ∙ ap (λ (k : ℕ). place N s₀ (k - 1)) q ∙ G .walked .found v (good .slot v f) (in-store v f)
+
+  pub granting-none : Granting A s₀ size 0 0 t₀ s₀
   unfolding countBelow
   granting-none = record {
     tableLong = refl;
@@ -106,8 +129,8 @@ module _ {N : ℕ} {S : Scheme} {O : ℕ → Bool} {t₀ s₀ : List ℕ} {size 
   unfolding addedDarts orbitSize
   cells =
       let r = G .room in
-      let e : countBelow N O * countBelow (S .nodes) (added S) ≡ size * many = ap₂ _*_ (G .counted) (sym (G .every)) in
-      omega (arith, count-le N (unused (view N t₀)))
+      let e : countBelow N O * countBelow (S .nodes) (added S) ≡ size * many = ap₂ _*_ (G .walked .counted) (sym (G .every)) in
+      omega (arith, count-le N (unused m))
 
   -- the word of the store that holds the dart of (u, v)
   abbrev cell : ℕ → ℕ → ℕ
@@ -121,116 +144,116 @@ module _ {N : ℕ} {S : Scheme} {O : ℕ → Bool} {t₀ s₀ : List ℕ} {size 
       (l, omega (arith, cells))
 
   cell-fits : (u v : ℕ) → O u ≡ true → v < S .nodes → added S v ≡ true → (2 * N ≤ cell u v) × (cell u v < 3 * N)
-  cell-fits u v e h a = let p = G .placed u e in (omega arith, omega (arith, column-within v h a))
+  cell-fits u v e h a = let p = placed u e in (omega arith, omega (arith, column-within v h a))
 
   cell-once : (u v x w : ℕ) → O u ≡ true → O x ≡ true → added S v ≡ true → added S w ≡ true → cell u v ≡ cell x w → (u ≡ x) × (v ≡ w)
   cell-once u v x w e f a b q =
-      let p = G .placed u e in
-      let r = G .placed x f in
+      let p = placed u e in
+      let r = placed x f in
       let d = digits size (countBelow v (added S)) (mark s₀ u - 1) (countBelow w (added S)) (mark s₀ x - 1) (omega arith) (omega arith) (omega arith) in
-      (G .once u x e f (omega (arith, d .1)), count-injective (added S) v w a b (d .0))
+      (one-place u x e f (omega (arith, d .1)), count-injective (added S) v w a b (d .0))
 
-  module _ {done free : ℕ} {t s : List ℕ} (g : Granting N S O t₀ s₀ size done free t s) where
+  module _ {done free : ℕ} {t s : List ℕ} (g : Granting A s₀ size done free t s) where
     -- a slot from `free` on is as it was
-    ahead : (y : ℕ) → free ≤ y → view N t .state y ≡ view N t₀ .state y
+    ahead : (y : ℕ) → free ≤ y → view N t .state y ≡ m .state y
     ahead y h = g .other y State (λ u v d e. omega (arith, g .low u v d))
 
     pub granting-sized : Sized N t
-    granting-sized = record { few = G .sized .few; long = g .tableLong ∙ G .sized .long }
+    granting-sized = record { few = A .sized .few; long = g .tableLong ∙ A .sized .long }
 
     -- while there is room, a slot from `free` on is unused
-    pub room-ahead : done < countBelow N (unused (view N t₀)) → Room N t free
+    pub room-ahead : done < countBelow N (unused m) → Room N t free
     room-ahead h =
-        let r = count-reaches (unused (view N t₀)) N done h in
+        let r = count-reaches (unused m) N done h in
         let late : free ≤ r .0 = by-cases (decLt (r .0) free)
-        (λ l. absurd (omega (arith, count-lt (unused (view N t₀)) (r .0) free l (r .2), g .taken, r .3)))
+        (λ l. absurd (omega (arith, count-lt (unused m) (r .0) free l (r .2), g .taken, r .3)))
         (λ l. omega arith) in
         record { slot = r .0; fits = r .1; late = late; is = ahead (r .0) late ∙ eqb-true _ _ (r .2) }
 
     -- the orbit's darts are none of the slots given
     pub orbit-word : (u : ℕ) (f : Field) → O u ≡ true → fieldAt t f u ≡ fieldAt t₀ f u
     orbit-word u f e = g .other u f
-        (λ x v d q. let z : view N t₀ .state u ≡ 0 = ap (view N t₀ .state) (sym q) ∙ g .was x v d in omega (arith, G .alive u e))
+        (λ x v d q. let z : m .state u ≡ 0 = ap (m .state) (sym q) ∙ g .was x v d in omega (arith, good .alive u e))
 
     module _ {y : ℕ} (L : Lowest N t free y) where
-      was-unused : view N t₀ .state y ≡ 0
+      was-unused : m .state y ≡ 0
       was-unused = sym (ahead y (L .late)) ∙ L .is
 
       -- as many were unused below y as pairs have their slot
-      count-below : countBelow y (unused (view N t₀)) ≡ done
-      count-below = count-gap (unused (view N t₀)) free y (L .late)
+      count-below : countBelow y (unused m) ≡ done
+      count-below = count-gap (unused m) free y (L .late)
           (λ z l h. ne-eqb _ _ (λ e. L .first z l h (ahead z l ∙ e))) ∙ g .taken
 
-      slot-next : freeSlot (view N t₀) done ≡ y
+      slot-next : freeSlot E done ≡ y
       unfolding freeSlot
-      slot-next = ap (λ (o : Option ℕ). Option·getD o 0) (nth-is N (unused (view N t₀)) done y (L .fits) (eq-eqb _ _ was-unused) count-below)
+      slot-next = ap (λ (o : Option ℕ). Option·getD o 0) (nth-is N (unused m) done y (L .fits) (eq-eqb _ _ was-unused) count-below)
 
   -- the next pair takes the lowest slot that is left
-  module _ {done free : ℕ} {t s : List ℕ} (g : Granting N S O t₀ s₀ size done free t s) {y : ℕ} (L : Lowest N t free y)
-      (u v : ℕ) (e : O u ≡ true) (h : v < S .nodes) (a : added S v ≡ true) (next : rank S O u v ≡ done) where
-    here : dartOf (view N t₀) S O u v ≡ y
-    here = dart-added (view N t₀) S O u v a ∙ ap (freeSlot (view N t₀)) next ∙ slot-next g L
+  module _ {done free : ℕ} {t s : List ℕ} (g : Granting A s₀ size done free t s) {y : ℕ} (L : Lowest N t free y)
+      (u v : ℕ) (e : O u ≡ true) (h : v < S .nodes) (a : added S v ≡ true) (next : rank E u v ≡ done) where
+    here : dartOf E u v ≡ y
+    here = dart-added E u v a ∙ ap (freeSlot E) next ∙ slot-next g L
 
-    due : Due (view N t₀) S O (done + 1) u v
+    due : Due A (done + 1) u v
     due = record { inOrbit = e; below = h; isAdded = a; early = omega arith }
 
-    later : (x w : ℕ) → Due (view N t₀) S O done x w → Due (view N t₀) S O (done + 1) x w
+    later : (x w : ℕ) → Due A done x w → Due A (done + 1) x w
     later x w d = record { inOrbit = d .inOrbit; below = d .below; isAdded = d .isAdded; early = omega (arith, d .early) }
 
     -- a pair that has its slot now had it before, or is this one
-    old-or-new : (x w : ℕ) → Due (view N t₀) S O (done + 1) x w → Due (view N t₀) S O done x w ⊎ ((x ≡ u) × (w ≡ v))
-    old-or-new x w d = by-cases (decLt (rank S O x w) done)
+    old-or-new : (x w : ℕ) → Due A (done + 1) x w → Due A done x w ⊎ ((x ≡ u) × (w ≡ v))
+    old-or-new x w d = by-cases (decLt (rank E x w) done)
         (λ l. inl (record { inOrbit = d .inOrbit; below = d .below; isAdded = d .isAdded; early = l }))
-        (λ l. inr (rank-once (view N t₀) S O x w u v (d .inOrbit) e (d .below) h (d .isAdded) a (omega (arith, d .early))))
+        (λ l. inr (rank-once E x w u v (d .inOrbit) e (d .below) h (d .isAdded) a (omega (arith, d .early))))
 
-    same : (x w : ℕ) → x ≡ u → w ≡ v → dartOf (view N t₀) S O x w ≡ y
-    same x w p q = ap₂ (dartOf (view N t₀) S O) p q ∙ here
+    same : (x w : ℕ) → x ≡ u → w ≡ v → dartOf E x w ≡ y
+    same x w p q = ap₂ (dartOf E) p q ∙ here
 
-    other-slot : (x w : ℕ) → Due (view N t₀) S O done x w → dartOf (view N t₀) S O x w ≡ y → ⊥
+    other-slot : (x w : ℕ) → Due A done x w → dartOf E x w ≡ y → ⊥
     other-slot x w d q = omega (arith, g .low x w d, L .late)
 
-    other-cell : (x w : ℕ) → Due (view N t₀) S O done x w → cell x w ≡ cell u v → ⊥
+    other-cell : (x w : ℕ) → Due A done x w → cell x w ≡ cell u v → ⊥
     other-cell x w d q =
         let c = cell-once x w u v (d .inOrbit) e (d .isAdded) a q in
-        let r : rank S O x w ≡ done = ap₂ (rank S O) (c .0) (c .1) ∙ next in
+        let r : rank E x w ≡ done = ap₂ (rank E) (c .0) (c .1) ∙ next in
         omega (arith, d .early)
 
     cell-in : cell u v < length s
     cell-in = omega (arith, cell-fits u v e h a .1, g .storeLong, G .long)
 
     -- the words of a slot that a pair has
-    fresh-more : (w : ℕ) → w ≡ view N t₀ .tag u → (x z : ℕ) (f : Field) → Due (view N t₀) S O (done + 1) x z
-        → fieldAt (revived t y w) f (dartOf (view N t₀) S O x z) ≡ newField (view N t₀) (view N t₀ .tag x) (dartOf (view N t₀) S O x z) f
+    fresh-more : (w : ℕ) → w ≡ m .tag u → (x z : ℕ) (f : Field) → Due A (done + 1) x z
+        → fieldAt (revived t y w) f (dartOf E x z) ≡ newField m (m .tag x) (dartOf E x z) f
     fresh-more w tag-is x z f d = ⊎-elim
-        (λ (b : Due (view N t₀) S O done x z). revived-other t y w _ f (other-slot x z b) ∙ g .fresh x z f b)
+        (λ (b : Due A done x z). revived-other t y w _ f (other-slot x z b) ∙ g .fresh x z f b)
         (λ (b : (x ≡ u) × (z ≡ v)). let q = same x z (b .0) (b .1) in
-        ap (fieldAt (revived t y w) f) q ∙ revived-same t y w N (g .tableLong ∙ G .sized .long) (L .fits) f ∙ was f
-        ∙ sym (ap₂ (λ (a k : ℕ). newField (view N t₀) (view N t₀ .tag a) k f) (b .0) q))
+        ap (fieldAt (revived t y w) f) q ∙ revived-same t y w N (g .tableLong ∙ A .sized .long) (L .fits) f ∙ was f
+        ∙ sym (ap₂ (λ (a k : ℕ). newField m (m .tag a) k f) (b .0) q))
         (old-or-new x z d)
       where
-        was : (f : Field) → newField (view N t) w y f ≡ newField (view N t₀) (view N t₀ .tag u) y f
+        was : (f : Field) → newField (view N t) w y f ≡ newField m (m .tag u) y f
         was State = refl
         was (Link i) = ap (cond (eqb i 3) y) (g .other y (Link i) other-slot)
         was Tag = tag-is
 
-    pub granting-more : (w i : ℕ) → w ≡ view N t₀ .tag u → i ≡ cell u v → Granting N S O t₀ s₀ size (done + 1) (y + 1) (revived t y w) (set s i y)
+    pub granting-more : (w i : ℕ) → w ≡ m .tag u → i ≡ cell u v → Granting A s₀ size (done + 1) (y + 1) (revived t y w) (set s i y)
     unfolding dartAt
     granting-more w i tag-is cell-is = record {
       tableLong = length-revived t y w ∙ g .tableLong;
       storeLong = length-set s i y ∙ g .storeLong;
-      taken = count-step y (unused (view N t₀)) ∙ ap₂ (λ (k : ℕ) (b : Bool). k + bit b) (count-below g L) (eq-eqb _ _ (was-unused g L));
+      taken = count-step y (unused m) ∙ ap₂ (λ (k : ℕ) (b : Bool). k + bit b) (count-below g L) (eq-eqb _ _ (was-unused g L));
       low = λ x z d. ⊎-elim
-          (λ (b : Due (view N t₀) S O done x z). omega (arith, g .low x z b, L .late))
+          (λ (b : Due A done x z). omega (arith, g .low x z b, L .late))
           (λ (b : (x ≡ u) × (z ≡ v)). omega (arith, same x z (b .0) (b .1)))
           (old-or-new x z d);
       was = λ x z d. ⊎-elim
-          (λ (b : Due (view N t₀) S O done x z). g .was x z b)
-          (λ (b : (x ≡ u) × (z ≡ v)). ap (view N t₀ .state) (same x z (b .0) (b .1)) ∙ was-unused g L)
+          (λ (b : Due A done x z). g .was x z b)
+          (λ (b : (x ≡ u) × (z ≡ v)). ap (m .state) (same x z (b .0) (b .1)) ∙ was-unused g L)
           (old-or-new x z d);
       fresh = fresh-more w tag-is;
       other = λ x f no. revived-other t y w x f (λ q. no u v due (here ∙ sym q)) ∙ g .other x f (λ a z d. no a z (later a z d));
       dart = λ x z d. ⊎-elim
-          (λ (b : Due (view N t₀) S O done x z). getD-set-other s i (cell x z) y 0 (λ q. other-cell x z b (q ∙ cell-is)) ∙ g .dart x z b)
+          (λ (b : Due A done x z). getD-set-other s i (cell x z) y 0 (λ q. other-cell x z b (q ∙ cell-is)) ∙ g .dart x z b)
           (λ (b : (x ≡ u) × (z ≡ v)). ap (λ (k : ℕ). getD (set s i y) k 0) (ap₂ cell (b .0) (b .1) ∙ sym cell-is)
           ∙ getD-set-same s i y 0 (omega (arith, cell-in)) ∙ sym (same x z (b .0) (b .1)))
           (old-or-new x z d);
@@ -241,46 +264,48 @@ module _ {N : ℕ} {S : Scheme} {O : ℕ → Bool} {t₀ s₀ : List ℕ} {size 
 -- ---- the pairs of one orbit dart
 
 module _ {N : ℕ} {t s : List ℕ} {size many u r free : ℕ} (T : Turn N t s size many u r free) where
+  open Site (site (T .at)) using (map as m, scheme as S, orbit as O)
+
   -- the tag of the orbit dart is as it was
-  pub turn-tag : view N t .tag u ≡ view N (T .table) .tag u
+  pub turn-tag : view N t .tag u ≡ m .tag u
   turn-tag = orbit-word (T .grant) (T .granting) u Tag (T .inOrbit)
 
   -- after the last of its pairs
   pub turn-done : {a from : ℕ} {t′ s′ : List ℕ} → a ≤ many → many ≤ a
-      → Granting N (T .scheme) (T .orbit) (T .table) (T .store) size (countBelow u (T .orbit) * many + a) from t′ s′
-      → Granting N (T .scheme) (T .orbit) (T .table) (T .store) size (countBelow u (T .orbit) * many + many) from t′ s′
+      → Granting (T .at) (T .store) size (countBelow u O * many + a) from t′ s′
+      → Granting (T .at) (T .store) size (countBelow u O * many + many) from t′ s′
   turn-done {a} {from} {t′} {s′} h l g =
       let e : a ≡ many = omega arith in
-      subst (λ (k : ℕ). Granting N (T .scheme) (T .orbit) (T .table) (T .store) size (countBelow u (T .orbit) * many + k) from t′ s′) e g
+      subst (λ (k : ℕ). Granting (T .at) (T .store) size (countBelow u O * many + k) from t′ s′) e g
 
   module _ (a : ℕ) (l : a < many) where
     -- the a-th added node
-    node : (v : ℕ) × (v < T .scheme .nodes) × (added (T .scheme) v ≡ true) × (countBelow v (added (T .scheme)) ≡ a)
-    node = count-reaches (added (T .scheme)) (T .scheme .nodes) a (rw (← T .grant .every) l)
+    node : (v : ℕ) × (v < S .nodes) × (added S v ≡ true) × (countBelow v (added S) ≡ a)
+    node = count-reaches (added S) (S .nodes) a (rw (← T .grant .every) l)
 
-    node-rank : rank (T .scheme) (T .orbit) u (node .0) ≡ countBelow u (T .orbit) * many + a
+    node-rank : rank (site (T .at)) u (node .0) ≡ countBelow u O * many + a
     unfolding rank
-    node-rank = ap₂ (λ (k c : ℕ). countBelow u (T .orbit) * k + c) (sym (T .grant .every)) (node .3)
+    node-rank = ap₂ (λ (k c : ℕ). countBelow u O * k + c) (sym (T .grant .every)) (node .3)
 
     pub turn-cell : a * size + r < N
     turn-cell =
-        let p = T .grant .placed u (T .inOrbit) in
+        let p = placed (T .grant) u (T .inOrbit) in
         let c = mul-le-mul-right size l in
         omega (arith, cells (T .grant), T .place)
 
     module _ {from : ℕ} {t′ s′ : List ℕ}
-        (g : Granting N (T .scheme) (T .orbit) (T .table) (T .store) size (countBelow u (T .orbit) * many + a) from t′ s′) where
+        (g : Granting (T .at) (T .store) size (countBelow u O * many + a) from t′ s′) where
       pub turn-room : Room N t′ from
       turn-room =
           let n = node in
-          let b = rank-low (view N (T .table)) (T .scheme) (T .orbit) (T .grant .slot) u (n .0) (T .inOrbit) (n .1) (n .2) in
-          room-ahead (T .grant) g (subst (λ (k : ℕ). k < countBelow N (unused (view N (T .table)))) node-rank (lt-of-lt-of-le b (T .grant .room)))
+          let b = rank-low (site (T .at)) (good (T .grant) .slot) u (n .0) (T .inOrbit) (n .1) (n .2) in
+          room-ahead (T .grant) g (subst (λ (k : ℕ). k < countBelow N (unused m)) node-rank (lt-of-lt-of-le b (T .grant .room)))
 
       pub turn-more : (y w : ℕ) (t″ s″ : List ℕ) → Lowest N t′ from y → w ≡ view N t .tag u → t″ ≡ revived t′ y w → s″ ≡ set s′ (2 * N + a * size + r) y
-          → Granting N (T .scheme) (T .orbit) (T .table) (T .store) size (countBelow u (T .orbit) * many + (a + 1)) (y + 1) t″ s″
+          → Granting (T .at) (T .store) size (countBelow u O * many + (a + 1)) (y + 1) t″ s″
       turn-more y w t″ s″ L e p q =
           let n = node in
-          let i : 2 * N + a * size + r ≡ columnStart N size (countBelow (n .0) (added (T .scheme))) + (mark (T .store) u - 1) =
+          let i : 2 * N + a * size + r ≡ columnStart N size (countBelow (n .0) (added S)) + (mark (T .store) u - 1) =
           ap₂ (λ (k c : ℕ). 2 * N + k * size + c) (sym (n .3)) (omega (arith, T .place)) in
-          let j : countBelow u (T .orbit) * many + a + 1 ≡ countBelow u (T .orbit) * many + (a + 1) = omega arith in
+          let j : countBelow u O * many + a + 1 ≡ countBelow u O * many + (a + 1) = omega arith in
           rw (p, q, ← j) (granting-more (T .grant) g L u (n .0) (T .inOrbit) (n .1) (n .2) node-rank w (2 * N + a * size + r) (e ∙ turn-tag) i)

@@ -2,21 +2,19 @@
 -- Assumes nothing.
 use Prim.Native.Nat.{ℕ, _+_, _*_, _-_, _/_, _%_, _≤_, _<_}
 use mathlib.Core.Path.{_≡_}
-use mathlib.Core.Bool.{Bool, cond}
+use mathlib.Core.Bool.{true, cond}
 use mathlib.Core.List.{List}
 use lib.ListN.{length, getD}
 use lib.Dec.{eqb, ltb}
 use Rattle.base.specs.Below.{countBelow}
 use Rattle.base.specs.Steps.{steps}
-use Rattle.model.specs.Map.{Map, Link, put, view, unused}
-use Rattle.model.specs.Scheme.{right, orbitDim}
-use Rattle.model.specs.Accepted.{Accepted}
-use Rattle.model.specs.Orbit.{orbit}
-use Rattle.model.specs.Match.{image, Assignment}
-use Rattle.model.specs.Edit.{addedDarts, edited}
-use Rattle.model.specs.declared.Scheme.{Scheme}
+use Rattle.model.specs.Map.{Link, put, view, unused}
+use Rattle.model.specs.Scheme.{right}
+use Rattle.model.specs.Match.{matches}
+use Rattle.model.specs.Edit.{addedDarts}
 use Rattle.table.specs.Words.{Sized, blanked}
-use Rattle.orbit.specs.Store.{next, dartAt, Walked}
+use Rattle.orbit.specs.Store.{next, dartAt}
+use Rattle.orbit.specs.At.{At, site, WalkedAt}
 use Rattle.conditions.specs.Arcs.{Coded}
 use Rattle.rewriting.specs.Darts.{Darts, Given}
 
@@ -80,28 +78,17 @@ pub record Codes (N : ℕ) (store : List ℕ) (size : ℕ) (codes : List ℕ) (c
 
 -- ---- what the phase is handed
 
--- the orbit of a dart for the orbit type of a scheme
-abbrev pub orbitFor : Map → Scheme → ℕ → ℕ → Bool
-orbitFor m S d = orbit m (S .places) (orbitDim S) d
-
--- the scheme, the dart of the edit and the table before it, with what the earlier phases found and left
+-- the site of the edit in the table before it, with what the earlier phases found and left
 pub record BeforeRewriting (slots : ℕ) (table store : List ℕ) (size : ℕ) (kinds codes : List ℕ) (c : ℕ) (cols : List ℕ) : Type 0 where
-  pub scheme : Scheme
-  pub dart : ℕ
   pub before : List ℕ
-  pub accepted : Accepted scheme
+  pub at : At slots before
   pub sized : Sized slots table
   pub stored : length store ≡ 16 * slots
-  pub walked : Walked (view slots before) (scheme .places) (orbitDim scheme) dart store size
-  pub darts : Darts (view slots before) scheme (orbitFor (view slots before) scheme dart) store cols size
-  pub match : Assignment (view slots before) scheme (orbitFor (view slots before) scheme dart) (image (view slots before) scheme)
-  pub room : addedDarts (view slots before) scheme (orbitFor (view slots before) scheme dart) ≤ countBelow slots (unused (view slots before))
-  pub given : Given (view slots before) scheme (orbitFor (view slots before) scheme dart) before table
-  pub nodes : c ≡ scheme .nodes
-  pub kinded : kinds ≡ scheme .kinds
-  pub coded : Coded scheme right codes
-
--- the map after the edit
-abbrev pub editedBy : {slots : ℕ} {table store : List ℕ} {size : ℕ} {kinds codes : List ℕ} {c : ℕ} {cols : List ℕ}
-    → BeforeRewriting slots table store size kinds codes c cols → Map
-editedBy {slots} R = edited (view slots (R .before)) (R .scheme) (orbitFor (view slots (R .before)) (R .scheme) (R .dart))
+  pub walked : WalkedAt (site at) store size
+  pub darts : Darts (site at) store cols size
+  pub match : matches (site at) ≡ true
+  pub room : addedDarts (site at) ≤ countBelow slots (unused (view slots before))
+  pub given : Given (site at) before table
+  pub nodes : c ≡ at .scheme .nodes
+  pub kinded : kinds ≡ at .scheme .kinds
+  pub coded : Coded (at .scheme) right codes

@@ -12,15 +12,12 @@ use Rattle.base.specs.Test.{_and_}
 use Rattle.base.specs.Below.{countBelow}
 use Rattle.base.specs.First.{nthLowest}
 use Rattle.base.specs.Binary.{binary}
-use Rattle.model.specs.Map.{Map, Field, State, Link, Tag, fieldAt, put, view, unused}
-use Rattle.model.specs.WellFormed.{WellFormed}
-use Rattle.model.specs.Scheme.{orbitDim, added}
-use Rattle.model.specs.Shaped.{Shaped}
-use Rattle.model.specs.Orbit.{orbit}
+use Rattle.model.specs.Map.{Field, State, Link, Tag, fieldAt, put, view, unused}
+use Rattle.model.specs.Scheme.{added}
+use Rattle.model.specs.Site.{Site}
 use Rattle.model.specs.Edit.{addedDarts, rank, dartOf}
-use Rattle.model.specs.declared.Scheme.{Scheme}
-use Rattle.table.specs.Words.{Sized}
-use Rattle.orbit.specs.Store.{mark, place, dartAt, among, Walked, Kept, Assigned}
+use Rattle.orbit.specs.Store.{mark, place, dartAt, among, Kept, Assigned}
+use Rattle.orbit.specs.At.{At, site, WalkedAt}
 use Rattle.rewriting.specs.Darts.{Darts, newField, Given}
 
 -- ---- one slot
@@ -45,11 +42,6 @@ revived t y v = put (put (put t State y 1) (Link 3) y y) Tag y v
 
 -- ---- the columns of the added nodes
 
--- `nodes` lists the added nodes of S, ascending
-pub record Listed (S : Scheme) (nodes : List ℕ) (many : ℕ) : Type 0 where
-  pub every : many ≡ countBelow (S .nodes) (added S)
-  pub node : (a : ℕ) → a < many → nthLowest (S .nodes) (added S) a ≡ some (getD nodes a 0)
-
 -- where the column of the a-th added node begins
 abbrev pub columnStart : ℕ → ℕ → ℕ → ℕ
 columnStart N size a = 2 * N + a * size
@@ -70,49 +62,47 @@ pub record ColumnsBegin (N size : ℕ) (nodes : List ℕ) (many : ℕ) (cols col
 
 -- ---- the pairs one after the other, in the order of their ranks
 
--- what is known before the first slot is given: O is the orbit, and there is room
-pub record Grant (N : ℕ) (S : Scheme) (O : ℕ → Bool) (t s : List ℕ) (size many : ℕ) : Type 0 where
-  pub sized : Sized N t
-  pub long : length s ≡ 16 * N
-  pub every : many ≡ countBelow (S .nodes) (added S)
-  pub room : addedDarts (view N t) S O ≤ countBelow N (unused (view N t))
-  pub counted : countBelow N O ≡ size
-  pub slot : (u : ℕ) → O u ≡ true → u < N
-  pub alive : (u : ℕ) → O u ≡ true → view N t .state u ≡ 1
-  pub is : (x : ℕ) → x < N → among s size x ≡ O x
-  pub placed : (u : ℕ) → O u ≡ true → (1 ≤ mark s u) × (mark s u ≤ size)
-  pub once : (u v : ℕ) → O u ≡ true → O v ≡ true → mark s u ≡ mark s v → u ≡ v
+module _ {N : ℕ} {t₀ : List ℕ} (A : At N t₀) where
+  abbrev E : Site
+  E = site A
 
--- (u, v) is one of the first `done` added pairs
-pub record Due (m : Map) (S : Scheme) (O : ℕ → Bool) (done u v : ℕ) : Type 0 where
-  pub inOrbit : O u ≡ true
-  pub below : v < S .nodes
-  pub isAdded : added S v ≡ true
-  pub early : rank S O u v < done
+  open Site E using (map as m, scheme as S, orbit as O)
 
--- the first `done` added pairs have their slots, all below `free`: the table is t and the store s, which were t₀ and s₀
-pub record Granting (N : ℕ) (S : Scheme) (O : ℕ → Bool) (t₀ s₀ : List ℕ) (size done free : ℕ) (t s : List ℕ) : Type 0 where
-  pub tableLong : length t ≡ length t₀
-  pub storeLong : length s ≡ length s₀
-  pub taken : countBelow free (unused (view N t₀)) ≡ done
-  pub low : (u v : ℕ) → Due (view N t₀) S O done u v → dartOf (view N t₀) S O u v < free
-  pub was : (u v : ℕ) → Due (view N t₀) S O done u v → view N t₀ .state (dartOf (view N t₀) S O u v) ≡ 0
-  pub fresh : (u v : ℕ) (f : Field) → Due (view N t₀) S O done u v
-      → fieldAt t f (dartOf (view N t₀) S O u v) ≡ newField (view N t₀) (view N t₀ .tag u) (dartOf (view N t₀) S O u v) f
-  pub other : (y : ℕ) (f : Field) → ((u v : ℕ) → Due (view N t₀) S O done u v → dartOf (view N t₀) S O u v ≡ y → ⊥) → fieldAt t f y ≡ fieldAt t₀ f y
-  pub dart : (u v : ℕ) → Due (view N t₀) S O done u v → dartAt s (columnStart N size (countBelow v (added S))) (mark s₀ u - 1) ≡ dartOf (view N t₀) S O u v
-  pub kept : (i : ℕ) → (i < 2 * N) ⊎ (3 * N ≤ i) → getD s i 0 ≡ getD s₀ i 0
+  -- what is known before the first slot is given: the orbit stands in the store, and there is room
+  pub record Grant (s₀ : List ℕ) (size many : ℕ) : Type 0 where
+    pub long : length s₀ ≡ 16 * N
+    pub walked : WalkedAt E s₀ size
+    pub every : many ≡ countBelow (S .nodes) (added S)
+    pub room : addedDarts E ≤ countBelow N (unused m)
+
+  -- (u, v) is one of the first `done` added pairs
+  pub record Due (done u v : ℕ) : Type 0 where
+    pub inOrbit : O u ≡ true
+    pub below : v < S .nodes
+    pub isAdded : added S v ≡ true
+    pub early : rank E u v < done
+
+  -- the first `done` added pairs have their slots, all below `free`: the table is t and the store s, which were t₀ and s₀
+  pub record Granting (s₀ : List ℕ) (size done free : ℕ) (t s : List ℕ) : Type 0 where
+    pub tableLong : length t ≡ length t₀
+    pub storeLong : length s ≡ length s₀
+    pub taken : countBelow free (unused m) ≡ done
+    pub low : (u v : ℕ) → Due done u v → dartOf E u v < free
+    pub was : (u v : ℕ) → Due done u v → m .state (dartOf E u v) ≡ 0
+    pub fresh : (u v : ℕ) (f : Field) → Due done u v → fieldAt t f (dartOf E u v) ≡ newField m (m .tag u) (dartOf E u v) f
+    pub other : (y : ℕ) (f : Field) → ((u v : ℕ) → Due done u v → dartOf E u v ≡ y → ⊥) → fieldAt t f y ≡ fieldAt t₀ f y
+    pub dart : (u v : ℕ) → Due done u v → dartAt s (columnStart N size (countBelow v (added S))) (mark s₀ u - 1) ≡ dartOf E u v
+    pub kept : (i : ℕ) → (i < 2 * N) ⊎ (3 * N ≤ i) → getD s i 0 ≡ getD s₀ i 0
 
 -- the pairs of the orbit dart u, at place r, come next; how it all stood before the first slot was given is in the fields
 pub record Turn (N : ℕ) (t s : List ℕ) (size many u r free : ℕ) : Type 0 where
-  pub scheme : Scheme
-  pub orbit : ℕ → Bool
   pub table : List ℕ
+  pub at : At N table
   pub store : List ℕ
-  pub grant : Grant N scheme orbit table store size many
-  pub inOrbit : orbit u ≡ true
+  pub grant : Grant at store size many
+  pub inOrbit : site at .orbit u ≡ true
   pub place : mark store u ≡ r + 1
-  pub granting : Granting N scheme orbit table store size (countBelow u orbit * many) free t s
+  pub granting : Granting at store size (countBelow u (site at .orbit) * many) free t s
 
 -- ---- the orbit ascending
 
@@ -141,35 +131,26 @@ pub record Digits (p : ℕ → Bool) (bits : List ℕ) : Type 0 where
 
 -- the pairs of the orbit darts from 64 × w to 64 × w + 63 come next, with a digit for each; the other fields are as in `Turn`
 pub record Block (N : ℕ) (t s : List ℕ) (size many w number free : ℕ) : Type 0 where
-  pub scheme : Scheme
-  pub orbit : ℕ → Bool
   pub table : List ℕ
+  pub at : At N table
   pub store : List ℕ
-  pub grant : Grant N scheme orbit table store size many
-  pub digits : number ≡ binary 64 (λ k. orbit (64 * w + k))
-  pub granting : Granting N scheme orbit table store size (countBelow (64 * w) orbit * many) free t s
+  pub grant : Grant at store size many
+  pub digits : number ≡ binary 64 (λ k. site at .orbit (64 * w + k))
+  pub granting : Granting at store size (countBelow (64 * w) (site at .orbit) * many) free t s
 
 -- ---- all pairs
 
--- what the giving of slots is handed by the phases before it
+-- what the giving of slots is handed by the phases before it: `nodes` lists the added nodes of the scheme, ascending
 pub record BeforeGiving (N : ℕ) (t s : List ℕ) (size : ℕ) (nodes : List ℕ) (many : ℕ) (cols : List ℕ) : Type 0 where
-  pub scheme : Scheme
-  pub dart : ℕ
-  pub shaped : Shaped scheme
-  pub sized : Sized N t
-  pub long : length s ≡ 16 * N
-  pub well : WellFormed (scheme .n) (view N t)
-  pub slot : dart < N
-  pub alive : view N t .state dart ≡ 1
-  pub walked : Walked (view N t) (scheme .places) (orbitDim scheme) dart s size
-  pub assigned : Assigned (view N t) scheme s cols size
-  pub listed : Listed scheme nodes many
+  pub at : At N t
+  pub grant : Grant at s size many
+  pub node : (a : ℕ) → a < many → nthLowest (at .scheme .nodes) (added (at .scheme)) a ≡ some (getD nodes a 0)
+  pub assigned : Assigned (site at) s cols size
   pub wide : length cols ≡ 16
-  pub room : addedDarts (view N t) scheme (orbit (view N t) (scheme .places) (orbitDim scheme) dart) ≤ countBelow N (unused (view N t))
 
 -- what it hands on: t′, s′ and cols′ from t and s
-pub record Granted (m : Map) (S : Scheme) (O : ℕ → Bool) (t s t′ s′ cols′ : List ℕ) (size : ℕ) : Type 0 where
-  pub given : Given m S O t t′
-  pub darts : Darts m S O s′ cols′ size
-  pub kept : Kept (m .slots) s s′ size
+pub record Granted (E : Site) (t s t′ s′ cols′ : List ℕ) (size : ℕ) : Type 0 where
+  pub given : Given E t t′
+  pub darts : Darts E s′ cols′ size
+  pub kept : Kept (E .map .slots) s s′ size
   pub wide : length cols′ ≡ 16

@@ -8,9 +8,11 @@ ghost use mathlib.Core.Path.{_≡_};
 ghost use Prim.Native.Nat.{_+_, _*_, _≤_, _<_};
 ghost use lib.ListN.{length};
 ghost use Rattle.model.specs.Map.{tableOf};
+ghost use Rattle.model.specs.Edit.{edited};
 ghost use Rattle.table.specs.Words.{Sized};
 ghost use Rattle.orbit.specs.Store.{next, dartAt};
-ghost use Rattle.rewriting.specs.Links.{overwritten, erased, followed, relinked, cleared, HoldsSlots, Turnable, Legible, Columns, Codes, BeforeRewriting, editedBy};
+ghost use Rattle.orbit.specs.At.{site};
+ghost use Rattle.rewriting.specs.Links.{overwritten, erased, followed, relinked, cleared, HoldsSlots, Turnable, Legible, Columns, Codes, BeforeRewriting};
 
 // The i-links of the darts of one node become the darts of another node, for the same orbit darts.
 fn join(
@@ -170,7 +172,7 @@ pub fn rewrite(
 )
     requires { ⌜ BeforeRewriting slots (now table) (now store) size (now kinds) (now codes) c (now cols) ⌝ }
     ensures { λ _. ⌜ ((R : BeforeRewriting slots (now (table .entry)) (now (store .entry)) size (now (kinds .entry)) (now (codes .entry)) c (now (cols .entry)))
-        → now (table .exit) ≡ tableOf (editedBy R)) ⌝ }
+        → now (table .exit) ≡ tableOf (edited (site (R .at)))) ⌝ }
 {
     relink(slots, table, store, size, codes, c, cols);
     clear(slots, table, store, size, kinds, c, cols);

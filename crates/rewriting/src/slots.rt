@@ -10,10 +10,8 @@ ghost use mathlib.Core.Path.{_≡_};
 ghost use Prim.Native.Nat.{_+_, _*_, _<_};
 ghost use lib.ListN.{length};
 ghost use Rattle.base.specs.Below.{countBelow};
-ghost use Rattle.model.specs.Map.{view};
-ghost use Rattle.model.specs.Scheme.{orbitDim};
-ghost use Rattle.model.specs.Orbit.{orbit};
 ghost use Rattle.table.specs.Words.{Sized};
+ghost use Rattle.orbit.specs.At.{site};
 ghost use Rattle.rewriting.specs.Slots.{Room, Lowest, revived, Apart, ColumnsBegin, Turn, Granting, early, Placed, NoDigits, Digits, Block, BeforeGiving, Granted};
 
 // The lowest unused slot from `from` on. Four slots a turn: in a full table this scan is most of what an added dart costs.
@@ -62,7 +60,7 @@ fn row(
 ) -> usize
     requires { ⌜ Turn slots (now table) (now store) size many u r free ⌝ }
     ensures { λ f. ⌜ ((T : Turn slots (now (table .entry)) (now (store .entry)) size many u r free)
-        → Granting slots (T .scheme) (T .orbit) (T .table) (T .store) size (countBelow u (T .orbit) * many + many) f (now (table .exit)) (now (store .exit))) ⌝ }
+        → Granting (T .at) (T .store) size (countBelow u (site (T .at) .orbit) * many + many) f (now (table .exit)) (now (store .exit))) ⌝ }
 {
     let v = tag(slots, table, u);
     let mut from = free;
@@ -119,7 +117,7 @@ fn block(
 ) -> usize
     requires { ⌜ Block slots (now table) (now store) size many w digits free ⌝ }
     ensures { λ f. ⌜ ((B : Block slots (now (table .entry)) (now (store .entry)) size many w digits free)
-        → Granting slots (B .scheme) (B .orbit) (B .table) (B .store) size (countBelow (64 * w + 64) (B .orbit) * many) f (now (table .exit)) (now (store .exit))) ⌝ }
+        → Granting (B .at) (B .store) size (countBelow (64 * w + 64) (site (B .at) .orbit) * many) f (now (table .exit)) (now (store .exit))) ⌝ }
 {
     let mut rest = digits;
     let mut from = free;
@@ -145,8 +143,7 @@ pub fn give(
 )
     requires { ⌜ BeforeGiving slots (now table) (now store) size (now added) many (now cols) ⌝ }
     ensures { λ _. ⌜ ((R : BeforeGiving slots (now (table .entry)) (now (store .entry)) size (now (added .entry)) many (now (cols .entry)))
-        → Granted (view slots (now (table .entry))) (R .scheme) (orbit (view slots (now (table .entry))) (R .scheme .places) (orbitDim (R .scheme)) (R .dart))
-        (now (table .entry)) (now (store .entry)) (now (table .exit)) (now (store .exit)) (now (cols .exit)) size) ⌝ }
+        → Granted (site (R .at)) (now (table .entry)) (now (store .entry)) (now (table .exit)) (now (store .exit)) (now (cols .exit)) size) ⌝ }
 {
     columns(slots, size, added, many, cols);
     if many == 0 {

@@ -3,8 +3,10 @@
 use mathlib.Core.Path.{refl, _∙_}
 use borrow.Author.Needs.{needs}
 use borrow.Author.Tests.{not-true, not-false}
+use denote.Ref.{now}
+use Rattle.orbit.specs.At.{At}
 use Rattle.orbit.proofs.StoreLaws.{unmarked-blank}
-use Rattle.edit.proofs.ApplyLaws.{no-match, walk-ready, walking, match-ready, settle-ready}
+use Rattle.edit.proofs.ApplyLaws.{at-site, no-match, walk-ready, walking, match-ready, settle-ready}
 use Rattle.edit.proofs.apply.Statement.{statement}
 use Rattle.edit.proofs.apply.Tie as tie
 
@@ -18,6 +20,10 @@ places l = l .before .before .before .before .before
 abbrev walk-done : tie.After-cols → tie.After-walk
 walk-done a = a .before .before .before .before .before .before .before .before .before .before .before
 
+-- the site
+abbrev here : (b : tie.Start) → At (b .args .slots) (now (b .args .table))
+here b = at-site (b .pre .0) (b .pre .1 .0)
+
 unmark-requires : tie.Need-unmark-requires
 unmark-requires c κs = search needs
 
@@ -28,16 +34,17 @@ walk-requires : tie.Need-walk-requires
 walk-requires c κs =
     let w = c .before .before .before .before in
     let u = w .before .before .before in
-    let p = u .before .before .before .before .pre in (
-      rw (w .wide .ensures .0) (walk-ready _ _ _ _ (p .0)),
-      ((p .0 .slot, p .0 .alive), rw (u .unmark .ensures) (unmarked-blank _ _ (p .1 .1 .1))),
+    let b = u .before .before .before .before in (
+      rw (w .wide .ensures .0) (walk-ready (here b)),
+      ((b .pre .1 .0 .slot, b .pre .1 .0 .alive), rw (u .unmark .ensures) (unmarked-blank _ _ (b .pre .1 .1 .1 .1))),
     )
 
 assign-requires : tie.Need-assign-requires
 assign-requires c κs =
     let l = walk-done c in
-    let p = start l .pre in
-    match-ready (walking _ _ _ _ _ _ _ (p .0) (places l .wide .ensures .0) (l .walk .ensures .0) (l .walk .ensures .1)) (p .1 .0) _ refl
+    let b = start l in
+    let w = walking (here b) (places l .wide .ensures .0) (l .walk .ensures .0) (l .walk .ensures .1) in
+    match-ready (here b) w (b .pre .1 .1 .0) _ refl
 
 same-length : tie.Need-same-length
 same-length c = search needs
@@ -49,9 +56,10 @@ returns : tie.Need-returns
 returns c =
     let a = c .before .before .before in
     let l = walk-done (a .before) in
-    let p = start l .pre in
-    let w = walking _ _ _ _ _ _ _ (p .0) (places l .wide .ensures .0) (l .walk .ensures .0) (l .walk .ensures .1) in
-    no-match _ _ _ _ (a .assign .ensures .at (match-ready w (p .1 .0) _ refl)) (not-true _ (c .if1 .taken))
+    let b = start l in
+    let p = b .pre .1 .1 in
+    let w = walking (here b) (places l .wide .ensures .0) (l .walk .ensures .0) (l .walk .ensures .1) in
+    no-match (a .assign .ensures .at (match-ready (here b) w (p .0) _ refl)) (not-true _ (c .if1 .taken))
 
 wide-requires-2 : tie.Need-wide-requires-2
 wide-requires-2 c κs = search needs
@@ -62,9 +70,11 @@ settle-requires c κs =
     let e = n .before in
     let a = e .before .before .before in
     let l = walk-done (a .before) in
-    let p = start l .pre in
-    let w = walking _ _ _ _ _ _ _ (p .0) (places l .wide .ensures .0) (l .walk .ensures .0) (l .walk .ensures .1) in
-    settle-ready w (p .1 .0) _ _ _ (a .assign .ensures .at (match-ready w (p .1 .0) _ refl)) (not-false _ (e .if1 .left)) _ (n .wide2 .ensures .0) _ (p .1 .1 .0)
+    let b = start l in
+    let p = b .pre .1 .1 in
+    let w = walking (here b) (places l .wide .ensures .0) (l .walk .ensures .0) (l .walk .ensures .1) in
+    settle-ready (here b) w (p .0) (a .assign .ensures .at (match-ready (here b) w (p .0) _ refl)) (not-false _ (e .if1 .left))
+    (n .wide2 .ensures .0) (p .1 .0)
 
 same-length-3 : tie.Need-same-length-3
 same-length-3 c = search needs
@@ -74,7 +84,8 @@ same-length-4 c =
     let r = c .before .before .before .before in
     let a = r .before .before .before .before .before .before .before .before .before .before .before in
     let l = walk-done (a .before) in
-    r .settle .kept .1 .1 .0 ∙ (a .assign .kept .1 .1 .0 ∙ (l .walk .kept .1 .1 .1 .1 .0 ∙ l .before .before .before .before .before .before .before .before .unmark .kept .1 .0))
+    let u = l .before .before .before .before .before .before .before .before in
+    r .settle .kept .1 .1 .0 ∙ (a .assign .kept .1 .1 .0 ∙ (l .walk .kept .1 .1 .1 .1 .0 ∙ u .unmark .kept .1 .0))
 
 returns-2 : tie.Need-returns-2
 returns-2 c =
@@ -83,9 +94,11 @@ returns-2 c =
     let e = n .before in
     let a = e .before .before .before in
     let l = walk-done (a .before) in
-    let p = start l .pre in
-    let w = walking _ _ _ _ _ _ _ (p .0) (places l .wide .ensures .0) (l .walk .ensures .0) (l .walk .ensures .1) in
-    r .settle .ensures (settle-ready w (p .1 .0) _ _ _ (a .assign .ensures .at (match-ready w (p .1 .0) _ refl)) (not-false _ (e .if1 .left)) _ (n .wide2 .ensures .0) _ (p .1 .1 .0))
+    let b = start l in
+    let p = b .pre .1 .1 in
+    let w = walking (here b) (places l .wide .ensures .0) (l .walk .ensures .0) (l .walk .ensures .1) in
+    r .settle .ensures (settle-ready (here b) w (p .0) (a .assign .ensures .at (match-ready (here b) w (p .0) _ refl))
+    (not-false _ (e .if1 .left)) (n .wide2 .ensures .0) (p .1 .0))
 
 pub apply-spec : {M : Type 1} → statement M
 apply-spec =

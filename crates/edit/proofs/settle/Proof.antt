@@ -34,7 +34,7 @@ mul-if1 : tie.Need-mul-if1
 mul-if1 c = record { fits = omega (arith, new-few c) }
 
 returns : tie.Need-returns
-returns c = λ E. no-room E (c .before .of-kind2 .ensures .listed) (c .if1 .taken)
+returns c = λ P. no-room P (c .before .of-kind2 .ensures .listed) (c .if1 .taken)
 
 give-requires : tie.Need-give-requires
 give-requires c κs =
@@ -47,24 +47,24 @@ rewrite-requires c κs =
     let g = c .before .before .before .before .before .before .before in
     let e = room-left g in
     let k = e .before in
-    let E = start k .pre in
+    let P = start k .pre in
     let n = k .of-kind2 .ensures .listed in
-    link-ready E n (e .if1 .left) _ _ _ (g .give .ensures (give-ready E n (e .if1 .left)))
+    link-ready P n (e .if1 .left) (g .give .ensures (give-ready P n (e .if1 .left)))
+
+cast-t28 : tie.Need-cast-t28
+cast-t28 c = record { fits = omega (arith, new-few (room-left (given (c .before .before)) .before)) }
+
+mul-t14 : tie.Need-mul-t14
+mul-t14 c = record { fits = omega (arith, new-few (room-left (given (c .before .before)) .before)) }
 
 cast-t29 : tie.Need-cast-t29
 cast-t29 c = record { fits = omega (arith, new-few (room-left (given (c .before .before)) .before)) }
 
-mul-t15 : tie.Need-mul-t15
-mul-t15 c = record { fits = omega (arith, new-few (room-left (given (c .before .before)) .before)) }
+mul-t30 : tie.Need-mul-t30
+mul-t30 c = record { fits = omega (arith, gone-few (room-left (given (c .before .before .before)) .before)) }
 
-cast-t30 : tie.Need-cast-t30
-cast-t30 c = record { fits = omega (arith, new-few (room-left (given (c .before .before)) .before)) }
-
-mul-t31 : tie.Need-mul-t31
-mul-t31 c = record { fits = omega (arith, gone-few (room-left (given (c .before .before .before)) .before)) }
-
-cast-t32 : tie.Need-cast-t32
-cast-t32 c = record { fits = omega (arith, gone-few (room-left (given (c .before .before .before)) .before)) }
+cast-t31 : tie.Need-cast-t31
+cast-t31 c = record { fits = omega (arith, gone-few (room-left (given (c .before .before .before)) .before)) }
 
 same-length : tie.Need-same-length
 same-length c = search needs
@@ -79,7 +79,8 @@ returns-2 c =
     let e = room-left g in
     let k = e .before in
     let n = k .of-kind2 .ensures .listed in
-    λ E. done E n (e .if1 .left) (k .before .of-kind .ensures .listed) _ (r .rewrite .ensures (link-ready E n (e .if1 .left) _ _ _ (g .give .ensures (give-ready E n (e .if1 .left)))))
+    λ P. done P n (e .if1 .left) (k .before .of-kind .ensures .listed)
+    (r .rewrite .ensures (link-ready P n (e .if1 .left) (g .give .ensures (give-ready P n (e .if1 .left)))))
 
 pub settle-spec : {M : Type 1} → statement M
 settle-spec =
@@ -91,11 +92,11 @@ settle-spec =
     returns
     give-requires
     rewrite-requires
+    cast-t28
+    mul-t14
     cast-t29
-    mul-t15
-    cast-t30
-    mul-t31
-    cast-t32
+    mul-t30
+    cast-t31
     same-length
     same-length-2
     returns-2)

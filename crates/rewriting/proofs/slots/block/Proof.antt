@@ -12,7 +12,7 @@ use Rattle.rewriting.proofs.slots.block.Tie as tie
 
 abbrev Inv-loop : tie.InvT-loop
 Inv-loop slots table₀ store₀ size many w digits free rest₀ from₀ table store rest from = (B : Block slots table₀ store₀ size many w digits free)
-    → Passed slots (B .scheme) (B .orbit) (B .table) (B .store) size many w rest from table store
+    → Passed (B .at) (B .store) size many w rest from table store
 
 abbrev μ-loop : tie.MeasureT-loop
 μ-loop slots table₀ store₀ size many w digits free rest₀ from₀ table store rest from = rest
@@ -27,7 +27,8 @@ next c =
     let l = c .before in
     let B = start l .pre in
     let p = l .loop .inv B in
-    (in-word (B .grant) p (c .loop-test .taken) _ refl, dart-fits (B .grant) p (c .loop-test .taken) _ refl, B .grant .sized .few, p .granting .storeLong ∙ B .grant .long)
+    let some = c .loop-test .taken in
+    (in-word (B .grant) p some _ refl, dart-fits (B .grant) p some _ refl, B .at .sized .few, p .granting .storeLong ∙ B .grant .long)
 
 less : (c : tie.In-loop Inv-loop μ-loop) → let r = c .before .loop .rest in
     ((1 * 2 ^ trailingZeros 64 r) % 2 ^ 64 ≤ r) × (r - (1 * 2 ^ trailingZeros 64 r) % 2 ^ 64 < r)

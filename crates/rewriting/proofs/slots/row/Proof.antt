@@ -8,15 +8,16 @@ use lib.ListN.{length}
 use borrow.Author.Needs.{needs}
 use Rattle.base.specs.Below.{countBelow}
 use Rattle.table.specs.Words.{Sized}
+use Rattle.orbit.specs.At.{site}
 use Rattle.rewriting.specs.Slots.{Turn, Granting}
-use Rattle.rewriting.proofs.SlotRowLaws.{granting-sized, turn-done, turn-cell, turn-room, turn-more}
+use Rattle.rewriting.proofs.SlotRowLaws.{good, granting-sized, turn-done, turn-cell, turn-room, turn-more}
 use Rattle.rewriting.proofs.slots.row.Statement.{statement}
 use Rattle.rewriting.proofs.slots.row.Tie as tie
 
 abbrev Inv-loop : tie.InvT-loop
 Inv-loop slots table₀ store₀ size many u r free v from₀ a₀ table store from a = (a ≤ many)
     × ((T : Turn slots table₀ store₀ size many u r free)
-    → Granting slots (T .scheme) (T .orbit) (T .table) (T .store) size (countBelow u (T .orbit) * many + a) from table store)
+    → Granting (T .at) (T .store) size (countBelow u (site (T .at) .orbit) * many + a) from table store)
 
 abbrev μ-loop : tie.MeasureT-loop
 μ-loop slots table₀ store₀ size many u r free v from₀ a₀ table store from a = many - a
@@ -30,23 +31,26 @@ sized l = granting-sized (start l .pre .grant) (l .loop .inv .1 (start l .pre))
 
 -- in a turn the word of the store that is written is inside
 inside : (c : tie.In-loop Inv-loop μ-loop) → let l = c .before in
-    (l .loop .a * start l .args .size + start l .args .r < start l .args .slots) × (start l .args .slots ≤ 1024) × (length (l .loop .store) ≡ 16 * start l .args .slots)
+    (l .loop .a * start l .args .size + start l .args .r < start l .args .slots) × (start l .args .slots ≤ 1024)
+    × (length (l .loop .store) ≡ 16 * start l .args .slots)
 inside c =
     let l = c .before in
     let T = start l .pre in
-    (turn-cell T (l .loop .a) (c .loop-test .taken), T .grant .sized .few, l .loop .inv .1 T .storeLong ∙ T .grant .long)
+    (turn-cell T (l .loop .a) (c .loop-test .taken), T .at .sized .few, l .loop .inv .1 T .storeLong ∙ T .grant .long)
 
 abbrev turn : tie.After-keep-arg Inv-loop μ-loop → tie.In-loop Inv-loop μ-loop
 turn c = c .before .before .before .before .before .before .before
 
 tag-requires : tie.Need-tag-requires Inv-loop μ-loop
-tag-requires c κs = let T = c .before .before .before .pre in (granting-sized (T .grant) (T .granting), T .grant .slot _ (T .inOrbit))
+tag-requires c κs = let T = c .before .before .before .pre in (granting-sized (T .grant) (T .granting), good (T .grant) .slot _ (T .inOrbit))
 
 loop-holds : tie.Need-loop-holds Inv-loop μ-loop
 loop-holds c = (omega arith, λ T. rw add-zero (T .granting))
 
 lowest-requires : tie.Need-lowest-requires Inv-loop μ-loop
-lowest-requires c κs = let l = c .before .before in (sized l, turn-room (start l .pre) (l .loop .a) (c .before .loop-test .taken) (l .loop .inv .1 (start l .pre)))
+lowest-requires c κs =
+    let l = c .before .before in
+    (sized l, turn-room (start l .pre) (l .loop .a) (c .before .loop-test .taken) (l .loop .inv .1 (start l .pre)))
 
 revive-requires : tie.Need-revive-requires Inv-loop μ-loop
 revive-requires c κs = (sized (c .before .before .before .before), c .before .lowest .ensures .fits)
@@ -81,8 +85,11 @@ loop-again c =
     let v = k .before .before .before .before in
     let b = v .before .before in
     let i = b .before .before in
-    let l = i .before in
-    (omega arith, λ T. turn-more T (l .loop .a) (i .loop-test .taken) (l .loop .inv .1 T) _ _ _ _ (b .lowest .ensures) (l .before .tag .ensures) (v .revive .ensures) (k .keep .ensures))
+    let l = i .before in (
+      omega arith,
+      λ T. turn-more T (l .loop .a) (i .loop-test .taken) (l .loop .inv .1 T) _ _ _ _ (b .lowest .ensures) (l .before .tag .ensures)
+          (v .revive .ensures) (k .keep .ensures),
+    )
 
 same-length : tie.Need-same-length Inv-loop μ-loop
 same-length c = let T = start (c .before) .pre in c .before .loop .inv .1 T .tableLong ∙ sym (T .granting .tableLong)
