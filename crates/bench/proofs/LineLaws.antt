@@ -8,8 +8,8 @@ use lib.ListN.{length, length-append}
 use Rattle.model.specs.Answer.{number}
 use Rattle.model.specs.Bench.{decimal, space, lineFeed, liveWord, unusedWord, refusedWord, shown, dartLine, lastLine, refusedLine}
 use Rattle.model.specs.declared.Answer.{Answer}
-use Rattle.file.specs.Places.{Put}
-use Rattle.file.proofs.PlaceLaws.{put-then}
+use Rattle.cursor.specs.Places.{Put}
+use Rattle.cursor.proofs.PlaceLaws.{put-then}
 
 -- how many digits v has
 abbrev pub digits : ℕ → ℕ

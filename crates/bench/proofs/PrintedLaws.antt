@@ -18,8 +18,8 @@ use Rattle.model.specs.Map.{view, live, unused}
 use Rattle.model.specs.Calls.{sizesOk, readFault, readAnswer}
 use Rattle.model.specs.Bench.{refusedLine, lastLine, mapLength, framed, mapSlots, mapAnswer, tableAfter, runLines, printed}
 use Rattle.model.specs.declared.Answer.the-variants.{BadCall}
-use Rattle.file.specs.Places.{Put}
-use Rattle.file.proofs.PlaceLaws.{put-then}
+use Rattle.cursor.specs.Places.{Put}
+use Rattle.cursor.proofs.PlaceLaws.{put-then}
 use Rattle.bench.specs.Input.{Laid}
 use Rattle.bench.specs.Session.{dartLines, longest, Printed, Wrote}
 use Rattle.bench.specs.declared.framing.Layout.{Layout}

@@ -8,8 +8,8 @@ use native.Mathlib.Omega.{arith}
 use lib.ListN.{length, getD, take, set, length-append}
 use lib.Seq.{sets, take-suc, length-take-le, take-length}
 use Rattle.base.proofs.ListLaws.{sets-sets}
-use Rattle.file.specs.Places.{Put}
-use Rattle.file.proofs.PlaceLaws.{put-then, put-length}
+use Rattle.cursor.specs.Places.{Put}
+use Rattle.cursor.proofs.PlaceLaws.{put-then, put-length}
 use Rattle.model.specs.Bench.{decimal}
 use Rattle.bench.proofs.DecimalLaws.{decimal-one, decimal-more}
 

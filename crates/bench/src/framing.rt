@@ -1,5 +1,5 @@
 // The framing of the input: map file, scheme and dart list, each after a two-byte count, and nothing after them.
-use file::cursor::Cursor;
+use cursor::Cursor;
 ghost use Rattle.bench.specs.Input.{FramingOf};
 
 // How many bytes the map file and the scheme have, and how many darts are listed.

@@ -4,7 +4,7 @@ mod framing;
 mod session;
 mod writer;
 
-use file::cursor::Cursor;
+use cursor::Cursor;
 use framing::Framing;
 use framing::frame;
 use session::session;

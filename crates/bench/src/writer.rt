@@ -7,7 +7,7 @@ ghost use mathlib.Core.List.{_++_};
 ghost use Prim.Native.Nat.{_+_, _%_, _≤_};
 ghost use lib.ListN.{length};
 ghost use Rattle.model.specs.Bench.{decimal as decimalOf, dartLine, lastLine, refusedLine};
-ghost use Rattle.file.specs.Places.{Put};
+ghost use Rattle.cursor.specs.Places.{Put};
 
 fn text(out: &mut [u8], at: usize, bytes: &[u8]) -> usize
     requires { ⌜ at + length (now bytes) ≤ length (now out) ⌝ }

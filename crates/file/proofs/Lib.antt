@@ -1,4 +1,3 @@
-pub mod PlaceLaws
 pub mod SectionLaws
 pub mod FormLaws
 pub mod RecordLaws

@@ -1,4 +1,3 @@
-pub mod Places
 pub mod Sections
 pub mod Form
 pub mod Records

@@ -1,5 +1,4 @@
 // The map file: writing a map, and loading a file into a table. Whether the loaded map is well-formed is not asked here.
-pub mod cursor;
 mod form;
 mod records;
 mod sections;

@@ -1,5 +1,5 @@
 // The records of a file's darts, entered into a table.
-use crate::cursor::Cursor;
+use cursor::Cursor;
 use table::words::put;
 ghost use mathlib.Core.Path.{_≡_};
 ghost use mathlib.Core.Logic.{_⊎_};

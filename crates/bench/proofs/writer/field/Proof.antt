@@ -3,7 +3,7 @@
 use borrow.Author.Needs.{needs}
 use denote.Ref.{now}
 use Rattle.model.specs.Bench.{decimal}
-use Rattle.file.proofs.PlaceLaws.{put-then}
+use Rattle.cursor.proofs.PlaceLaws.{put-then}
 use Rattle.bench.proofs.WriterLaws.{room-first, room-left}
 use Rattle.bench.proofs.writer.field.Statement.{statement}
 use Rattle.bench.proofs.writer.field.Tie as tie

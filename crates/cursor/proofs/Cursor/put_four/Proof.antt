@@ -1,10 +1,10 @@
--- `file::cursor::Cursor::put_four` meets its contract.
+-- `cursor::Cursor::put_four` meets its contract.
 -- Assumes nothing.
 use native.Mathlib.Omega.{arith}
 use borrow.Author.Needs.{needs}
-use Rattle.file.proofs.PlaceLaws.{put-join, put-room}
-use Rattle.file.proofs.cursor.Cursor.put_four.Statement.{statement}
-use Rattle.file.proofs.cursor.Cursor.put_four.Tie as tie
+use Rattle.cursor.proofs.PlaceLaws.{put-join, put-room}
+use Rattle.cursor.proofs.Cursor.put_four.Statement.{statement}
+use Rattle.cursor.proofs.Cursor.put_four.Tie as tie
 
 put-two-requires : tie.Need-put-two-requires
 put-two-requires c κs = search needs

@@ -1,10 +1,10 @@
--- `file::cursor::Cursor::one` meets its contract.
+-- `cursor::Cursor::one` meets its contract.
 -- Assumes nothing.
 use native.Mathlib.Omega.{arith}
 use borrow.Author.Needs.{needs}
-use Rattle.file.proofs.PlaceLaws.{taken-one}
-use Rattle.file.proofs.cursor.Cursor.one.Statement.{statement}
-use Rattle.file.proofs.cursor.Cursor.one.Tie as tie
+use Rattle.cursor.proofs.PlaceLaws.{taken-one}
+use Rattle.cursor.proofs.Cursor.one.Statement.{statement}
+use Rattle.cursor.proofs.Cursor.one.Tie as tie
 
 shared-slice-read-wide : tie.Need-shared-slice-read-wide
 shared-slice-read-wide c = search needs

@@ -1,9 +1,9 @@
--- `file::cursor::Cursor::put_one` meets its contract.
+-- `cursor::Cursor::put_one` meets its contract.
 -- Assumes nothing.
 use borrow.Author.Needs.{needs}
-use Rattle.file.proofs.PlaceLaws.{put-one-byte}
-use Rattle.file.proofs.cursor.Cursor.put_one.Statement.{statement}
-use Rattle.file.proofs.cursor.Cursor.put_one.Tie as tie
+use Rattle.cursor.proofs.PlaceLaws.{put-one-byte}
+use Rattle.cursor.proofs.Cursor.put_one.Statement.{statement}
+use Rattle.cursor.proofs.Cursor.put_one.Tie as tie
 
 cast-out : tie.Need-cast-out
 cast-out c = search needs

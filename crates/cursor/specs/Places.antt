@@ -1,4 +1,4 @@
--- What stands between two places of a file's bytes: a number that was read there, or bytes that were put there.
+-- What stands between two places of a list of bytes: a number that was read there, or bytes that were put there.
 -- Assumes nothing.
 use Prim.Native.Nat.{ℕ, _+_, _^_, _<_}
 use mathlib.Core.Path.{_≡_}
@@ -6,7 +6,7 @@ use mathlib.Core.List.{List}
 use lib.ListN.{length}
 use lib.Seq.{sets}
 use Rattle.base.specs.Digits.{numberAt}
-use Rattle.file.specs.declared.cursor.Number.{Number}
+use Rattle.cursor.specs.declared.Number.{Number}
 
 -- r is the number in the `width` bytes of b from `at` on, and the place after them
 pub record Taken (width : ℕ) (b : List ℕ) (at : ℕ) (r : Number) : Type 0 where

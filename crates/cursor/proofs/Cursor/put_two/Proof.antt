@@ -1,10 +1,10 @@
--- `file::cursor::Cursor::put_two` meets its contract.
+-- `cursor::Cursor::put_two` meets its contract.
 -- Assumes nothing.
 use native.Mathlib.Omega.{arith}
 use borrow.Author.Needs.{needs}
-use Rattle.file.proofs.PlaceLaws.{put-join, put-room}
-use Rattle.file.proofs.cursor.Cursor.put_two.Statement.{statement}
-use Rattle.file.proofs.cursor.Cursor.put_two.Tie as tie
+use Rattle.cursor.proofs.PlaceLaws.{put-join, put-room}
+use Rattle.cursor.proofs.Cursor.put_two.Statement.{statement}
+use Rattle.cursor.proofs.Cursor.put_two.Tie as tie
 
 put-one-requires : tie.Need-put-one-requires
 put-one-requires c κs = search needs

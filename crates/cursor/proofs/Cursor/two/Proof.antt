@@ -1,9 +1,9 @@
--- `file::cursor::Cursor::two` meets its contract.
+-- `cursor::Cursor::two` meets its contract.
 -- Assumes nothing.
 use borrow.Author.Needs.{needs}
-use Rattle.file.proofs.PlaceLaws.{taken-join}
-use Rattle.file.proofs.cursor.Cursor.two.Statement.{statement}
-use Rattle.file.proofs.cursor.Cursor.two.Tie as tie
+use Rattle.cursor.proofs.PlaceLaws.{taken-join}
+use Rattle.cursor.proofs.Cursor.two.Statement.{statement}
+use Rattle.cursor.proofs.Cursor.two.Tie as tie
 
 one-requires : tie.Need-one-requires
 one-requires c κs = search needs

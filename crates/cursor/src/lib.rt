@@ -1,9 +1,9 @@
-// A place in the bytes of a file, which goes in and comes back by value, and the numbers read and put there.
+// A place in bytes, which goes in and comes back by value, and the numbers read and put there.
 ghost use mathlib.Core.Path.{_≡_};
 ghost use Prim.Native.Nat.{_+_, _≤_};
 ghost use lib.ListN.{length};
 ghost use Rattle.base.specs.Digits.{bytesOf};
-ghost use Rattle.file.specs.Places.{Taken, Put};
+ghost use Rattle.cursor.specs.Places.{Taken, Put};
 
 pub struct Cursor {
     pub at: usize,

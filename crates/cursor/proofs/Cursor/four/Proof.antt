@@ -1,9 +1,9 @@
--- `file::cursor::Cursor::four` meets its contract.
+-- `cursor::Cursor::four` meets its contract.
 -- Assumes nothing.
 use borrow.Author.Needs.{needs}
-use Rattle.file.proofs.PlaceLaws.{taken-join}
-use Rattle.file.proofs.cursor.Cursor.four.Statement.{statement}
-use Rattle.file.proofs.cursor.Cursor.four.Tie as tie
+use Rattle.cursor.proofs.PlaceLaws.{taken-join}
+use Rattle.cursor.proofs.Cursor.four.Statement.{statement}
+use Rattle.cursor.proofs.Cursor.four.Tie as tie
 
 two-requires : tie.Need-two-requires
 two-requires c κs = search needs
