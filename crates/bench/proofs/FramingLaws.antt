@@ -11,7 +11,7 @@ use borrow.Author.Tests.{leb-true, eqb-true, le-leb, eq-eqb}
 use Rattle.base.specs.Digits.{numberAt}
 use Rattle.base.proofs.TestLaws.{and-left, and-right, and-of, true-or-false}
 use Rattle.model.specs.File.{twoAt}
-use Rattle.model.specs.Bench.{mapLength, schemeLength, dartCount, framed}
+use Rattle.bench.specs.Bench.{mapLength, schemeLength, dartCount, framed}
 use Rattle.bench.specs.Input.{countAt, Laid, FramingOf}
 use Rattle.bench.specs.declared.framing.Framing.{Framing}
 use Rattle.bench.specs.declared.framing.Framing.the-variants.{Framed, Fault}

@@ -1,5 +1,3 @@
-pub mod DecimalLaws
-pub mod WriterLaws
 pub mod LineLaws
 pub mod ShortLaws
 pub mod FramingLaws

@@ -6,14 +6,12 @@ use mathlib.Core.List.{List, _++_, append-assoc}
 use native.Mathlib.Omega.{arith}
 use lib.ListN.{length, length-append}
 use Rattle.model.specs.Answer.{number}
-use Rattle.model.specs.Bench.{decimal, space, lineFeed, liveWord, unusedWord, refusedWord, shown, dartLine, lastLine, refusedLine}
 use Rattle.model.specs.declared.Answer.{Answer}
 use Rattle.cursor.specs.Places.{Put}
 use Rattle.cursor.proofs.PlaceLaws.{put-then}
-
--- how many digits v has
-abbrev pub digits : ℕ → ℕ
-digits v = length (decimal v)
+use Rattle.lines.specs.Lines.{decimal, space, lineFeed}
+use Rattle.lines.proofs.LineLaws.{digits}
+use Rattle.bench.specs.Bench.{liveWord, unusedWord, shown, dartLine, lastLine}
 
 pub dart-length : (d : ℕ) (a : Answer) → length (dartLine d a) ≡ digits d + digits (number a) + digits (shown a 0) + digits (shown a 1) + digits (shown a 2) + 5
 unfolding dartLine
@@ -22,10 +20,6 @@ dart-length d a = simp length-append (omega arith)
 pub last-length : (x y : ℕ) → length (lastLine x y) ≡ digits x + digits y + 14
 unfolding lastLine
 last-length x y = simp length-append (omega arith)
-
-pub refused-length : (k : ℕ) → length (refusedLine k) ≡ digits k + 9
-unfolding refusedLine
-refused-length k = simp length-append (omega arith)
 
 by-fields : (a b c d e s n : List ℕ) → a ++ s ++ b ++ s ++ c ++ s ++ d ++ s ++ e ++ n ≡ a ++ (s ++ b) ++ (s ++ c) ++ (s ++ d) ++ (s ++ e) ++ n
 by-fields a b c d e s n = simp append-assoc
@@ -54,8 +48,3 @@ module _ (l : List ℕ) (at x y : ℕ) (l₁ : List ℕ) (p₁ : ℕ) (l₂ : Li
     where
       parts : lastLine x y ≡ (liveWord ++ space ++ decimal x) ++ (space ++ unusedWord ++ space ++ decimal y) ++ lineFeed
       parts = by-words liveWord (decimal x) unusedWord (decimal y) space lineFeed
-
-module _ (l : List ℕ) (at k : ℕ) (l₁ : List ℕ) (p₁ : ℕ) (l₂ : List ℕ) (p₂ : ℕ) where
-  pub refused-put : Put l at (refusedWord ++ space ++ decimal k) l₁ p₁ → Put l₁ p₁ lineFeed l₂ p₂ → Put l at (refusedLine k) l₂ p₂
-  unfolding refusedLine
-  refused-put r s = put-then _ _ _ _ _ _ _ _ r s

@@ -4,7 +4,7 @@ use Prim.Native.Nat.{ℕ}
 use mathlib.Core.Path.{_≡_, sym, ap, _∙_}
 use mathlib.Core.List.{List, _++_}
 use lib.ListN.{drop}
-use Rattle.model.specs.Bench.{printed}
+use Rattle.bench.specs.Bench.{printed}
 use Rattle.bench.specs.Session.{Printed}
 
 pub one-printed : {b out : List ℕ} {r r₂ : ℕ} {out′ out₂ : List ℕ} → Printed b out r out′ → Printed b out r₂ out₂ → (r ≡ r₂) × (out′ ≡ out₂)

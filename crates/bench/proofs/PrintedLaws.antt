@@ -16,7 +16,9 @@ use Rattle.base.proofs.ListLaws.{sets-start}
 use Rattle.model.specs.Answer.{number}
 use Rattle.model.specs.Map.{view, live, unused}
 use Rattle.model.specs.Calls.{sizesOk, readFault, readAnswer}
-use Rattle.model.specs.Bench.{refusedLine, lastLine, mapLength, framed, mapSlots, mapAnswer, tableAfter, runLines, printed}
+use Rattle.bench.specs.Bench.{lastLine, mapLength, framed, mapSlots, mapAnswer, tableAfter, runLines, printed}
+use Rattle.lines.specs.Lines.{refusedLine}
+use Rattle.lines.proofs.LineLaws.{refused-few}
 use Rattle.model.specs.declared.Answer.the-variants.{BadCall}
 use Rattle.cursor.specs.Places.{Put}
 use Rattle.cursor.proofs.PlaceLaws.{put-then}
@@ -25,7 +27,7 @@ use Rattle.bench.specs.Session.{dartLines, longest, Printed, Wrote}
 use Rattle.bench.specs.declared.framing.Layout.{Layout}
 use Rattle.bench.proofs.FramingLaws.{laid-framed, dart-count}
 use Rattle.bench.proofs.SessionLaws.{is-map}
-use Rattle.bench.proofs.ShortLaws.{refused-few, last-few}
+use Rattle.bench.proofs.ShortLaws.{last-few}
 use Rattle.base.proofs.TestLaws.{and-no-right}
 
 pub printed-fault : (b : List ℕ) → framed b ≡ false → printed b ≡ refusedLine 11

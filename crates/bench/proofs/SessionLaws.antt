@@ -17,7 +17,7 @@ use Rattle.base.proofs.BelowLaws.{count-step}
 use Rattle.base.proofs.ListLaws.{joined-step}
 use Rattle.model.specs.File.{twoAt}
 use Rattle.model.specs.Calls.{zeros, sizesOk, readAnswer, readTable, editAnswer, editTable, editStore}
-use Rattle.model.specs.Bench.{mapLength, schemeLength, dartLine, dartAt, answerAt, mapBytes, schemeBytes, mapDimension, mapSlots, mapAnswer, tableAfter}
+use Rattle.bench.specs.Bench.{mapLength, schemeLength, dartLine, dartAt, answerAt, mapBytes, schemeBytes, mapDimension, mapSlots, mapAnswer, tableAfter}
 use Rattle.model.specs.declared.Answer.{Answer}
 use Rattle.model.proofs.AnswerLaws.{answers-same}
 use Rattle.cursor.specs.Places.{Put}

@@ -17,14 +17,15 @@ use Rattle.model.specs.Bytes.{nodesOf}
 use Rattle.model.specs.Scheme.{schemeOf, deleted}
 use Rattle.model.specs.Edit.{orbitSize, addedDarts, deletedDarts}
 use Rattle.model.specs.Calls.{orbitOf, editFault, editAnswer}
-use Rattle.model.specs.Bench.{shown, dartLine, lastLine, refusedLine}
+use Rattle.bench.specs.Bench.{shown, dartLine, lastLine}
 use Rattle.model.specs.declared.Answer.{Answer}
 use Rattle.model.specs.declared.Answer.the-variants.{Done, Edited, Written, BadCall, BadForm, BadHook, BadIncidence, BadCycle, OtherDimension, BadTable, NoDart, NoMatch, NoRoom, BadFile, ShortOutput}
 use Rattle.model.proofs.CallLaws.{granted}
 use Rattle.model.proofs.SchemeLaws.{nodes-few}
 use Rattle.demands.proofs.RefusalLaws.{edit-within}
-use Rattle.bench.proofs.DecimalLaws.{decimal-short}
-use Rattle.bench.proofs.LineLaws.{digits, dart-length, last-length, refused-length}
+use Rattle.lines.proofs.DecimalLaws.{decimal-short}
+use Rattle.lines.proofs.LineLaws.{digits}
+use Rattle.bench.proofs.LineLaws.{dart-length, last-length}
 
 -- ---- a refusal has a number, of at most two digits
 
@@ -89,10 +90,7 @@ module _ (n N : ℕ) (t store b : List ℕ) (d : ℕ) where
       go none q = rw q (granted-short q)
       go (some a) q = rw q (refused-short d a h (λ e. omega (arith, edit-within n N t store b d .least a q)))
 
--- ---- the other lines
-
-pub refused-few : (k : ℕ) → k < 100 → length (refusedLine k) ≤ 11
-refused-few k h = omega (arith, refused-length k, decimal-short 1 k h)
+-- ---- the last line
 
 pub last-few : (x y : ℕ) → x ≤ 1024 → y ≤ 1024 → length (lastLine x y) ≤ 22
 last-few x y h k = omega (arith, last-length x y, decimal-short 3 x (omega arith), decimal-short 3 y (omega arith))

@@ -6,7 +6,7 @@ use mathlib.Core.Bool.{false}
 use mathlib.Core.List.{List}
 use lib.ListN.{length}
 use Rattle.model.specs.File.{twoAt}
-use Rattle.model.specs.Bench.{framed}
+use Rattle.bench.specs.Bench.{framed}
 use Rattle.bench.specs.declared.framing.Layout.{Layout}
 use Rattle.bench.specs.declared.framing.Framing.{Framing}
 use Rattle.bench.specs.declared.framing.Framing.the-variants.{Framed, Fault}

@@ -5,7 +5,7 @@ use mathlib.Core.Path.{_≡_}
 use mathlib.Core.List.{List, _++_}
 use lib.ListN.{length, drop, replicate}
 use Rattle.base.specs.Lists.{joined}
-use Rattle.model.specs.Bench.{dartLine, dartAt, answerAt, mapDimension, mapSlots, tableAfter, printed}
+use Rattle.bench.specs.Bench.{dartLine, dartAt, answerAt, mapDimension, mapSlots, tableAfter, printed}
 use Rattle.cursor.specs.Places.{Put}
 
 -- no output is longer: 1,024 lines of at most 23 bytes each, and a last one of at most 22

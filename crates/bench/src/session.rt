@@ -1,10 +1,10 @@
 // A session on a map: it is read, edited at each dart in turn, and counted.
-use crate::answer::number;
 use crate::framing::Layout;
 use crate::writer::dart_line;
 use crate::writer::last_line;
-use crate::writer::refused_line;
 use cursor::Cursor;
+use lines::answer::number;
+use lines::refused_line;
 use model::Answer;
 use table::words::state;
 ghost use mathlib.Core.Path.{_≡_};
@@ -14,7 +14,7 @@ ghost use lib.ListN.{length, replicate};
 ghost use Rattle.base.specs.Below.{countBelow};
 ghost use Rattle.model.specs.Map.{view};
 ghost use Rattle.model.specs.Calls.{editAnswer, editTable, editStore};
-ghost use Rattle.model.specs.Bench.{schemeBytes, mapAnswer, mapSlots, tableAfter};
+ghost use Rattle.bench.specs.Bench.{schemeBytes, mapAnswer, mapSlots, tableAfter};
 ghost use Rattle.cursor.specs.Places.{Put};
 ghost use Rattle.table.specs.Words.{Sized};
 ghost use Rattle.bench.specs.Input.{Laid};

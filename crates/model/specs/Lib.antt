@@ -13,7 +13,6 @@ pub mod Rewriting
 pub mod Answer
 pub mod Calls
 pub mod File
-pub mod Bench
 pub mod Alike
 pub mod Sequence
 pub mod Reach

@@ -7,7 +7,7 @@ use native.Mathlib.Omega.{arith}
 use lib.ListN.{length}
 use borrow.Author.Needs.{needs}
 use denote.Ref.{now}
-use Rattle.model.specs.Bench.{framed}
+use Rattle.bench.specs.Bench.{framed}
 use Rattle.bench.proofs.FramingLaws.{count-of, fault}
 use Rattle.bench.proofs.framing.frame.Statement.{statement}
 use Rattle.bench.proofs.framing.frame.Tie as tie

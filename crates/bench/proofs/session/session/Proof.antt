@@ -7,7 +7,7 @@ use lib.ListN.{length, getD, length-replicate}
 use borrow.Author.Needs.{needs}
 use denote.Ref.{now}
 use Rattle.model.specs.Answer.{number}
-use Rattle.model.specs.Bench.{refusedLine}
+use Rattle.lines.specs.Lines.{refusedLine}
 use Rattle.model.specs.declared.Answer.{Answer}
 use Rattle.table.specs.Words.{Sized}
 use Rattle.bench.proofs.PrintedLaws.{printed-refused, printed-session, refused-room, wrote-refused, edits-room, tally-few, last-room, wrote-run}

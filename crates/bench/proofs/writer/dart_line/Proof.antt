@@ -6,9 +6,10 @@ use native.Mathlib.Omega.{arith}
 use lib.ListN.{length}
 use borrow.Author.Needs.{needs}
 use Rattle.model.specs.Answer.{number}
-use Rattle.model.specs.Bench.{shown, dartLine}
+use Rattle.bench.specs.Bench.{shown, dartLine}
 use Rattle.model.specs.declared.Answer.{Answer}
-use Rattle.bench.proofs.LineLaws.{digits, dart-length, dart-put}
+use Rattle.lines.proofs.LineLaws.{digits}
+use Rattle.bench.proofs.LineLaws.{dart-length, dart-put}
 use Rattle.bench.specs.declared.answer.Values.{Values}
 use Rattle.bench.proofs.writer.dart_line.Statement.{statement}
 use Rattle.bench.proofs.writer.dart_line.Tie as tie

@@ -1,44 +1,28 @@
 -- The bench program: what it prints for what stands on its standard input.
 -- Assumes nothing.
-use Prim.Native.Nat.{ℕ, zero, suc, _+_, _*_, _/_, _%_}
+use Prim.Native.Nat.{ℕ, zero, suc, _+_, _*_}
 use mathlib.Core.Bool.{Bool, cond}
 use mathlib.Core.List.{List, [], _∷_, _++_}
 use lib.ListN.{length, getD, take, drop, replicate}
-use lib.Dec.{eqb, ltb, leb}
+use lib.Dec.{eqb, leb}
 use Rattle.base.specs.Test.{_and_}
 use Rattle.base.specs.Below.{countBelow}
 use Rattle.base.specs.Lists.{joined}
 use Rattle.model.specs.Answer.{number, values}
 use Rattle.model.specs.Map.{view, tableSize, live, unused}
 use Rattle.model.specs.File.{twoAt}
 use Rattle.model.specs.Calls.{editAnswer, editTable, readAnswer, readTable}
 use Rattle.model.specs.declared.Answer.{Answer}
+use Rattle.lines.specs.Lines.{decimal, space, lineFeed, refusedLine}
 
 -- ---- lines
 
--- a number in decimal, with the fewest digits; `most` is how many there may be
-unfoldable pub spelled : ℕ → ℕ → List ℕ
-spelled zero v = []
-spelled (suc most) v = cond (ltb v 10) ((48 + v) ∷ []) (spelled most (v / 10) ++ ((48 + v % 10) ∷ []))
-
-unfoldable pub decimal : ℕ → List ℕ
-decimal v = spelled 20 v
-
-abbrev pub space : List ℕ
-space = 32 ∷ []
-
-abbrev pub lineFeed : List ℕ
-lineFeed = 10 ∷ []
-
--- the words live, unused and refused
+-- the words live and unused
 abbrev pub liveWord : List ℕ
 liveWord = 108 ∷ 105 ∷ 118 ∷ 101 ∷ []
 
 abbrev pub unusedWord : List ℕ
 unusedWord = 117 ∷ 110 ∷ 117 ∷ 115 ∷ 101 ∷ 100 ∷ []
-
-abbrev pub refusedWord : List ℕ
-refusedWord = 114 ∷ 101 ∷ 102 ∷ 117 ∷ 115 ∷ 101 ∷ 100 ∷ []
 
 -- value f of an edit that is done; 0 on refusal
 abbrev pub shown : Answer → ℕ → ℕ
@@ -50,9 +34,6 @@ dartLine d a = decimal d ++ space ++ decimal (number a) ++ space ++ decimal (sho
 
 unfoldable pub lastLine : ℕ → ℕ → List ℕ
 lastLine lives rest = liveWord ++ space ++ decimal lives ++ space ++ unusedWord ++ space ++ decimal rest ++ lineFeed
-
-unfoldable pub refusedLine : ℕ → List ℕ
-refusedLine k = refusedWord ++ space ++ decimal k ++ lineFeed
 
 -- ---- the input: map file, scheme and dart list, each after a two-byte count
 

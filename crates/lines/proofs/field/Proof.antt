@@ -1,12 +1,12 @@
--- `bench::writer::field` meets its contract.
+-- `lines::field` meets its contract.
 -- Assumes nothing.
 use borrow.Author.Needs.{needs}
 use denote.Ref.{now}
-use Rattle.model.specs.Bench.{decimal}
+use Rattle.lines.specs.Lines.{decimal}
 use Rattle.cursor.proofs.PlaceLaws.{put-then}
-use Rattle.bench.proofs.WriterLaws.{room-first, room-left}
-use Rattle.bench.proofs.writer.field.Statement.{statement}
-use Rattle.bench.proofs.writer.field.Tie as tie
+use Rattle.lines.proofs.WriterLaws.{room-first, room-left}
+use Rattle.lines.proofs.field.Statement.{statement}
+use Rattle.lines.proofs.field.Tie as tie
 
 text-requires : tie.Need-text-requires
 text-requires c κs = let s = c .before .before .before in room-first (now (s .args .out)) _ (now (s .args .lead)) _ (s .pre)

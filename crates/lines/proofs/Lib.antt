@@ -1,0 +1,3 @@
+pub mod DecimalLaws
+pub mod WriterLaws
+pub mod LineLaws
