@@ -19,32 +19,14 @@ use Rattle.model.specs.Edit.{orbitSize, addedDarts, deletedDarts}
 use Rattle.model.specs.Calls.{orbitOf, editFault, editAnswer}
 use Rattle.bench.specs.Bench.{shown, dartLine, lastLine}
 use Rattle.model.specs.declared.Answer.{Answer}
-use Rattle.model.specs.declared.Answer.the-variants.{Done, Edited, Written, BadCall, BadForm, BadHook, BadIncidence, BadCycle, OtherDimension, BadTable, NoDart, NoMatch, NoRoom, BadFile, ShortOutput}
+use Rattle.model.specs.declared.Answer.the-variants.{Edited}
+use Rattle.model.proofs.AnswerLaws.{number-few}
 use Rattle.model.proofs.CallLaws.{granted}
 use Rattle.model.proofs.SchemeLaws.{nodes-few}
 use Rattle.demands.proofs.RefusalLaws.{edit-within}
 use Rattle.lines.proofs.DecimalLaws.{decimal-short}
 use Rattle.lines.proofs.LineLaws.{digits}
 use Rattle.bench.proofs.LineLaws.{dart-length, last-length}
-
--- ---- a refusal has a number, of at most two digits
-
-pub number-few : (a : Answer) → number a ≤ 12
-number-few Done = omega arith
-number-few (Edited o e d) = omega arith
-number-few (Written l) = omega arith
-number-few BadCall = omega arith
-number-few BadForm = omega arith
-number-few (BadHook s) = omega arith
-number-few (BadIncidence s) = omega arith
-number-few (BadCycle s i j) = omega arith
-number-few OtherDimension = omega arith
-number-few BadTable = omega arith
-number-few NoDart = omega arith
-number-few NoMatch = omega arith
-number-few NoRoom = omega arith
-number-few BadFile = omega arith
-number-few ShortOutput = omega arith
 
 -- ---- the line of an edit
 

@@ -16,7 +16,7 @@ use Rattle.model.specs.Calls.{sizesOk, tableFault, checkTable}
 use Rattle.model.specs.declared.Answer.the-variants.{Done, BadCall, BadTable}
 use Rattle.base.proofs.TestLaws.{and-left, and-right, or-cases, or-left, or-right, true-or-false}
 use Rattle.table.specs.Words.{Sized}
-use Rattle.kernel.specs.Word.{Small}
+use Rattle.word.specs.Word.{Small}
 
 module _ (n N : ℕ) (t : List ℕ) where
   pub no-dimension : (n ≡ 2 → ⊥) → (n ≡ 3 → ⊥) → false ≡ sizesOk n N t

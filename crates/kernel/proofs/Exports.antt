@@ -16,9 +16,9 @@ use Rattle.demands.specs.Demands.{Demand1, Demand2, Demand3}
 use Rattle.demands.proofs.RefusalLaws.{Within, table-within, bytes-within, edit-within, read-within, write-within}
 use Rattle.demands.proofs.RefineLaws.{refined1, refined2, refined3}
 use Rattle.demands.proofs.Demands.{demand1, demand2, demand3}
-use Rattle.kernel.specs.Word.{packed, Small, wordNumber, wordValues, PackedEdit, PackedRead, PackedWrite}
-use Rattle.kernel.specs.Exports.{Unpacked, SeenTableCheck, SeenSchemeCheck, SeenEdit, SeenRead, SeenWrite}
-use Rattle.kernel.proofs.WordLaws.{number-back, values-back}
+use Rattle.word.specs.Word.{packed, Small, wordNumber, wordValues}
+use Rattle.kernel.specs.Exports.{PackedEdit, PackedRead, PackedWrite, Unpacked, SeenTableCheck, SeenSchemeCheck, SeenEdit, SeenRead, SeenWrite}
+use Rattle.word.proofs.WordLaws.{number-back, values-back}
 use Rattle.kernel.proofs.CallLaws.{check-small}
 use Rattle.kernel.proofs.SmallLaws.{scheme-small, edit-small}
 use Rattle.kernel.proofs.FileCallLaws.{read-small, write-small}

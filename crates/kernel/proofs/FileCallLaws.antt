@@ -28,7 +28,7 @@ use Rattle.table.specs.Words.{Sized}
 use Rattle.file.specs.Records.{loaded}
 use Rattle.file.proofs.FormLaws.{three-le}
 use Rattle.file.proofs.SectionLaws.{length-file}
-use Rattle.kernel.specs.Word.{Small}
+use Rattle.word.specs.Word.{Small}
 use Rattle.kernel.proofs.CallLaws.{sizes-read}
 
 -- ---- a read: 1, 11, 7
@@ -133,7 +133,7 @@ module _ (n N : ℕ) (t out : List ℕ) where
       (λ (s : sizesOk n N t ≡ true). ⊎-elim
       (λ (w : wellFormed n (view N t) ≡ true). ⊎-elim
       (λ (l : ltb (length out) (length (file n (view N t))) ≡ true). rw (s, w, l) tt)
-      (λ (l : ltb (length out) (length (file n (view N t))) ≡ false). rw (s, w, l) (few s))
+      (λ (l : ltb (length out) (length (file n (view N t))) ≡ false). rw (s, w, l) (few s, tt))
       (true-or-false (ltb (length out) (length (file n (view N t))))))
       (λ (w : wellFormed n (view N t) ≡ false). rw (s, w) tt)
       (true-or-false (wellFormed n (view N t))))

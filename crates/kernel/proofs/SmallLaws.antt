@@ -27,12 +27,12 @@ use Rattle.model.specs.declared.Answer.{Answer}
 use Rattle.model.specs.declared.Answer.the-variants.{Done, Edited, BadCall, BadForm}
 use Rattle.model.proofs.SchemeLaws.{shaped}
 use Rattle.conditions.proofs.SmallLaws.{SmallFault, hookSmall, incidenceSmall, cycleSmall, fault-small}
-use Rattle.kernel.specs.Word.{Small}
+use Rattle.word.specs.Word.{Small}
 
 fault-fits : {a : Answer} → SmallFault a → Small a
-fault-fits (hookSmall h) = omega arith
-fault-fits (incidenceSmall h) = omega arith
-fault-fits (cycleSmall h i j) = (omega arith, omega arith, omega arith)
+fault-fits (hookSmall h) = (omega arith, tt)
+fault-fits (incidenceSmall h) = (omega arith, tt)
+fault-fits (cycleSmall h i j) = (omega arith, (omega arith, (omega arith, tt)))
 
 -- along a chain of refusals
 small-or : (t : Bool) (a : Answer) (o : Option Answer) (d : Answer) → Small a → Small (Option·getD o d) → Small (Option·getD (someIf t a orElse o) d)
@@ -76,11 +76,10 @@ scheme-small b = subst (λ (o : Option Answer). Small (Option·getD o Done)) (or
 counts-small : (m : Map) (S : Scheme) (O : ℕ → Bool) → m .slots ≤ 1024 → S .nodes ≤ 16 → Small (Edited (orbitSize m S O) (addedDarts m S O) (deletedDarts m S O))
 unfolding orbitSize addedDarts deletedDarts
 counts-small m S O few nodes =
-    let size : countBelow (m .slots) O ≤ 1024 = omega (arith, count-le (m .slots) O) in (
-      omega arith,
-      product (countBelow (m .slots) O) (countBelow (S .nodes) (added S)) size (omega (arith, count-le (S .nodes) (added S))),
-      product (countBelow (m .slots) O) (countBelow (S .nodes) (deleted S)) size (omega (arith, count-le (S .nodes) (deleted S))),
-    )
+    let size : countBelow (m .slots) O ≤ 1024 = omega (arith, count-le (m .slots) O) in
+    let times : (p : ℕ → Bool) → countBelow (m .slots) O * countBelow (S .nodes) p < 2097152 =
+    λ p. product _ _ size (omega (arith, count-le (S .nodes) p)) in
+    (omega arith, (times (added S), (times (deleted S), tt)))
   where
     product : (a b : ℕ) → a ≤ 1024 → b ≤ 16 → a * b < 2097152
     product a b h l = omega (arith, mul-le-mul-right b h, mul-le-mul-left 1024 l)

@@ -1,12 +1,26 @@
--- What a program in C sees of the kernel: the word that each export returns, taken apart, and the buffers that it leaves.
+-- What the exports return and leave, and what a program in C sees of it: the word taken apart, and the buffers.
 -- Assumes nothing.
 use Prim.Native.Nat.{ℕ}
 use mathlib.Core.Path.{_≡_}
 use mathlib.Core.List.{List}
 use Rattle.model.specs.Answer.{number, values}
-use Rattle.model.specs.Calls.{checkTable, checkScheme}
+use Rattle.model.specs.Calls.{checkTable, checkScheme, editAnswer, editTable, editStore, readAnswer, readTable, writeAnswer, writeOut}
 use Rattle.model.specs.declared.Answer.{Answer}
-use Rattle.kernel.specs.Word.{packed, wordNumber, wordValues, PackedEdit, PackedRead, PackedWrite}
+use Rattle.word.specs.Word.{packed, wordNumber, wordValues}
+
+-- the word of the answer of an edit, a read or a write, and what the call leaves
+pub record PackedEdit (n N : ℕ) (t store b : List ℕ) (d : ℕ) (r : ℕ) (t′ store′ : List ℕ) : Type 0 where
+  pub word : r ≡ packed (editAnswer n N t store b d)
+  pub table : t′ ≡ editTable n N t store b d
+  pub cleared : store′ ≡ editStore n N t store b d
+
+pub record PackedRead (n N : ℕ) (t b : List ℕ) (r : ℕ) (t′ : List ℕ) : Type 0 where
+  pub word : r ≡ packed (readAnswer n N t b)
+  pub table : t′ ≡ readTable n N t b
+
+pub record PackedWrite (n N : ℕ) (t out : List ℕ) (r : ℕ) (out′ : List ℕ) : Type 0 where
+  pub word : r ≡ packed (writeAnswer n N t out)
+  pub output : out′ ≡ writeOut n N t out
 
 -- r is the answer that the word w holds, of a call that returns k values where it is done
 pub record Unpacked (k w : ℕ) (r : Answer) : Type 0 where

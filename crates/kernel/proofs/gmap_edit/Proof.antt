@@ -2,7 +2,7 @@
 -- Assumes nothing.
 use mathlib.Core.Path.{ap, sym, subst, _∙_}
 use Rattle.model.proofs.AnswerLaws.{answers-same}
-use Rattle.kernel.specs.Word.{packed, Small}
+use Rattle.word.specs.Word.{packed, Small}
 use Rattle.kernel.proofs.SmallLaws.{edit-small}
 use borrow.Author.Needs.{needs}
 use Rattle.kernel.proofs.gmap_edit.Statement.{statement}

@@ -3,7 +3,7 @@
 use mathlib.Core.Path.{ap, sym, subst, _∙_}
 use borrow.Author.Needs.{needs}
 use Rattle.model.proofs.AnswerLaws.{answers-same}
-use Rattle.kernel.specs.Word.{packed, Small}
+use Rattle.word.specs.Word.{packed, Small}
 use Rattle.kernel.proofs.FileCallLaws.{read-small}
 use Rattle.kernel.proofs.gmap_read.Statement.{statement}
 use Rattle.kernel.proofs.gmap_read.Tie as tie

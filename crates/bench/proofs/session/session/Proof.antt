@@ -12,7 +12,7 @@ use Rattle.model.specs.declared.Answer.{Answer}
 use Rattle.table.specs.Words.{Sized}
 use Rattle.bench.proofs.PrintedLaws.{printed-refused, printed-session, refused-room, wrote-refused, edits-room, tally-few, last-room, wrote-run}
 use Rattle.bench.proofs.SessionLaws.{asked-of}
-use Rattle.bench.proofs.ShortLaws.{number-few}
+use Rattle.model.proofs.AnswerLaws.{number-few}
 use Rattle.bench.specs.Session.{Asked, longest}
 use Rattle.bench.proofs.session.session.Statement.{statement}
 use Rattle.bench.proofs.session.session.Tie as tie

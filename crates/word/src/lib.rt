@@ -2,7 +2,7 @@
 use model::Answer;
 ghost use mathlib.Core.Path.{_≡_};
 ghost use Prim.Native.Nat.{_<_};
-ghost use Rattle.kernel.specs.Word.{refused as refusal, packed, Small};
+ghost use Rattle.word.specs.Word.{refused as refusal, packed, Small};
 
 fn refused(number: u32, node: u32, i: u32, j: u32) -> u64
     requires { ⌜ (number < 256) × (node < 256) × (i < 256) × (j < 256) ⌝ }
@@ -15,7 +15,7 @@ fn refused(number: u32, node: u32, i: u32, j: u32) -> u64
         + (j as u64) * 16777216
 }
 
-pub(crate) fn pack(a: Answer) -> u64
+pub fn pack(a: Answer) -> u64
     requires { ⌜ Small a ⌝ }
     ensures { λ r. ⌜ r ≡ packed a ⌝ }
 {
