@@ -17,7 +17,7 @@ use Rattle.base.proofs.TestLaws.{and-left, and-right, or-cases, true-or-false}
 use Rattle.base.proofs.BelowLaws.{all-at}
 use Rattle.base.proofs.FirstLaws.{first-same, least-none-of, least-same}
 use Rattle.base.proofs.ListLaws.{getD-list}
-use Rattle.model.specs.Bytes.{onSide, byte, placesOf, nodesOf, kindAt, wordAt, arcCount, arcByte, endAt, upTo}
+use Rattle.model.specs.Bytes.{onSide, byte, dimensionOf, placesOf, nodesOf, kindAt, wordAt, arcCount, arcByte, endAt, upTo}
 use Rattle.model.specs.Arc.{farEnd, arcOf}
 use Rattle.model.specs.Codes.{placeCode, placed, placedAt, targetsOf, targets, arcCode}
 use Rattle.model.specs.Scheme.{Side, left, right, orbitForm, wordForm, nodeForm, arcForm, arcsForm, inForm, wordsOf, arcsOf, schemeOf, kind, orbitDim, word, arcs, arcPart, has}
@@ -36,19 +36,19 @@ code-of none none = refl
 module _ (b : List ℕ) (q : inForm b ≡ true) where
   -- ---- the parts of the form
 
-  form-n : (byte b 0 ≡ 2) ⊎ (byte b 0 ≡ 3)
+  form-n : (dimensionOf b ≡ 2) ⊎ (dimensionOf b ≡ 3)
   unfolding inForm
   form-n = ⊎-elim (λ e. inl (eqb-true _ _ e)) (λ e. inr (eqb-true _ _ e))
       (or-cases _ _ (and-left _ _ (and-left _ _ (and-left _ _ (and-left _ _ (and-left _ _ (and-left _ _ (and-left _ _ q))))))))
 
-  pub small : byte b 0 ≤ 3
+  pub small : dimensionOf b ≤ 3
   small = ⊎-elim (λ e. omega arith) (λ e. omega arith) form-n
 
   form-orbit : orbitForm b ≡ true
   unfolding inForm
   form-orbit = and-right _ _ (and-left _ _ (and-left _ _ (and-left _ _ (and-left _ _ (and-left _ _ (and-left _ _ q))))))
 
-  pub places-few : placesOf b ≤ byte b 0 + 1
+  pub places-few : placesOf b ≤ dimensionOf b + 1
   unfolding orbitForm
   places-few = leb-true _ _ (and-left _ _ (and-left _ _ form-orbit))
 
@@ -203,17 +203,17 @@ module _ (b : List ℕ) (q : inForm b ≡ true) where
 
   -- ---- the form, as facts on the value
 
-  pub orbit-dim : (p : ℕ) → p < placesOf b → orbitDim (schemeOf b) p ≤ byte b 0
+  pub orbit-dim : (p : ℕ) → p < placesOf b → orbitDim (schemeOf b) p ≤ dimensionOf b
   unfolding orbitForm
   orbit-dim p h = rw (value-orbit p h) (leb-true _ _ (all-at _ _ (and-right _ _ (and-left _ _ form-orbit)) p h))
 
   pub word-dim : (side : Side) (s p : ℕ) → s < nodesOf b → p < placesOf b
-      → (word (schemeOf b) side s p ≡ 255) ⊎ (word (schemeOf b) side s p ≤ byte b 0)
+      → (word (schemeOf b) side s p ≡ 255) ⊎ (word (schemeOf b) side s p ≤ dimensionOf b)
   unfolding wordForm
   word-dim side s p h l = rw (value-word side s p h l) (⊎-elim (λ e. inl (eqb-true _ _ e)) (λ e. inr (leb-true _ _ (and-left _ _ e)))
       (or-cases _ _ (all-at _ _ (form-word side s h) p l)))
 
-  pub arc-dim : (side : Side) (a : ℕ) → a < arcCount b side → arcPart (schemeOf b) side a 0 ≤ byte b 0
+  pub arc-dim : (side : Side) (a : ℕ) → a < arcCount b side → arcPart (schemeOf b) side a 0 ≤ dimensionOf b
   unfolding arcForm
   arc-dim side a h = rw (value-arc side a 0 h (omega arith))
       (leb-true _ _ (and-left _ _ (and-left _ _ (and-left _ _ (and-left _ _ (and-left _ _ (form-arc side a h)))))))

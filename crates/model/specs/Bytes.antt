@@ -16,9 +16,13 @@ onSide left kind = eqb kind 1 or eqb kind 2
 onSide right kind = eqb kind 2 or eqb kind 3
 
 module _ (b : List ℕ) where
-  -- the byte at a place; byte 0 is n
+  -- the byte at a place
   abbrev pub byte : ℕ → ℕ
   byte at = getD b at 0
+
+  -- n, which the first byte says
+  unfoldable pub dimensionOf : ℕ
+  dimensionOf = byte 0
 
   -- k, the orbit type's count; its dimensions stand from byte 2 on
   abbrev pub placesOf : ℕ

@@ -18,7 +18,7 @@ use Rattle.base.proofs.BelowLaws.{all-at, all-of, all-none, all-more, all-ends}
 use Rattle.base.proofs.ListLaws.{getD-list}
 use Rattle.base.proofs.FilledLaws.{filled-none, filled-all, stored-filled, same-ltb}
 use Rattle.base.proofs.AscentLaws.{above, above-step, ascends, descends}
-use Rattle.model.specs.Bytes.{onSide, byte, nodesOf, kindAt, arcsAt, arcCount, arcByte}
+use Rattle.model.specs.Bytes.{onSide, byte, dimensionOf, nodesOf, kindAt, arcsAt, arcCount, arcByte}
 use Rattle.model.specs.Arc.{farEnd}
 use Rattle.model.specs.Codes.{placedAt, targetsOf}
 use Rattle.model.specs.Scheme.{Side, before, nodeForm, arcForm, arcsForm, arcsOf, schemeOf}
@@ -92,7 +92,7 @@ module _ (b : List ℕ) (l : Layout) (kinds : List ℕ) (other from : ℕ) (plac
 
   -- what the form of an arc says of its ends
   pub record Ends (a : ℕ) : Type 0 where
-    pub dim : part a 0 ≤ byte b 0
+    pub dim : part a 0 ≤ dimensionOf b
     pub order : part a 1 ≤ part a 2
     pub node : part a 2 < nodesOf b
     pub small : part a 2 < 16
@@ -141,7 +141,7 @@ module _ (b : List ℕ) (l : Layout) (kinds : List ℕ) (other from : ℕ) (plac
   keys-up a f p h = sym (key-all p (λ o g. f o (omega arith)) (ends p (f p h))) ∙ and-right _ _ (f p h)
 
   -- the test of an arc, after arcs that are in the form, is its form
-  pub arc-same : (a low n nodes : ℕ) → allBelow a (arcForm b side) ≡ true → low ≡ above key a → n ≡ byte b 0 → nodes ≡ nodesOf b
+  pub arc-same : (a low n nodes : ℕ) → allBelow a (arcForm b side) ≡ true → low ≡ above key a → n ≡ dimensionOf b → nodes ≡ nodesOf b
       → arcTest n nodes kinds other low (part a 0) (part a 1) (part a 2) ≡ arcForm b side a
   unfolding arcTest arcForm
   arc-same a low n nodes up lowIs nIs nodesIs = same-test _ _
@@ -205,7 +205,7 @@ module _ (b : List ℕ) (l : Layout) (kinds : List ℕ) (other from : ℕ) (plac
     held = shown-none (placedAt b side) part f g;
   }
 
-  pub joined-form-at : {r : Bool} {a at low n nodes d s t : ℕ} {targets : List ℕ} {twice : List Bool} → Joined b other a at low targets twice → Read a d s t → n ≡ byte b 0 → nodes ≡ nodesOf b
+  pub joined-form-at : {r : Bool} {a at low n nodes d s t : ℕ} {targets : List ℕ} {twice : List Bool} → Joined b other a at low targets twice → Read a d s t → n ≡ dimensionOf b → nodes ≡ nodesOf b
       → r ≡ arcTest n nodes kinds other low d s t → r ≡ arcForm b side a
   joined-form-at {r} {a} {at} {low} {n} {nodes} j q nIs nodesIs e =
       e ∙ rw (q .dIs, q .sIs, q .tIs) (arc-same a low n nodes (j .formed) (j .next) nIs nodesIs)

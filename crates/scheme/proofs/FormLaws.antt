@@ -9,12 +9,12 @@ use borrow.Author.Tests.{eqb-true, eq-eqb, leb-true, le-leb}
 use lib.ListN.{length}
 use Rattle.base.specs.Below.{allBelow}
 use Rattle.base.proofs.TestLaws.{and-left, and-right, and-of, or-cases, or-left, or-right}
-use Rattle.model.specs.Bytes.{byte, placesOf, nodesOf, arcCount, endAt}
+use Rattle.model.specs.Bytes.{dimensionOf, placesOf, nodesOf, arcCount, endAt}
 use Rattle.model.specs.Scheme.{Side, left, right, orbitForm, nodeForm, arcsForm, inForm}
 
 module _ (b : List ℕ) where
   pub record Parts : Type 0 where
-    pub dimension : (byte b 0 ≡ 2) ⊎ (byte b 0 ≡ 3)
+    pub dimension : (dimensionOf b ≡ 2) ⊎ (dimensionOf b ≡ 3)
     pub orbit : orbitForm b ≡ true
     pub nodesSome : 1 ≤ nodesOf b
     pub nodesFew : nodesOf b ≤ 16
@@ -51,7 +51,7 @@ module _ (b : List ℕ) where
       (⊎-elim (λ e. or-left _ (eq-eqb _ _ e)) (λ e. or-right _ (eq-eqb _ _ e)) (f .dimension))
       (f .orbit)) (le-leb _ _ (f .nodesSome))) (le-leb _ _ (f .nodesFew))) (f .nodes)) (f .arcs left)) (f .arcs right)) (eq-eqb _ _ (f .ends))
 
-  pub places-few : Parts → placesOf b ≤ byte b 0 + 1
+  pub places-few : Parts → placesOf b ≤ dimensionOf b + 1
   unfolding orbitForm
   places-few f = leb-true _ _ (and-left _ _ (and-left _ _ (f .orbit)))
 

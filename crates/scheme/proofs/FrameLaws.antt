@@ -9,7 +9,7 @@ use native.Mathlib.Nat.{eq-or-lt-of-le, mul-le-mul-right}
 use native.Mathlib.Omega.{arith}
 use lib.ListN.{length}
 use Rattle.base.proofs.TestLaws.{true-or-false, refuted}
-use Rattle.model.specs.Bytes.{byte, placesOf, nodesOf, nodeAt, arcsAt}
+use Rattle.model.specs.Bytes.{dimensionOf, placesOf, nodesOf, nodeAt, arcsAt}
 use Rattle.model.specs.Scheme.{Side, left, right, inForm}
 use Rattle.scheme.specs.Place.{after, fits}
 use Rattle.scheme.specs.Frame.{LaidOut}
@@ -28,16 +28,16 @@ module _ (b : List ℕ) where
   pub no-bytes : length b ≤ 0 → inForm b ≡ false
   no-bytes h = impossible (λ f. omega arith)
 
-  pub low-dimension : byte b 0 < 2 → inForm b ≡ false
+  pub low-dimension : dimensionOf b < 2 → inForm b ≡ false
   low-dimension h = impossible (λ f. ⊎-elim (λ e. omega arith) (λ e. omega arith) (f .dimension))
 
-  pub high-dimension : 3 < byte b 0 → inForm b ≡ false
+  pub high-dimension : 3 < dimensionOf b → inForm b ≡ false
   high-dimension h = impossible (λ f. ⊎-elim (λ e. omega arith) (λ e. omega arith) (f .dimension))
 
-  pub no-places : fits b 1 0 (byte b 0 + 1) 1 ≡ false → inForm b ≡ false
+  pub no-places : fits b 1 0 (dimensionOf b + 1) 1 ≡ false → inForm b ≡ false
   unfolding after
   no-places e = refuted (λ q. let f = parts b q in let k = places-few b f in
-      fitting b 1 0 (byte b 0 + 1) 1 (record { some = omega arith; few = k; within = omega arith })) e
+      fitting b 1 0 (dimensionOf b + 1) 1 (record { some = omega arith; few = k; within = omega arith })) e
 
   pub no-nodes : {most : ℕ} → fits b (2 + placesOf b) 1 most (1 + 2 * placesOf b) ≡ false → 16 ≤ most → inForm b ≡ false
   unfolding after
@@ -60,7 +60,7 @@ module _ (b : List ℕ) where
 -- ---- what a layout tells
 
 module _ (b : List ℕ) (l : Layout) (laid : LaidOut b l) where
-  pub dimension-small : byte b 0 ≤ 3
+  pub dimension-small : dimensionOf b ≤ 3
   dimension-small = let h = laid .headed in ⊎-elim (λ e. omega arith) (λ e. omega arith) (h .dimension)
 
   pub places-small : placesOf b ≤ 4

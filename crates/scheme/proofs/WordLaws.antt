@@ -21,7 +21,7 @@ use Rattle.base.proofs.BelowLaws.{all-at, all-of}
 use Rattle.base.proofs.FirstLaws.{least-none-of, least-same}
 use Rattle.base.proofs.ListLaws.{getD-list, length-list}
 use Rattle.base.proofs.FilledLaws.{filled-over, stored-filled}
-use Rattle.model.specs.Bytes.{onSide, byte, placesOf, kindAt, wordAt, upTo}
+use Rattle.model.specs.Bytes.{onSide, byte, dimensionOf, placesOf, kindAt, wordAt, upTo}
 use Rattle.model.specs.Codes.{placeCode, placed}
 use Rattle.model.specs.Scheme.{Side, left, right, wordForm, wordEmpty}
 use Rattle.scheme.specs.Words.{sideOf, wordPlace, row, freshAt, emptyAt, fitsAt}
@@ -50,7 +50,7 @@ module _ (b : List ℕ) where
   word-at left s p = refl
   word-at right s p = refl
 
-  word-form : (side : Side) (s : ℕ) → wordForm b side s ≡ allBelow (placesOf b) (fitsAt b (byte b 0) (wordPlace b side s))
+  word-form : (side : Side) (s : ℕ) → wordForm b side s ≡ allBelow (placesOf b) (fitsAt b (dimensionOf b) (wordPlace b side s))
   unfolding wordForm fitsAt freshAt
   word-form left s = refl
   word-form right s = refl
@@ -62,7 +62,7 @@ module _ (b : List ℕ) where
 
   empty-form : (side : Side) (s : ℕ) → allBelow (placesOf b) (emptyAt b (wordPlace b side s)) ≡ true → wordForm b side s ≡ true
   unfolding emptyAt
-  empty-form side s q = word-form side s ∙ all-of _ _ (λ p l. sym (empty-fits b (wordPlace b side s) (byte b 0) p (eqb-true _ _ (all-at _ _ q p l))))
+  empty-form side s q = word-form side s ∙ all-of _ _ (λ p l. sym (empty-fits b (wordPlace b side s) (dimensionOf b) p (eqb-true _ _ (all-at _ _ q p l))))
 
   -- the row of node s among the side's words
   row-at : (side : Side) (s p : ℕ) → p < 4 → row b side (4 * s + p) ≡ upTo (placesOf b) p (wordAt b side s p) 255
@@ -128,7 +128,7 @@ pub record Placed (b : List ℕ) (s other kind n places at : ℕ) : Type 0 where
   pub kindIs : kind ≡ kindAt b s
   pub kindSome : 1 ≤ kind
   pub kindFew : kind ≤ 3
-  pub nIs : n ≡ byte b 0
+  pub nIs : n ≡ dimensionOf b
   pub placesIs : places ≡ placesOf b
   pub atIs : at ≡ wordPlace b (sideOf other) s
   pub few : placesOf b ≤ 4

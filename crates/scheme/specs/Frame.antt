@@ -6,7 +6,7 @@ use mathlib.Core.Logic.{_⊎_}
 use mathlib.Core.Bool.{false}
 use mathlib.Core.List.{List}
 use lib.ListN.{length}
-use Rattle.model.specs.Bytes.{byte, placesOf, nodesOf, arcsAt, arcCount, endAt}
+use Rattle.model.specs.Bytes.{dimensionOf, placesOf, nodesOf, arcsAt, arcCount, endAt}
 use Rattle.model.specs.Scheme.{left, right, inForm}
 use Rattle.scheme.specs.declared.frame.Opening.{Opening}
 use Rattle.scheme.specs.declared.frame.Opening.the-variants.{Counts, Broken as Shut}
@@ -16,7 +16,7 @@ use Rattle.scheme.specs.declared.frame.Form.the-variants.{Laid, Broken}
 
 -- the dimension and the counts of places and nodes, each in its range
 pub record Headed (b : List ℕ) (n places nodes : ℕ) : Type 0 where
-  pub nIs : n ≡ byte b 0
+  pub nIs : n ≡ dimensionOf b
   pub placesIs : places ≡ placesOf b
   pub nodesIs : nodes ≡ nodesOf b
   pub dimension : (n ≡ 2) ⊎ (n ≡ 3)

@@ -7,7 +7,7 @@ use native.Mathlib.Omega.{arith}
 use denote.Ref.{now}
 use lib.ListN.{length}
 use borrow.Author.Needs.{needs}
-use Rattle.model.specs.Bytes.{byte, placesOf}
+use Rattle.model.specs.Bytes.{dimensionOf, placesOf}
 use Rattle.scheme.specs.Place.{after}
 use Rattle.scheme.proofs.PlaceLaws.{Fitted, stepped, ended, counted, uncounted}
 use Rattle.scheme.proofs.FrameLaws.{two-or-three, no-bytes, low-dimension, high-dimension, no-places, no-nodes}
@@ -16,7 +16,8 @@ use Rattle.scheme.proofs.frame.head.Tie as tie
 
 -- what the first byte is
 took : (c : tie.After-known-told) → let b = now (c .before .before .before .before .before .args .bytes) in let g = c .before .n .given .0 in
-    (0 < length b) × (g .0 ≡ byte b 0) × (g .1 .0 .at ≡ 1)
+    (0 < length b) × (g .0 ≡ dimensionOf b) × (g .1 .0 .at ≡ 1)
+unfolding dimensionOf
 took c = stepped _ (c .before .before .before .byte .ensures) (c .before .n .given .1)
 
 abbrev before-places : tie.After-known-told2 → tie.After-known-told
@@ -27,7 +28,7 @@ bytes-of c = now (before-places c .before .before .before .before .before .args 
 
 -- what the count of places is, and where the count of nodes stands
 places-told : (c : tie.After-known-told2) → let b = bytes-of c in let g = c .before .places .given .0 in
-    (g .0 ≡ placesOf b) × (g .1 .0 .at ≡ 2 + placesOf b) × Fitted b 1 0 (byte b 0 + 1) 1
+    (g .0 ≡ placesOf b) × (g .1 .0 .at ≡ 2 + placesOf b) × Fitted b 1 0 (dimensionOf b + 1) 1
 unfolding after
 places-told c =
     let t = took (before-places c) in

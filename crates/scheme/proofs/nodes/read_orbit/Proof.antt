@@ -8,7 +8,7 @@ use lib.ListN.{length}
 use native.Mathlib.Omega.{arith}
 use borrow.Author.Needs.{needs}
 use denote.Ref.{now}
-use Rattle.model.specs.Bytes.{byte, placesOf}
+use Rattle.model.specs.Bytes.{byte, dimensionOf, placesOf}
 use Rattle.scheme.proofs.PlaceLaws.{taken-at}
 use Rattle.scheme.proofs.FrameLaws.{dimension-small, places-small, count-inside}
 use Rattle.scheme.proofs.OrbitLaws.{Risen, risen-none, risen-more, risen-low, risen-high, risen-form, risen-value}
@@ -23,7 +23,7 @@ abbrev μ-loop : tie.MeasureT-loop
 
 -- what the layout and the count tell before the loop
 known : (c : tie.After-next Inv-loop μ-loop) → let a = c .before .before .before .before .args in let b = now (a .bytes) in
-    (c .before .wide .result ≡ placesOf b) × (a .l .n ≡ byte b 0) × (placesOf b ≤ 4) × (2 + placesOf b < length b) × (placesOf b ≤ byte b 0 + 1) × (byte b 0 ≤ 3)
+    (c .before .wide .result ≡ placesOf b) × (a .l .n ≡ dimensionOf b) × (placesOf b ≤ 4) × (2 + placesOf b < length b) × (placesOf b ≤ dimensionOf b + 1) × (dimensionOf b ≤ 3)
 known c =
     let t = c .before .before in
     let s = t .before .before in
