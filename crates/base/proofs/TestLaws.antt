@@ -1,9 +1,9 @@
 -- Laws of the tests: what a joined test says of its parts.
 -- Assumes nothing.
 use Prim.Native.Nat.{ℕ}
-use mathlib.Core.Path.{_≡_, refl, sym, _∙_}
+use mathlib.Core.Path.{_≡_, refl, sym, ap, _∙_}
 use mathlib.Core.Logic.{_⊎_, inl, inr, ⊎-elim}
-use mathlib.Core.Bool.{Bool, true, false, cond, false≢true, true≢false}
+use mathlib.Core.Bool.{Bool, true, false, not, cond, false≢true, true≢false}
 use lib.Dec.{eqb}
 use borrow.Author.Tests.{eqb-true, eqb-false, eq-eqb, ne-eqb}
 use Rattle.base.specs.Test.{_and_, _or_, _⇒_}
@@ -103,6 +103,16 @@ pub and-no-right : (a : Bool) {b : Bool} → b ≡ false → (a and b) ≡ false
 unfolding _and_
 and-no-right true e = e
 and-no-right false e = refl
+
+-- one test without another, where the one brings the other
+pub not-both : (a b : Bool) → (a ≡ true → b ≡ true) → (a and not b) ≡ false
+unfolding _and_
+not-both true b f = ap not (f refl)
+not-both false b f = refl
+
+-- and the other way
+pub brings : {a b : Bool} → a ≡ true → (a and not b) ≡ false → b ≡ true
+brings {a} {b} p e = ⊎-elim (λ q. q) (λ q. absurd (true≢false (sym (and-of p (ap not q)) ∙ e))) (true-or-false b)
 
 -- a test that would make another true, which is false, is false
 pub refuted : {a b : Bool} → (a ≡ true → b ≡ true) → b ≡ false → a ≡ false

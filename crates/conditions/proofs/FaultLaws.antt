@@ -7,9 +7,8 @@ use mathlib.Core.Option.{Option, none, some, Option·getD}
 use mathlib.Core.List.{List}
 use native.Mathlib.Omega.{arith}
 use lib.ListN.{length}
-use Rattle.base.specs.Test.{_and_}
-use Rattle.base.specs.First.{first, least, someIf, _orElse_}
-use Rattle.model.specs.Scheme.{left, right}
+use Rattle.base.specs.First.{least, someIf, _orElse_}
+use Rattle.model.specs.Scheme.{left, right, firstHook}
 use Rattle.model.specs.Conditions.{hookFault, noted, schemeFault}
 use Rattle.model.specs.Twice.{twiceOf}
 use Rattle.model.specs.Shaped.{Shaped}
@@ -17,6 +16,7 @@ use Rattle.model.specs.declared.Scheme.{Scheme}
 use Rattle.model.specs.declared.Answer.{Answer}
 use Rattle.model.specs.declared.Answer.the-variants.{Done, BadHook, BadIncidence}
 use Rattle.model.proofs.AcceptedLaws as AcceptedLaws
+use Rattle.model.proofs.HookLaws.{wrong-hook}
 use Rattle.conditions.specs.Arcs.{Joining, Coded}
 use Rattle.conditions.specs.Tree.{Aimed, Lefts, Spanning, TreeOf}
 use Rattle.conditions.specs.Hook.{hookedBy, leftOut, foundOf, hookBy}
@@ -48,11 +48,13 @@ module _ (S : Scheme) (f : Shaped S) (lefts rights : List ℕ) (cl : Coded S lef
       ((two, d, omega arith, f .nodesFew), (coding S f left lefts cl, coding S f right rights cr))
 
   module _ (long : length (S .lwords) ≡ 64) (t : Tree) (g : TreeOf S t) (ltwice rtwice : List Bool) (tl : ltwice ≡ twiceOf S left) (tr : rtwice ≡ twiceOf S right) where
-    hook-found : foundOf (hookFault S) ≡ hookBy (S .places) (S .orbit) (S .kinds) (S .lwords) (foundOf (least (S .nodes) (leftOut (S .kinds) (t .reached))))
+    hook-found : foundOf (hookFault S)
+        ≡ hookBy (S .places) (S .orbit) (S .kinds) (S .lwords) (foundOf (least (S .nodes) (leftOut (S .kinds) (t .reached))))
     unfolding hookFault hookBy someIf _orElse_
-    hook-found = rw (hook-is S f long, unreached-is S f t g) (go (hookedBy (S .places) (S .orbit) (S .kinds) (S .lwords)) (least (S .nodes) (leftOut (S .kinds) (t .reached))))
+    hook-found = rw (wrong-hook S f, hook-is S f long firstHook (f .nodesSome), unreached-is S f t g)
+        (go (hookedBy (S .places) (S .orbit) (S .kinds) (S .lwords) firstHook) (least (S .nodes) (leftOut (S .kinds) (t .reached))))
       where
-        go : (h : Bool) (o : Option ℕ) → foundOf (someIf (not h) 0 orElse o) ≡ cond h (foundOf o) (Node 0)
+        go : (h : Bool) (o : Option ℕ) → foundOf (someIf (not h) firstHook orElse o) ≡ cond h (foundOf o) (Node firstHook)
         go true o = refl
         go false o = refl
 

@@ -1,8 +1,8 @@
--- The tests of node 0, and the search for a left node that is not reached.
+-- The test of a hook, and the search for a left node that is not reached.
 -- Assumes nothing.
 use Prim.Native.Nat.{ℕ, _+_, _*_, _≤_, _<_}
 use mathlib.Core.Path.{_≡_, refl, sym, ap, ap₂, _∙_}
-use mathlib.Core.Logic.{_⊎_, ⊎-elim}
+use mathlib.Core.Logic.{⊎-elim}
 use mathlib.Core.Bool.{Bool, true, false, not, true≢false}
 use mathlib.Core.Option.{Option, none, some}
 use mathlib.Core.List.{List}
@@ -18,8 +18,8 @@ use Rattle.base.proofs.FirstLaws.{least-hit, least-same, least-none}
 use Rattle.base.proofs.ListLaws.{getD-inside}
 use Rattle.base.proofs.TestLaws.{or-left, or-right, true-or-false}
 use Rattle.model.specs.Bytes.{onSide}
-use Rattle.model.specs.Scheme.{left, kind, orbitDim, has, added}
-use Rattle.model.specs.Conditions.{pathTo, hookRight}
+use Rattle.model.specs.Scheme.{left, kind, orbitDim, has, firstHook}
+use Rattle.model.specs.Conditions.{pathTo, hookOk}
 use Rattle.model.specs.Shaped.{Shaped}
 use Rattle.model.specs.declared.Scheme.{Scheme}
 use Rattle.model.proofs.AcceptedLaws as AcceptedLaws
@@ -29,20 +29,20 @@ use Rattle.conditions.specs.Hook.{hookedBy, leftOut, foundOf, hookBy}
 use Rattle.conditions.specs.declared.hook.Found.{Found}
 use Rattle.conditions.specs.declared.hook.Found.the-variants.{Node, Nothing}
 
-module _ (places : ℕ) (orbit kinds words : List ℕ) where
+module _ (places : ℕ) (orbit kinds words : List ℕ) (s : ℕ) where
   abbrev pub Read : ℕ → Bool
-  Read p = eqb (getD words p 0) (getD orbit p 0)
+  Read p = eqb (getD words (4 * s + p) 0) (getD orbit p 0)
 
-  pub hook-added : getD kinds 0 0 ≡ 3 → false ≡ hookedBy places orbit kinds words
+  pub hook-added : getD kinds s 0 ≡ 3 → false ≡ hookedBy places orbit kinds words s
   unfolding hookedBy _and_
   hook-added e = rw (eq-eqb _ _ e)
 
-  module _ (ne : getD kinds 0 0 ≡ 3 → ⊥) where
-    pub hook-other : (p : ℕ) → p < places → (getD words p 0 ≡ getD orbit p 0 → ⊥) → false ≡ hookedBy places orbit kinds words
+  module _ (ne : getD kinds s 0 ≡ 3 → ⊥) where
+    pub hook-other : (p : ℕ) → p < places → (getD words (4 * s + p) 0 ≡ getD orbit p 0 → ⊥) → false ≡ hookedBy places orbit kinds words s
     unfolding hookedBy _and_
     hook-other p h d = rw (ne-eqb _ _ ne, all-not places Read p h (ne-eqb _ _ d))
 
-    pub hook-whole : (p : ℕ) → p ≤ places → places ≤ p → allBelow p Read ≡ true → true ≡ hookedBy places orbit kinds words
+    pub hook-whole : (p : ℕ) → p ≤ places → places ≤ p → allBelow p Read ≡ true → true ≡ hookedBy places orbit kinds words s
     unfolding hookedBy _and_
     hook-whole p l h e =
         let same : p ≡ places = omega arith in
@@ -77,11 +77,11 @@ module _ (kinds : List ℕ) (reached : List Bool) (s : ℕ) where
 -- ---- the hook's fault
 
 module _ (places : ℕ) (orbit kinds words : List ℕ) (out : Found) where
-  pub hook-wrong : hookedBy places orbit kinds words ≡ false → Node 0 ≡ hookBy places orbit kinds words out
+  pub hook-wrong : hookedBy places orbit kinds words firstHook ≡ false → Node firstHook ≡ hookBy places orbit kinds words out
   unfolding hookBy
   hook-wrong q = rw q
 
-  pub hook-left : hookedBy places orbit kinds words ≡ true → out ≡ hookBy places orbit kinds words out
+  pub hook-left : hookedBy places orbit kinds words firstHook ≡ true → out ≡ hookBy places orbit kinds words out
   unfolding hookBy
   hook-left q = rw q
 
@@ -124,13 +124,13 @@ module _ (S : Scheme) (f : Shaped S) where
       not-added : (s : ℕ) → s < S .nodes → has S left s ≡ true → getD (S .kinds) s 0 ≡ 3 → ⊥
       not-added s h e q = true≢false (sym e ∙ side-left s h ∙ ap not (eq-eqb _ _ q))
 
-  pub hook-is : length (S .lwords) ≡ 64 → hookRight S ≡ hookedBy (S .places) (S .orbit) (S .kinds) (S .lwords)
-  unfolding hookRight hookedBy
-  hook-is long = ap₂ _and_ (side-left 0 (f .nodesSome)) (all-same (S .places) _ _ (λ p h.
+  pub hook-is : length (S .lwords) ≡ 64 → (s : ℕ) → s < S .nodes → hookOk S s ≡ hookedBy (S .places) (S .orbit) (S .kinds) (S .lwords) s
+  unfolding hookOk hookedBy
+  hook-is long s l = ap₂ _and_ (side-left s l) (all-same (S .places) _ _ (λ p h.
       let a = f .placesFew in
       let b = AcceptedLaws.small S f in
-      let zero-first : 4 * 0 + p ≡ p = omega arith in
-      ap (λ (z : ℕ). eqb z (orbitDim S p)) (ap (λ (z : ℕ). getD (S .lwords) z 255) zero-first ∙ getD-inside (S .lwords) p 255 0 (omega arith))))
+      let c = f .nodesFew in
+      ap (λ (z : ℕ). eqb z (orbitDim S p)) (getD-inside (S .lwords) (4 * s + p) 255 0 (omega arith))))
 
   -- the least left node to which no path leads
   pub unreached-is : (t : Tree) → TreeOf S t

@@ -23,7 +23,7 @@ module _ (S : Scheme) (f : Shaped S) where
   hook-small : (x : ℕ) → hookFault S ≡ some x → x < 16
   unfolding hookFault
   hook-small x e = ⊎-elim
-      (λ w. let q = when-at _ w .1 in omega arith)
+      (λ w. node-small S f x (least-at _ _ x w .0))
       (λ w. node-small S f x (least-at _ _ x (w .1) .0))
       (or-else-cases _ _ x e)
 

@@ -1,6 +1,6 @@
--- Hook, over the lists that a scheme holds: node 0, and the left nodes that are not reached from it.
+-- Hook, over the lists that a scheme holds: what is asked of a hook, and the left nodes that are not reached.
 -- Assumes nothing.
-use Prim.Native.Nat.{ℕ}
+use Prim.Native.Nat.{ℕ, _+_, _*_}
 use mathlib.Core.Bool.{Bool, false, not, cond}
 use mathlib.Core.Option.{Option, none, some}
 use mathlib.Core.List.{List}
@@ -8,12 +8,14 @@ use lib.ListN.{getD}
 use lib.Dec.{eqb}
 use Rattle.base.specs.Test.{_and_}
 use Rattle.base.specs.Below.{allBelow}
+use Rattle.model.specs.Scheme.{firstHook}
 use Rattle.conditions.specs.declared.hook.Found.{Found}
 use Rattle.conditions.specs.declared.hook.Found.the-variants.{Node, Nothing}
 
--- node 0 is not added, and its word is the orbit type
-unfoldable pub hookedBy : ℕ → List ℕ → List ℕ → List ℕ → Bool
-hookedBy places orbit kinds words = not (eqb (getD kinds 0 0) 3) and allBelow places (λ p. eqb (getD words p 0) (getD orbit p 0))
+-- the hook h is not added, and its word is the orbit type
+unfoldable pub hookedBy : ℕ → List ℕ → List ℕ → List ℕ → ℕ → Bool
+hookedBy places orbit kinds words h =
+    not (eqb (getD kinds h 0) 3) and allBelow places (λ p. eqb (getD words (4 * h + p) 0) (getD orbit p 0))
 
 -- s is not added, and not reached
 unfoldable pub leftOut : List ℕ → List Bool → ℕ → Bool
@@ -23,6 +25,6 @@ abbrev pub foundOf : Option ℕ → Found
 foundOf none = Nothing
 foundOf (some s) = Node s
 
--- the hook's fault: node 0, or else the node that is left out, if any
+-- the hook's fault: the hook itself, or else the node that is left out, if any
 unfoldable pub hookBy : ℕ → List ℕ → List ℕ → List ℕ → Found → Found
-hookBy places orbit kinds words out = cond (hookedBy places orbit kinds words) out (Node 0)
+hookBy places orbit kinds words out = cond (hookedBy places orbit kinds words firstHook) out (Node firstHook)

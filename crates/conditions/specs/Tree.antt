@@ -1,4 +1,4 @@
--- The tree of left arcs that reaches from node 0, while it is grown and when it spans all that is reached.
+-- The tree of left arcs that reaches from the hook, while it is grown and when it spans all that is reached.
 -- Assumes nothing.
 use Prim.Native.Nat.{ℕ, _≤_, _<_}
 use mathlib.Core.Path.{_≡_}
@@ -8,7 +8,7 @@ use mathlib.Core.List.{List}
 use lib.ListN.{length, getD}
 use Rattle.base.specs.Below.{countBelow}
 use Rattle.base.specs.First.{there}
-use Rattle.model.specs.Scheme.{left, arcs, arcPart}
+use Rattle.model.specs.Scheme.{left, arcs, arcPart, firstHook}
 use Rattle.model.specs.Conditions.{pathTo}
 use Rattle.model.specs.declared.Scheme.{Scheme}
 use Rattle.conditions.specs.Arcs.{entry, partOf}
@@ -46,7 +46,7 @@ pub record TreeBy (J : ℕ → ℕ → ℕ → Type 0) (node parent dim : List �
   pub longReached : length reached ≡ 16
   pub some : 1 ≤ size
   pub total : size ≤ countBelow 16 (λ s. getD reached s false)
-  pub root : getD node 0 0 ≡ 0
+  pub root : getD node 0 0 ≡ firstHook
   pub branch : (k : ℕ) → 1 ≤ k → k < size → Branch J node parent dim k
   pub marked : (k : ℕ) → k < size → getD reached (getD node k 0) false ≡ true
   pub found : (s : ℕ) → getD reached s false ≡ true → (k : ℕ) × (k < size) × (getD node k 0 ≡ s)
@@ -99,7 +99,7 @@ Spanning arcs c t = Closed arcs c (t .node) (t .parent) (t .dim) (t .reached) (t
 pub record TreeOf (S : Scheme) (t : Tree) : Type 0 where
   pub some : 1 ≤ t .size
   pub few : t .size ≤ 16
-  pub root : getD (t .node) 0 0 ≡ 0
+  pub root : getD (t .node) 0 0 ≡ firstHook
   pub below : (k : ℕ) → k < t .size → getD (t .node) k 0 < S .nodes
   pub branch : (k : ℕ) → 1 ≤ k → k < t .size → Branch (ByArc (arcPart S left) (arcs S left)) (t .node) (t .parent) (t .dim) k
   pub once : (j k : ℕ) → j < t .size → k < t .size → getD (t .node) j 0 ≡ getD (t .node) k 0 → j ≡ k

@@ -1,4 +1,4 @@
-// Hook: node 0 and the nodes that are reached from it.
+// Hook: what is asked of a hook, and the nodes that are reached.
 ghost use mathlib.Core.Path.{_≡_};
 ghost use Prim.Native.Nat.{_<_, _≤_};
 ghost use Rattle.base.specs.First.{least};
@@ -10,22 +10,23 @@ pub enum Found {
     Nothing,
 }
 
-// Node 0 is a left node, and its left word is the orbit type.
+// The hook h is a left node, and its left word is the orbit type.
 pub fn hooked<'a>(
     places: usize,
     orbit: &'a [u8; 4],
     kinds: &'a [u8; 16],
     words: &'a [u8; 64],
+    h: usize,
 ) -> bool
-    requires { ⌜ places ≤ 4 ⌝ }
-    ensures { λ r. ⌜ r ≡ hookedBy places (now (orbit .entry)) (now (kinds .entry)) (now (words .entry)) ⌝ }
+    requires { ⌜ (places ≤ 4) × (h < 16) ⌝ }
+    ensures { λ r. ⌜ r ≡ hookedBy places (now (orbit .entry)) (now (kinds .entry)) (now (words .entry)) h ⌝ }
 {
-    if kinds[0] == 3 {
+    if kinds[h] == 3 {
         return false;
     }
     let mut p = 0;
     while p < places {
-        if words[p] != orbit[p] {
+        if words[4 * h + p] != orbit[p] {
             return false;
         }
         p += 1;

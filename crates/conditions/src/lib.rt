@@ -20,7 +20,7 @@ ghost use Rattle.conditions.specs.Cycles.{Coding};
 ghost use Rattle.conditions.specs.Incidence.{arcsAnswer};
 ghost use Rattle.conditions.specs.Verdict.{faultBy, Judging, VerdictOf};
 
-// The hook's fault: node 0, or the least left node that is not reached from it, which is `out`.
+// The hook's fault: the hook, node 0, or the least left node that is not reached, which is `out`.
 fn hook_fault<'a>(
     places: usize,
     orbit: &'a [u8; 4],
@@ -31,7 +31,7 @@ fn hook_fault<'a>(
     requires { ⌜ places ≤ 4 ⌝ }
     ensures { λ r. ⌜ r ≡ hookBy places (now (orbit .entry)) (now (kinds .entry)) (now (words .entry)) out ⌝ }
 {
-    if !hooked(places, orbit, kinds, words) {
+    if !hooked(places, orbit, kinds, words, 0) {
         return Found::Node(0);
     }
     out

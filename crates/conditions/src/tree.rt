@@ -1,4 +1,4 @@
-// The tree of left arcs that reaches from node 0.
+// The tree of left arcs that reaches from the hook, node 0.
 use crate::arcs::part;
 use crate::arcs::wide;
 use crate::hook::Found;
@@ -12,7 +12,7 @@ ghost use Rattle.conditions.specs.Arcs.{Joining};
 ghost use Rattle.conditions.specs.Tree.{ByTarget, TreeBy, Reaching, Aimed, Lefts, Spans, Joined, Grown, Closed, Spanning};
 ghost use Rattle.conditions.specs.Hook.{leftOut, foundOf};
 
-// What is reached from node 0 over left arcs, as a tree: its first `size` entries. Entry 0 is node 0; any other is a node, with an
+// What is reached from the hook over left arcs, as a tree: its first `size` entries. Entry 0 is the hook, node 0; any other is a node, with an
 // earlier one to which a left arc of dimension `dim` joins it. `reached` tells of each node whether it is an entry.
 pub struct Tree {
     pub size: usize,
@@ -150,7 +150,7 @@ fn spread<'a>(
     k
 }
 
-// The tree over targets, from node 0, the only entry at first. It returns the number of entries.
+// The tree over targets, from the hook, the only entry at first. It returns the number of entries.
 fn walk<'a>(
     targets: &[u8; 64],
     node: &'a mut [u8; 16],
@@ -194,7 +194,7 @@ fn pass<'a>(
     k
 }
 
-// What is reached from node 0: the tree, and the least left node that is no entry of it.
+// What is reached from the hook: the tree, and the least left node that is no entry of it.
 pub struct Reach {
     pub tree: Tree,
     pub out: Found,

@@ -8,16 +8,16 @@ use mathlib.Core.Option.{Option, none, some}
 use mathlib.Core.List.{List}
 use native.Mathlib.Omega.{arith}
 use lib.Dec.{leb}
-use borrow.Author.Tests.{eqb-true, eq-eqb, leb-true, le-leb, not-false}
+use borrow.Author.Tests.{leb-true, le-leb}
 use Rattle.base.specs.Test.{_and_}
 use Rattle.base.specs.First.{someIf, there, first, least}
-use Rattle.base.proofs.TestLaws.{and-left, and-right, and-of, true-or-false}
-use Rattle.base.proofs.BelowLaws.{all-at, all-of, le-or-lt}
+use Rattle.base.proofs.TestLaws.{and-left, and-right, and-of, brings, impossible}
+use Rattle.base.proofs.BelowLaws.{le-or-lt}
 use Rattle.base.proofs.FirstLaws.{when-at, when-none, or-else-cases, or-else-none, first-at, first-none, least-at, least-none}
 use Rattle.model.specs.Map.{view}
-use Rattle.model.specs.Scheme.{left, has, orbitDim, schemeOf}
+use Rattle.model.specs.Scheme.{left, has, isHook, orbitDim, schemeOf}
 use Rattle.model.specs.Shaped.{Shaped}
-use Rattle.model.specs.Conditions.{pathTo, hookRight, hookFault, incidenceOk, incidenceFault, cycleOk, cycleFault}
+use Rattle.model.specs.Conditions.{Reached, pathTo, hookOk, hookFault, incidenceOk, incidenceFault, cycleOk, cycleFault}
 use Rattle.model.specs.Orbit.{orbit}
 use Rattle.model.specs.Match.{matches, Assignment}
 use Rattle.model.specs.Site.{Site, Sound}
@@ -25,10 +25,10 @@ use Rattle.model.specs.Calls.{siteOf}
 use Rattle.model.specs.declared.Scheme.{Scheme}
 use Rattle.model.specs.declared.Answer.{Answer}
 use Rattle.model.specs.declared.Answer.the-variants.{BadCycle}
-use Rattle.model.proofs.HookLaws.{found-reached, reached-found}
+use Rattle.model.proofs.HookLaws.{hook-iff, hook-below, found-reached, reached-found}
 use Rattle.model.proofs.OrbitLaws.{orbit-is, orbit-only}
 use Rattle.model.proofs.MatchIff.{match-iff}
-use Rattle.demands.specs.Refusals.{LeastNode, HookRight, Unreached, HookFault, Offends, FirstPair, Orbit, siteOver, Matched}
+use Rattle.demands.specs.Refusals.{LeastNode, WrongHook, Unreached, HookFault, Offends, FirstPair, Orbit, siteOver, Matched}
 
 -- ---- tests
 
@@ -57,31 +57,34 @@ module _ (c : ℕ) (p : ℕ → Bool) (P : ℕ → Type 0) (is : (s : ℕ) → s
 -- ---- hook
 
 module _ (S : Scheme) (f : Shaped S) where
-  hook-iff : (hookRight S ≡ true) ↔ HookRight S
-  unfolding hookRight
-  hook-iff = (
-    (λ e. record { kind = and-left _ _ e; word = λ p h. eqb-true _ _ (all-at _ _ (and-right _ _ e) p h) }),
-    (λ h. and-of (h .kind) (all-of (S .places) _ (λ p l. eq-eqb _ _ (h .word p l)))),
+  wrong-iff : (s : ℕ) → s < S .nodes → ((isHook S s and not (hookOk S s)) ≡ true) ↔ WrongHook S s
+  wrong-iff s h = (
+    (λ e. record { hook = and-left _ _ e; wrong = λ k. true≢false (sym (hook-iff S s .1 k) ∙ not-true _ (and-right _ _ e)) }),
+    (λ w. and-of (w .hook) (ap not (impossible _ (λ t. w .wrong (hook-iff S s .0 t))))),
   )
 
   unreached-iff : (s : ℕ) → s < S .nodes → ((has S left s and not (there (pathTo S s))) ≡ true) ↔ Unreached S s
   unreached-iff s h = (
     (λ e. record { onLeft = and-left _ _ e; cut = λ r. true≢false (sym (reached-found S f r) ∙ not-true _ (and-right _ _ e)) }),
-    (λ u. and-of (u .onLeft) (⊎-elim (λ t. absurd (u .cut (found-reached S f s h t))) (λ t. ap not t) (true-or-false (there (pathTo S s))))),
+    (λ u. and-of (u .onLeft) (ap not (impossible _ (λ t. u .cut (found-reached S f s h t))))),
   )
 
   pub hook-found : (s : ℕ) → hookFault S ≡ some s → HookFault S s
   unfolding hookFault
   hook-found s e = ⊎-elim
-      (λ w. let q = when-at _ w in inl ((λ h. true≢false (sym (hook-iff .1 h) ∙ not-true _ (q .0))), sym (q .1)))
-      (λ w. inr (hook-iff .0 (not-false _ (when-none _ 0 (w .0))), least-found (S .nodes) _ (Unreached S) unreached-iff s (w .1)))
+      (λ w. inl (least-found (S .nodes) _ (WrongHook S) wrong-iff s w))
+      (λ w. inr (
+        (λ h q. hook-iff S h .0 (brings q (least-none _ _ (w .0) h (hook-below S f h q)))),
+        least-found (S .nodes) _ (Unreached S) unreached-iff s (w .1),
+      ))
       (or-else-cases _ _ s e)
 
   pub hook-nowhere : hookFault S ≡ none → (s : ℕ) → HookFault S s → ⊥
   unfolding hookFault
   hook-nowhere e s h =
       let w = or-else-none _ _ e in
-      ⊎-elim (λ q. q .0 (hook-iff .0 (not-false _ (when-none _ 0 (w .0))))) (λ q. least-nowhere (S .nodes) _ (Unreached S) unreached-iff (w .1) s (q .1)) h
+      ⊎-elim (least-nowhere (S .nodes) _ (WrongHook S) wrong-iff (w .0) s)
+      (λ q. least-nowhere (S .nodes) _ (Unreached S) unreached-iff (w .1) s (q .1)) h
 
 -- ---- incidence
 

@@ -10,8 +10,8 @@ use lib.ListN.{length}
 use Rattle.base.specs.Below.{countBelow}
 use Rattle.model.specs.Map.{view, unused}
 use Rattle.model.specs.WellFormed.{WellFormed}
-use Rattle.model.specs.Scheme.{left, orbitDim, word, has, inForm, schemeOf}
-use Rattle.model.specs.Conditions.{Reached, incidenceOk, cycleOk}
+use Rattle.model.specs.Scheme.{left, orbitDim, has, isHook, inForm, schemeOf}
+use Rattle.model.specs.Conditions.{Hooked, Reached, incidenceOk, cycleOk}
 use Rattle.model.specs.Orbit.{IsOrbit}
 use Rattle.model.specs.Site.{Site, siteWith}
 use Rattle.model.specs.Match.{Assignment}
@@ -50,19 +50,19 @@ pub record LeastNode (c : ℕ) (P : ℕ → Type 0) (s : ℕ) : Type 0 where
   pub least : (o : ℕ) → o < s → P o → ⊥
 
 module _ (S : Scheme) where
-  -- node 0 has kind 1 or 2 and its left word equals the orbit type
-  pub record HookRight : Type 0 where
-    pub kind : has S left 0 ≡ true
-    pub word : (p : ℕ) → p < S .places → word S left 0 p ≡ orbitDim S p
+  -- a hook that has not kind 1 or 2, or whose left word is not the orbit type
+  pub record WrongHook (s : ℕ) : Type 0 where
+    pub hook : isHook S s ≡ true
+    pub wrong : Hooked S s → ⊥
 
-  -- a node of kind 1 or 2 that cannot be reached from node 0 over left arcs
+  -- a node of kind 1 or 2 that cannot be reached from a hook over left arcs
   pub record Unreached (s : ℕ) : Type 0 where
     pub onLeft : has S left s ≡ true
     pub cut : Reached S s → ⊥
 
-  -- 0 if node 0 is wrong, else the least unreached node
+  -- 0 if node 0, the hook, is wrong, else the least unreached node
   abbrev pub HookFault : ℕ → Type 0
-  HookFault s = ((HookRight → ⊥) × (s ≡ 0)) ⊎ (HookRight × LeastNode (S .nodes) Unreached s)
+  HookFault s = LeastNode (S .nodes) WrongHook s ⊎ (((h : ℕ) → isHook S h ≡ true → Hooked S h) × LeastNode (S .nodes) Unreached s)
 
   -- a node and a pair of dimensions that are not as the cycles ask
   pub record Offends (s i j : ℕ) : Type 0 where

@@ -12,7 +12,7 @@ use Rattle.model.specs.Conditions.{explicit, arcAt}
 use Rattle.model.specs.Accepted.{Accepted}
 use Rattle.model.specs.declared.Scheme.{Scheme}
 use Rattle.model.proofs.ArcLaws.{explicit-at, far-from, far-to, touches-from, touches-to}
-use Rattle.model.proofs.HookLaws.{reached-found}
+use Rattle.model.proofs.HookLaws.{first-hook, reached-found}
 use Rattle.conditions.specs.Tree.{Ends, TreeOf}
 use Rattle.conditions.specs.declared.tree.Tree.{Tree}
 use Rattle.matching.specs.Columns.{Rooted}
@@ -36,7 +36,7 @@ module _ (S : Scheme) (A : Accepted S) where
   module _ (t : Tree) (T : TreeOf S t) where
     entry-left : (k : ℕ) → k < t .size → has S left (getD (t .node) k 0) ≡ true
     entry-left k h = by-cases (ℕ-discrete k 0)
-        (λ e. ap (λ (z : ℕ). has S left (getD (t .node) z 0)) e ∙ ap (has S left) (T .root) ∙ A .hookKind)
+        (λ e. ap (λ (z : ℕ). has S left (getD (t .node) z 0)) e ∙ ap (has S left) (T .root) ∙ A .hooks _ (first-hook S) .kind)
         (λ ne. let b = T .branch k (omega arith) h in end-left (b .joined .arc) _ _ (b .joined .below) (b .joined .ends))
 
     pub rooted : Rooted S (t .size) (t .node) (t .parent) (t .dim)

@@ -3,23 +3,23 @@
 use Prim.Native.Nat.{ℕ, suc, _+_, _≤_, _<_}
 use mathlib.Core.Path.{_≡_, refl, sym, ap, _∙_, subst}
 use mathlib.Core.Logic.{_⊎_, inl, inr, ⊎-elim, _↔_}
-use mathlib.Core.Bool.{Bool, true, false, not, cond, true≢false}
+use mathlib.Core.Bool.{Bool, true, not, cond, true≢false}
 use mathlib.Core.Option.{Option, none, some}
 use native.Mathlib.Omega.{arith}
 use lib.Dec.{eqb, leb}
 use borrow.Author.Tests.{eqb-true, eqb-false, eq-eqb, leb-true, le-leb, not-false}
 use Rattle.base.specs.Test.{_and_, _⇒_}
 use Rattle.base.specs.First.{someIf, _orElse_, there}
-use Rattle.base.proofs.TestLaws.{and-left, and-right, and-of, or-left, or-right, if-so, if-of, true-or-false}
+use Rattle.base.proofs.TestLaws.{and-left, and-right, and-of, not-both, brings, or-left, or-right, if-so, if-of, true-or-false}
 use Rattle.base.proofs.BelowLaws.{all-at, all-of}
 use Rattle.base.proofs.FirstLaws.{some-not-none, when-none, or-else-none, first-none, first-none-of, least-none, least-none-of}
-use Rattle.model.specs.Scheme.{Side, left, right, kind, orbitDim, word, has, deleted, preserved, added}
+use Rattle.model.specs.Scheme.{Side, left, right, kind, has, deleted, preserved, added, isHook}
 use Rattle.model.specs.Shaped.{Shaped}
-use Rattle.model.specs.Conditions.{arcAt, arcsOfDim, sameArc, onCycle, Cycle, pathTo, hookRight, hookFault, incidenceOk, incidenceFault, cycleOk, cycleFault, schemeFault, noted}
+use Rattle.model.specs.Conditions.{arcAt, arcsOfDim, sameArc, onCycle, Cycle, Hooked, hookOk, pathTo, hookFault, incidenceOk, incidenceFault, cycleOk, cycleFault, schemeFault, noted}
 use Rattle.model.specs.Accepted.{Accepted, SingleSide}
 use Rattle.model.specs.declared.Scheme.{Scheme}
 use Rattle.model.proofs.CycleLaws.{cycle-at, cycle-of, same-arc, arc-same}
-use Rattle.model.proofs.HookLaws.{found-reached, reached-found}
+use Rattle.model.proofs.HookLaws.{hook-iff, hook-below, found-reached, reached-found}
 use Rattle.model.specs.declared.Answer.{Answer}
 use Rattle.model.specs.declared.Answer.the-variants.{BadHook, BadIncidence, BadCycle}
 
@@ -42,11 +42,6 @@ one-of-three k l h = ⊎-elim (λ e. inl e)
 -- what is asked of a preserved node that is on a left cycle, or on none
 abbrev keptOk : Scheme → ℕ → ℕ → ℕ → Bool → Bool
 keptOk S s i j c = cond c (onCycle S right s i j) (sameArc (arcAt S left s i) (arcAt S right s i) and sameArc (arcAt S left s j) (arcAt S right s j))
-
-not-both : (a b : Bool) → (a ≡ true → b ≡ true) → (a and not b) ≡ false
-unfolding _and_
-not-both true b f = ap not (f refl)
-not-both false b f = refl
 
 module _ (S : Scheme) (f : Shaped S) where
   pub small : S .n ≤ 3
@@ -78,23 +73,13 @@ module _ (S : Scheme) (f : Shaped S) where
     unfolding schemeFault
     no-cycle = or-else-none _ _ (or-else-none _ _ r .1) .1
 
-    hooked : hookRight S ≡ true
+    hooked : (h : ℕ) → isHook S h ≡ true → Hooked S h
     unfolding hookFault
-    hooked = not-false _ (when-none _ 0 (or-else-none _ _ no-hook .0))
-
-    hook-kind : has S left 0 ≡ true
-    unfolding hookRight
-    hook-kind = and-left _ _ hooked
-
-    hook-word : (p : ℕ) → p < S .places → word S left 0 p ≡ orbitDim S p
-    unfolding hookRight
-    hook-word p h = eqb-true _ _ (all-at _ _ (and-right _ _ hooked) p h)
+    hooked h e = hook-iff S h .0 (brings e (least-none _ _ (or-else-none _ _ no-hook .0) h (hook-below S f h e)))
 
     reached : (s : ℕ) → s < S .nodes → has S left s ≡ true → there (pathTo S s) ≡ true
     unfolding hookFault
-    reached s h l = ⊎-elim (λ e. e)
-        (λ e. absurd (true≢false (sym (and-of l (ap not e)) ∙ least-none _ _ (or-else-none _ _ no-hook .1) s h)))
-        (true-or-false (there (pathTo S s)))
+    reached s h l = brings l (least-none _ _ (or-else-none _ _ no-hook .1) s h)
 
     incident : (s i : ℕ) → s < S .nodes → i ≤ S .n
         → (leb (arcsOfDim S left s i) 1 and leb (arcsOfDim S right s i) 1
@@ -107,11 +92,7 @@ module _ (S : Scheme) (f : Shaped S) where
     cycled : (s i j : ℕ) → s < S .nodes → i + 2 ≤ j → j ≤ S .n → cycleOk S s i j ≡ true
     unfolding cycleFault
     cycled s i j h ij jn =
-        ⊎-elim (λ e. e)
-        (λ e.
-        let g = when-none _ _ (first-none _ _ (first-none _ _ (first-none _ _ no-cycle s h) i (omega arith)) j (omega arith)) in
-        absurd (true≢false (sym (and-of (le-leb (i + 2) j ij) (ap not e)) ∙ g)))
-        (true-or-false (cycleOk S s i j))
+        brings (le-leb (i + 2) j ij) (when-none _ _ (first-none _ _ (first-none _ _ (first-none _ _ no-cycle s h) i (omega arith)) j (omega arith)))
 
     module _ (s i j : ℕ) (h : s < S .nodes) (ij : i + 2 ≤ j) (jn : j ≤ S .n) where
       added-cycle : added S s ≡ true → Cycle S right s i j
@@ -144,8 +125,7 @@ module _ (S : Scheme) (f : Shaped S) where
     pub accepted : Accepted S
     accepted = record {
       shaped = f;
-      hookKind = hook-kind;
-      hookWord = hook-word;
+      hooks = hooked;
       reach = λ s h l. found-reached S f s h (reached s h l);
       sides = side-of;
       same = λ s i h l e. eqb-true _ _ (if-so _ (and-right _ _ (and-left _ _ (and-left _ _ (incident s i h l)))) e);
@@ -160,10 +140,10 @@ module _ (S : Scheme) (f : Shaped S) where
 
 module _ (S : Scheme) (a : Accepted S) where
   hook-none : hookFault S ≡ none
-  unfolding hookFault hookRight someIf _orElse_
+  unfolding hookFault _orElse_
   hook-none =
-      let right-hook : hookRight S ≡ true = and-of (a .hookKind) (all-of (S .places) _ (λ p h. eq-eqb _ _ (a .hookWord p h))) in
-      rw right-hook (least-none-of (S .nodes) _ (λ s h. not-both (has S left s) (there (pathTo S s)) (λ l. reached-found S (a .shaped) (a .reach s h l))))
+      let wrong = least-none-of (S .nodes) _ (λ s h. not-both (isHook S s) (hookOk S s) (λ e. hook-iff S s .1 (a .hooks s e))) in
+      rw wrong (least-none-of (S .nodes) _ (λ s h. not-both (has S left s) (there (pathTo S s)) (λ l. reached-found S (a .shaped) (a .reach s h l))))
 
   incidence-none : incidenceFault S ≡ none
   unfolding incidenceFault incidenceOk

@@ -7,7 +7,6 @@ use mathlib.Core.Bool.{Bool, true}
 use mathlib.Core.Option.{Option, some, Option·getD}
 use mathlib.Core.List.{List, [], _∷_, _++_}
 use native.Mathlib.Omega.{arith}
-use lib.Dec.{eqb}
 use borrow.Author.Tests.{eqb-true, eq-eqb}
 use Rattle.base.specs.Test.{_and_}
 use Rattle.base.specs.Below.{allBelow}
@@ -15,7 +14,7 @@ use Rattle.model.specs.Map.{Map}
 use Rattle.model.specs.WellFormed.{WellFormed}
 use Rattle.model.specs.Reach.{here, step}
 use Rattle.model.specs.Scheme.{left, orbitDim, word, arcs, arcPart, has}
-use Rattle.model.specs.Conditions.{Arc, absent, explicit, implicit, arcAt, touches, far, leftArc, pathTo}
+use Rattle.model.specs.Conditions.{Arc, absent, explicit, implicit, arcAt, touches, far, pathTo}
 use Rattle.model.specs.Site.{Site}
 use Rattle.model.specs.Match.{walk, image, arcHolds, eachPair, onlyPair, matches, Assignment}
 use Rattle.model.specs.Accepted.{Accepted, SingleSide}
@@ -23,8 +22,7 @@ use Rattle.base.proofs.TestLaws.{and-left, and-right, and-of, or-cases, if-so, 
 use Rattle.base.proofs.BelowLaws.{all-at, all-of}
 use Rattle.model.proofs.ArcLaws.{explicit-at, implicit-at, explicit-from, implicit-from, far-from, far-to, touches-from, touches-to}
 use Rattle.model.proofs.AcceptedLaws.{small}
-use Rattle.model.proofs.ReachLaws.{path-start}
-use Rattle.model.proofs.HookLaws.{Path, arc-between, found-path, reached-found}
+use Rattle.model.proofs.HookLaws.{Path, first-hook, only-hook, hook-path, arc-between, found-path, reached-found}
 
 module _ (E : Site) where
   open Site E using (map as m, scheme as S, orbit as O)
@@ -49,8 +47,8 @@ module _ (E : Site) (g : Accepted (E .scheme)) where
   pathLeads s h l = found-path S (g .shaped) s h (reached-found S (g .shaped) (g .reach s h l))
 
   image-zero : (u : ℕ) → image E u 0 ≡ u
-  unfolding image pathTo walk
-  image-zero u = rw (path-start (S .nodes) (λ t. eqb t 0) (leftArc S) 0 (g .shaped .nodesSome) (eq-eqb 0 0 refl)) refl
+  unfolding image walk
+  image-zero u = rw (hook-path S (g .shaped) 0 (first-hook S)) refl
 
   abbrev gl : SingleSide S left
   gl = g .sides left
@@ -133,7 +131,7 @@ module _ (E : Site) (g : Accepted (E .scheme)) where
     module _ (f : ℕ → ℕ → ℕ) (A : Assignment E f) where
       walk-is : (u : ℕ) → O u ≡ true → {p : List ℕ} {s : ℕ} → Path S p s → walk m p u ≡ f u s
       unfolding walk
-      walk-is u e (here {y} h z) = sym (A .hook u (o .slot u e) e) ∙ ap (f u) (sym (eqb-true y 0 z))
+      walk-is u e (here {y} h z) = sym (A .hook u (o .slot u e) e) ∙ ap (f u) (sym (only-hook S y z))
       walk-is u e (step {p} {x} {y} {i} l h j) =
           let a = arc-between S x y i j in
           let x-arc = A .explicitArc u (o .slot u e) e (a .0) (a .1) in

@@ -9,6 +9,7 @@ use Rattle.model.specs.Match.{Assignment}
 use Rattle.model.specs.Edit.{rank, dartOf, edited}
 use Rattle.model.specs.Rewriting.{Rewriting}
 use Rattle.model.proofs.ArcLaws.{no-arc}
+use Rattle.model.proofs.HookLaws.{first-hook}
 use Rattle.model.proofs.KeepLaws.{right-stays, added-right, preserved-right, preserved-not-added}
 use Rattle.model.proofs.RankLaws.{dart-left}
 use Rattle.model.proofs.EditLaws as L
@@ -25,7 +26,7 @@ module _ (E : Site) (ready : Ready E) where
   assignment : Assignment E D
   assignment = record {
     darts = λ u b e s h l. subst (λ (x : ℕ). (x < m .slots) × (m .state x ≡ 1)) (sym (dart-left E u s l)) (A .darts u b e s h l);
-    hook = λ u b e. dart-left E u 0 (g .hookKind) ∙ A .hook u b e;
+    hook = λ u b e. dart-left E u 0 (g .hooks 0 (first-hook S) .kind) ∙ A .hook u b e;
     explicitArc = λ u b e a h.
         let from = g .shaped .sides left .from a h in
         let to = g .shaped .sides left .to a h in

@@ -4,8 +4,8 @@
 use Prim.Native.Nat.{ℕ, _+_, _≤_, _<_}
 use mathlib.Core.Path.{_≡_}
 use mathlib.Core.Bool.{true}
-use Rattle.model.specs.Scheme.{Side, left, right, orbitDim, word, has, deleted, preserved, added}
-use Rattle.model.specs.Conditions.{arcAt, arcsOfDim, Reached, Cycle}
+use Rattle.model.specs.Scheme.{Side, left, right, has, deleted, preserved, added, isHook}
+use Rattle.model.specs.Conditions.{arcAt, arcsOfDim, Hooked, Reached, Cycle}
 use Rattle.model.specs.Shaped.{Shaped, ShapedSide}
 use Rattle.model.specs.declared.Scheme.{Scheme}
 
@@ -17,8 +17,7 @@ pub record SingleSide (S : Scheme) (side : Side) : Type 0 where
 pub record Accepted (S : Scheme) : Type 0 where
   pub shaped : Shaped S
   -- hook: "Node 0 has kind 1 or 2 and its left word equals the orbit type. Every node of kind 1 or 2 can be reached from node 0 over left arcs."
-  pub hookKind : has S left 0 ≡ true
-  pub hookWord : (p : ℕ) → p < S .places → word S left 0 p ≡ orbitDim S p
+  pub hooks : (h : ℕ) → isHook S h ≡ true → Hooked S h
   pub reach : (s : ℕ) → s < S .nodes → has S left s ≡ true → Reached S s
   -- incidence: "On each side a node has at most one arc of each dimension, explicit and implicit together. A preserved node has the same
   -- dimensions left and right. A deleted node has all of 0 to n on the left, an added node all on the right."
