@@ -110,10 +110,10 @@ holds b q o k l r la lt lw ra rt rv = record {
 -- ---- the reading
 
 -- a blank scheme has no arcs
-pub blank-held : Held blank (replicate 4 0) (replicate 16 0) (replicate 64 255) (replicate 64 255) (replicate 192 0) (replicate 64 255) (replicate 192 0) (replicate 64 255)
-    (replicate 16 false) (replicate 16 false)
+pub blank-held : (v : ℕ) → Held (blank v) (replicate 4 0) (replicate 16 0) (replicate 64 v) (replicate 64 v)
+    (replicate 192 0) (replicate 64 v) (replicate 192 0) (replicate 64 v) (replicate 16 false) (replicate 16 false)
 unfolding blank twiceOf twiceAt arcsOfDim countBelow anyBelow list listFrom _or_
-blank-held = record {
+blank-held v = record {
   orbitIs = refl;
   kindsIs = refl;
   lwordsIs = refl;
@@ -126,12 +126,12 @@ blank-held = record {
   rtwiceIs = refl;
 }
 
-pub blank-twice : (side : Side) → twiceOf blank side ≡ replicate 16 false
-blank-twice left = sym (blank-held .ltwiceIs)
-blank-twice right = sym (blank-held .rtwiceIs)
+pub blank-twice : (v : ℕ) (side : Side) → twiceOf (blank v) side ≡ replicate 16 false
+blank-twice v left = sym (blank-held v .ltwiceIs)
+blank-twice v right = sym (blank-held v .rtwiceIs)
 
 module _ (b : List ℕ) where
-  pub read-broken : inForm b ≡ false → readAs false blank ≡ reading b
+  pub read-broken : inForm b ≡ false → readAs false (blank 0) ≡ reading b
   unfolding reading
   read-broken e = rw e refl
 

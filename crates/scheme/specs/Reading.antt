@@ -12,18 +12,18 @@ use Rattle.scheme.specs.declared.frame.Form.{Form}
 use Rattle.scheme.specs.declared.frame.Form.the-variants.{Laid, Broken}
 use Rattle.scheme.specs.declared.Reading.{Reading}
 
--- the scheme that stands beside a refusal
-unfoldable pub blank : Scheme
-blank = record {
+-- a scheme without nodes whose words and targets are all v: 255 before anything is read, and 0 beside a refusal
+unfoldable pub blank : ℕ → Scheme
+blank v = record {
   n = 0;
   places = 0;
   orbit = replicate 4 0;
   nodes = 0;
   kinds = replicate 16 0;
-  lwords = replicate 64 255;
-  rwords = replicate 64 255;
-  ltargets = replicate 64 255;
-  rtargets = replicate 64 255;
+  lwords = replicate 64 v;
+  rwords = replicate 64 v;
+  ltargets = replicate 64 v;
+  rtargets = replicate 64 v;
   lcount = 0;
   larcs = replicate 192 0;
   rcount = 0;
@@ -40,7 +40,7 @@ readAs ok S = record {
 }
 
 unfoldable pub reading : List ℕ → Reading
-reading b = readAs (inForm b) (cond (inForm b) (schemeOf b) blank)
+reading b = readAs (inForm b) (cond (inForm b) (schemeOf b) (blank 0))
 
 -- arrays that are those of a scheme, and of its nodes with two arcs of a dimension
 pub record Held (S : Scheme) (orbit kinds lwords rwords larcs ltargets rarcs rtargets : List ℕ) (ltwice rtwice : List Bool) : Type 0 where

@@ -38,7 +38,7 @@ fn gather(
     ltwice: &mut [bool; 16],
     rtwice: &mut [bool; 16],
 ) -> Form
-    requires { ⌜ Held blank (now orbit) (now kinds) (now lwords) (now rwords) (now larcs) (now ltargets) (now rarcs) (now rtargets) (now ltwice) (now rtwice) ⌝ }
+    requires { ⌜ Held (blank 255) (now orbit) (now kinds) (now lwords) (now rwords) (now larcs) (now ltargets) (now rarcs) (now rtargets) (now ltwice) (now rtwice) ⌝ }
     ensures { λ r. ⌜ Gathered (now (bytes .entry)) (now (orbit .exit)) (now (kinds .exit)) (now (lwords .exit)) (now (rwords .exit)) (now (larcs .exit)) (now (ltargets .exit)) (now (rarcs .exit)) (now (rtargets .exit)) (now (ltwice .exit)) (now (rtwice .exit)) r ⌝ }
 {
     let Form::Laid(l) = frame(bytes) else {
@@ -69,7 +69,7 @@ fn gather(
 
 // What stands beside the refusal.
 fn refused() -> Reading
-    ensures { λ r. ⌜ r ≡ readAs false blank ⌝ }
+    ensures { λ r. ⌜ r ≡ readAs false (blank 0) ⌝ }
 {
     Reading {
         ok: false,
@@ -79,10 +79,10 @@ fn refused() -> Reading
             orbit: [0u8; 4],
             nodes: 0,
             kinds: [0u8; 16],
-            lwords: [255u8; 64],
-            rwords: [255u8; 64],
-            ltargets: [255u8; 64],
-            rtargets: [255u8; 64],
+            lwords: [0u8; 64],
+            rwords: [0u8; 64],
+            ltargets: [0u8; 64],
+            rtargets: [0u8; 64],
             lcount: 0,
             larcs: [0u8; 192],
             rcount: 0,

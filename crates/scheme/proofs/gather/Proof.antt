@@ -74,7 +74,7 @@ read-arcs-requires c κs =
     let p = k .before .before .before .before .before .pre in
     let nodes-read = e .before .before .read-nodes .ensures .1 (not-false _ (e .if2 .left)) in (
       placed-side _ _ (laid k) (nodes e) (nodes-read .kindsIs) _ (side-kind _ refl) (nodes-read .placeIs),
-      (p .larcsIs, nodes-read .ltargetsIs, p .ltwiceIs ∙ blank-twice left),
+      (p .larcsIs, nodes-read .ltargetsIs, p .ltwiceIs ∙ blank-twice 255 left),
     )
 
 returns-4 : tie.Need-returns-4
@@ -90,7 +90,7 @@ read-arcs-requires-2 c κs =
     let nodes-read = e .before .before .read-nodes .ensures .1 (not-false _ (e .if2 .left)) in
     let left-read = f .before .before .read-arcs .ensures .1 (not-false _ (f .if3 .left)) in (
       placed-side _ _ (laid k) (nodes e) (nodes-read .kindsIs) _ (side-kind _ refl) (left-read .placeIs),
-      (p .rarcsIs, nodes-read .rtargetsIs, p .rtwiceIs ∙ blank-twice right),
+      (p .rarcsIs, nodes-read .rtargetsIs, p .rtwiceIs ∙ blank-twice 255 right),
     )
 
 returns-5 : tie.Need-returns-5

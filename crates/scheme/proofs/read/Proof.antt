@@ -7,7 +7,7 @@ use Rattle.scheme.proofs.read.Statement.{statement}
 use Rattle.scheme.proofs.read.Tie as tie
 
 gather-requires : tie.Need-gather-requires
-gather-requires c κs = blank-held
+gather-requires c κs = blank-held 255
 
 enum-known-l : tie.Need-enum-known-l
 enum-known-l c = search needs
