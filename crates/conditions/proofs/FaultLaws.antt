@@ -1,7 +1,7 @@
 -- The faults of a scheme in their order, and how small their numbers are.
 -- Assumes nothing.
 use Prim.Native.Nat.{ℕ, _≤_}
-use mathlib.Core.Path.{_≡_, refl, sym, ap, _∙_}
+use mathlib.Core.Path.{_≡_, refl, sym, _∙_}
 use mathlib.Core.Bool.{Bool, true, false, not, cond}
 use mathlib.Core.Option.{Option, none, some, Option·getD}
 use mathlib.Core.List.{List}
@@ -14,23 +14,26 @@ use Rattle.model.specs.Twice.{twiceOf}
 use Rattle.model.specs.Shaped.{Shaped}
 use Rattle.model.specs.declared.Scheme.{Scheme}
 use Rattle.model.specs.declared.Answer.{Answer}
-use Rattle.model.specs.declared.Answer.the-variants.{Done, BadHook, BadIncidence}
+use Rattle.model.specs.declared.Answer.the-variants.{Done, BadHook}
 use Rattle.model.proofs.AcceptedLaws as AcceptedLaws
 use Rattle.model.proofs.HookLaws.{wrong-hook}
-use Rattle.conditions.specs.Arcs.{Joining, Coded}
+use Rattle.model.specs.Shaped.{Coded}
+use Rattle.conditions.specs.Arcs.{Joining}
 use Rattle.conditions.specs.Tree.{Aimed, Lefts, Spanning, TreeOf}
-use Rattle.conditions.specs.Hook.{hookedBy, leftOut, foundOf, hookBy}
-use Rattle.conditions.specs.Incidence.{offends, arcsAnswer}
-use Rattle.conditions.specs.Cycles.{Coding, cycleAnswer}
+use Rattle.conditions.specs.Hook.{hookedBy, leftOut, hookBy}
+use Rattle.incidence.specs.Incidence.{foundOf}
+use Rattle.incidence.specs.Incidence.{arcsAnswer}
+use Rattle.incidence.specs.Cycles.{Coding}
 use Rattle.conditions.specs.Verdict.{hookElse, faultBy, Judging, VerdictOf}
-use Rattle.conditions.specs.declared.hook.Found.{Found}
-use Rattle.conditions.specs.declared.hook.Found.the-variants.{Node, Nothing}
+use Rattle.incidence.specs.declared.Found.{Found}
+use Rattle.incidence.specs.declared.Found.the-variants.{Node, Nothing}
 use Rattle.conditions.specs.declared.tree.Tree.{Tree}
-use Rattle.conditions.proofs.CodeLaws.{joins, aimed, coded}
+use Rattle.model.proofs.CodeLaws.{coded}
+use Rattle.conditions.proofs.AimLaws.{joins, aimed}
 use Rattle.conditions.proofs.SpanLaws.{tree-of}
-use Rattle.conditions.proofs.HookLaws.{found-node, found-nothing, lefts, hook-is, unreached-is}
-use Rattle.conditions.proofs.IncidenceLaws.{incidence-is}
-use Rattle.conditions.proofs.CycleIsLaws.{coding, cycle-is}
+use Rattle.conditions.proofs.HookLaws.{lefts, hook-is, unreached-is}
+use Rattle.incidence.proofs.IncidenceLaws.{incidence-is}
+use Rattle.incidence.proofs.CycleIsLaws.{coding, cycle-is}
 
 -- what the tree of a scheme's left arcs is built from
 pub tree-asks : (S : Scheme) (f : Shaped S) (n c : ℕ) → n ≡ S .nodes → c ≡ S .lcount
@@ -81,22 +84,6 @@ module _ (n places nodes : ℕ) (orbit kinds words : List ℕ) (out : Found) (le
       → r ≡ faultBy n places nodes orbit kinds words out lefts rights ltwice rtwice
   unfolding faultBy
   fault-arcs e r g = let o = sym eh ∙ e in rw o g
-
--- ---- incidence, then cycles
-
-module _ (n nodes : ℕ) (orbit kinds lefts rights : List ℕ) (ltwice rtwice : List Bool) (d : ℕ) (ed : d ≡ n)
-    (k : Found) (ek : k ≡ foundOf (least nodes (offends d kinds lefts rights ltwice rtwice))) where
-  offends-is : foundOf (least nodes (offends n kinds lefts rights ltwice rtwice)) ≡ k
-  offends-is = ap (λ (z : ℕ). foundOf (least nodes (offends z kinds lefts rights ltwice rtwice))) (sym ed) ∙ sym ek
-
-  pub answer-incidence : (x : ℕ) → k ≡ Node x → BadIncidence x ≡ arcsAnswer n nodes orbit kinds lefts rights ltwice rtwice
-  unfolding arcsAnswer _orElse_
-  answer-incidence x e = rw (found-node (least nodes (offends n kinds lefts rights ltwice rtwice)) x (offends-is ∙ e))
-
-  pub answer-cycle : k ≡ Nothing → (r : Answer) → r ≡ cycleAnswer orbit kinds lefts rights n nodes
-      → r ≡ arcsAnswer n nodes orbit kinds lefts rights ltwice rtwice
-  unfolding arcsAnswer cycleAnswer _orElse_
-  answer-cycle e r g = rw (found-nothing (least nodes (offends n kinds lefts rights ltwice rtwice)) (offends-is ∙ e)) g
 
 -- ---- a scheme in its parts
 

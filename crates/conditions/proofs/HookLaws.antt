@@ -4,7 +4,6 @@ use Prim.Native.Nat.{ℕ, _+_, _*_, _≤_, _<_}
 use mathlib.Core.Path.{_≡_, refl, sym, ap, ap₂, _∙_}
 use mathlib.Core.Logic.{⊎-elim}
 use mathlib.Core.Bool.{Bool, true, false, not, true≢false}
-use mathlib.Core.Option.{Option, none, some}
 use mathlib.Core.List.{List}
 use native.Mathlib.Omega.{arith}
 use lib.ListN.{length, getD}
@@ -14,7 +13,7 @@ use Rattle.base.specs.Test.{_and_, _or_}
 use Rattle.base.specs.Below.{allBelow}
 use Rattle.base.specs.First.{least, there}
 use Rattle.base.proofs.BelowLaws.{all-not, all-same}
-use Rattle.base.proofs.FirstLaws.{least-hit, least-same, least-none}
+use Rattle.base.proofs.FirstLaws.{least-same, least-none}
 use Rattle.base.proofs.ListLaws.{getD-inside}
 use Rattle.base.proofs.TestLaws.{or-left, or-right, true-or-false}
 use Rattle.model.specs.Bytes.{onSide}
@@ -23,11 +22,13 @@ use Rattle.model.specs.Conditions.{pathTo, hookOk}
 use Rattle.model.specs.Shaped.{Shaped}
 use Rattle.model.specs.declared.Scheme.{Scheme}
 use Rattle.model.proofs.AcceptedLaws as AcceptedLaws
+use Rattle.incidence.proofs.FoundLaws.{found-nothing}
 use Rattle.conditions.specs.Tree.{Lefts, TreeOf}
 use Rattle.conditions.specs.declared.tree.Tree.{Tree}
-use Rattle.conditions.specs.Hook.{hookedBy, leftOut, foundOf, hookBy}
-use Rattle.conditions.specs.declared.hook.Found.{Found}
-use Rattle.conditions.specs.declared.hook.Found.the-variants.{Node, Nothing}
+use Rattle.conditions.specs.Hook.{hookedBy, leftOut, hookBy}
+use Rattle.incidence.specs.Incidence.{foundOf}
+use Rattle.incidence.specs.declared.Found.{Found}
+use Rattle.incidence.specs.declared.Found.the-variants.{Node, Nothing}
 
 module _ (places : ℕ) (orbit kinds words : List ℕ) (s : ℕ) where
   abbrev pub Read : ℕ → Bool
@@ -50,20 +51,6 @@ module _ (places : ℕ) (orbit kinds words : List ℕ) (s : ℕ) where
         rw (ne-eqb _ _ ne, f)
 
 -- ---- the search
-
-pub found-none : (n k : ℕ) (p : ℕ → Bool) → k ≤ n → n ≤ k → least k p ≡ none → Nothing ≡ foundOf (least n p)
-found-none n k p l h e = let same : k ≡ n = omega arith in let f : least n p ≡ none = rw same at e in rw f
-
-pub found-at : (n k : ℕ) (p : ℕ → Bool) → k < n → least k p ≡ none → p k ≡ true → Node k ≡ foundOf (least n p)
-found-at n k p h e f = rw (least-hit n p k h e f)
-
-pub found-node : (o : Option ℕ) (x : ℕ) → foundOf o ≡ Node x → o ≡ some x
-found-node none x e = absurd (let z : _≡_ {A = ℕ} 0 1 = cc in omega arith)
-found-node (some y) x e = let q : y ≡ x = cc in ap {B = Option ℕ} some q
-
-pub found-nothing : (o : Option ℕ) → foundOf o ≡ Nothing → o ≡ none
-found-nothing none e = refl
-found-nothing (some y) e = absurd (let z : _≡_ {A = ℕ} 0 1 = cc in omega arith)
 
 module _ (kinds : List ℕ) (reached : List Bool) (s : ℕ) where
   pub out-added : getD kinds s 0 ≡ 3 → leftOut kinds reached s ≡ false

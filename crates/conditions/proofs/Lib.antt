@@ -1,10 +1,6 @@
-pub mod CodeLaws
+pub mod AimLaws
 pub mod TreeLaws
 pub mod HookLaws
 pub mod SpanLaws
-pub mod IncidenceLaws
-pub mod CycleTestLaws
-pub mod CycleSearchLaws
-pub mod CycleIsLaws
 pub mod FaultLaws
 pub mod SmallLaws

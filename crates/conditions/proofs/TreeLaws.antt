@@ -15,9 +15,11 @@ use Rattle.base.specs.First.{least}
 use Rattle.base.proofs.TestLaws.{true-or-false}
 use Rattle.base.proofs.BelowLaws.{below-step, count-more, count-le, count-some}
 use Rattle.base.proofs.ListLaws.{getD-replicate-all}
-use Rattle.conditions.specs.Arcs.{entry, partOf}
-use Rattle.conditions.specs.Hook.{leftOut, foundOf}
-use Rattle.conditions.specs.declared.hook.Found.the-variants.{Nothing}
+use Rattle.model.specs.Codes.{entry}
+use Rattle.conditions.specs.Arcs.{partOf}
+use Rattle.conditions.specs.Hook.{leftOut}
+use Rattle.incidence.specs.Incidence.{foundOf}
+use Rattle.incidence.specs.declared.Found.the-variants.{Nothing}
 use Rattle.conditions.proofs.HookLaws.{none-out}
 use Rattle.conditions.specs.Tree.{Ends, ByArc, ByTarget, Branch, TreeBy, Reaching, Aimed, Lefts, Spans, Joined, Grown, Closed}
 

@@ -2,15 +2,14 @@
 -- Assumes nothing.
 use Prim.Native.Nat.{ℕ, _+_, _*_}
 use mathlib.Core.Bool.{Bool, false, not, cond}
-use mathlib.Core.Option.{Option, none, some}
 use mathlib.Core.List.{List}
 use lib.ListN.{getD}
 use lib.Dec.{eqb}
 use Rattle.base.specs.Test.{_and_}
 use Rattle.base.specs.Below.{allBelow}
 use Rattle.model.specs.Scheme.{firstHook}
-use Rattle.conditions.specs.declared.hook.Found.{Found}
-use Rattle.conditions.specs.declared.hook.Found.the-variants.{Node, Nothing}
+use Rattle.incidence.specs.declared.Found.{Found}
+use Rattle.incidence.specs.declared.Found.the-variants.{Node}
 
 -- the hook h is not added, and its word is the orbit type
 unfoldable pub hookedBy : ℕ → List ℕ → List ℕ → List ℕ → ℕ → Bool
@@ -20,10 +19,6 @@ hookedBy places orbit kinds words h =
 -- s is not added, and not reached
 unfoldable pub leftOut : List ℕ → List Bool → ℕ → Bool
 leftOut kinds reached s = not (eqb (getD kinds s 0) 3) and not (getD reached s false)
-
-abbrev pub foundOf : Option ℕ → Found
-foundOf none = Nothing
-foundOf (some s) = Node s
 
 -- the hook's fault: the hook itself, or else the node that is left out, if any
 unfoldable pub hookBy : ℕ → List ℕ → List ℕ → List ℕ → Found → Found

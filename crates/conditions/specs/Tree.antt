@@ -11,7 +11,8 @@ use Rattle.base.specs.First.{there}
 use Rattle.model.specs.Scheme.{left, arcs, arcPart, firstHook}
 use Rattle.model.specs.Conditions.{pathTo}
 use Rattle.model.specs.declared.Scheme.{Scheme}
-use Rattle.conditions.specs.Arcs.{entry, partOf}
+use Rattle.model.specs.Codes.{entry}
+use Rattle.conditions.specs.Arcs.{partOf}
 use Rattle.conditions.specs.declared.tree.Tree.{Tree}
 
 -- x and y are the two ends of arc a, in this order or the other

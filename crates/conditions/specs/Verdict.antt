@@ -14,10 +14,10 @@ use Rattle.model.specs.declared.Scheme.{Scheme}
 use Rattle.model.specs.declared.Answer.{Answer}
 use Rattle.model.specs.declared.Answer.the-variants.{Done, BadHook}
 use Rattle.conditions.specs.Hook.{hookBy}
-use Rattle.conditions.specs.Incidence.{arcsAnswer}
+use Rattle.incidence.specs.Incidence.{arcsAnswer}
 use Rattle.conditions.specs.Tree.{TreeOf}
-use Rattle.conditions.specs.declared.hook.Found.{Found}
-use Rattle.conditions.specs.declared.hook.Found.the-variants.{Node, Nothing}
+use Rattle.incidence.specs.declared.Found.{Found}
+use Rattle.incidence.specs.declared.Found.the-variants.{Node, Nothing}
 use Rattle.conditions.specs.declared.Verdict.{Verdict}
 
 -- the hook's fault, or else an answer

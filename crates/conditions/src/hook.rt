@@ -1,14 +1,10 @@
 // Hook: what is asked of a hook, and the nodes that are reached.
+use incidence::Found;
 ghost use mathlib.Core.Path.{_≡_};
 ghost use Prim.Native.Nat.{_<_, _≤_};
 ghost use Rattle.base.specs.First.{least};
-ghost use Rattle.conditions.specs.Hook.{hookedBy, leftOut, foundOf};
-
-// The least node that offends, where there is one.
-pub enum Found {
-    Node(u32),
-    Nothing,
-}
+ghost use Rattle.conditions.specs.Hook.{hookedBy, leftOut};
+ghost use Rattle.incidence.specs.Incidence.{foundOf};
 
 // The hook h is a left node, and its left word is the orbit type.
 pub fn hooked<'a>(

@@ -1,23 +1,19 @@
 // The tests of a scheme that has been read: hook, incidence, cycles, in this order.
 pub mod arcs;
-pub mod cycles;
 pub mod hook;
-pub mod incidence;
 pub mod tree;
 
 use arcs::wide;
-use cycles::cycle_fault;
-use hook::Found;
 use hook::hooked;
-use incidence::unbalanced;
+use incidence::Found;
+use incidence::arcs_fault;
 use model::Answer;
 use tree::Tree;
 use tree::reach_of;
 ghost use mathlib.Core.Path.{_≡_};
 ghost use Prim.Native.Nat.{_≤_};
 ghost use Rattle.conditions.specs.Hook.{hookBy};
-ghost use Rattle.conditions.specs.Cycles.{Coding};
-ghost use Rattle.conditions.specs.Incidence.{arcsAnswer};
+ghost use Rattle.incidence.specs.Cycles.{Coding};
 ghost use Rattle.conditions.specs.Verdict.{faultBy, Judging, VerdictOf};
 
 // The hook's fault: the hook, node 0, or the least left node that is not reached, which is `out`.
@@ -35,28 +31,6 @@ fn hook_fault<'a>(
         return Found::Node(0);
     }
     out
-}
-
-// The fault of incidence, or else that of the cycles.
-fn arcs_fault<'a>(
-    n: u8,
-    nodes: usize,
-    orbit: &'a [u8; 4],
-    kinds: &'a [u8; 16],
-    lefts: &'a [u8; 64],
-    rights: &'a [u8; 64],
-    ltwice: &'a [bool; 16],
-    rtwice: &'a [bool; 16],
-) -> Answer
-    requires { ⌜ (2 ≤ n) × (n ≤ 3) × (nodes ≤ 16) ⌝ }
-    requires { ⌜ Coding nodes (now lefts) × Coding nodes (now rights) ⌝ }
-    ensures { λ r. ⌜ r ≡ arcsAnswer n nodes (now (orbit .entry)) (now (kinds .entry)) (now (lefts .entry)) (now (rights .entry)) (now (ltwice .entry)) (now (rtwice .entry)) ⌝ }
-{
-    let bad = unbalanced(wide(n), nodes, kinds, lefts, rights, ltwice, rtwice);
-    if let Found::Node(x) = bad {
-        return Answer::BadIncidence(x);
-    }
-    cycle_fault(n, nodes, orbit, kinds, lefts, rights)
 }
 
 // The first fault, from the left node that the tree leaves out, if any, and the targets of both sides.

@@ -1,8 +1,8 @@
 // The tree of left arcs that reaches from the hook, node 0.
 use crate::arcs::part;
 use crate::arcs::wide;
-use crate::hook::Found;
 use crate::hook::unreached;
+use incidence::Found;
 ghost use mathlib.Core.Path.{_≡_};
 ghost use Prim.Native.Nat.{_+_, _<_, _≤_};
 ghost use mathlib.Core.Bool.{true, false};
@@ -10,7 +10,8 @@ ghost use lib.ListN.{set};
 ghost use Rattle.base.specs.First.{least};
 ghost use Rattle.conditions.specs.Arcs.{Joining};
 ghost use Rattle.conditions.specs.Tree.{ByTarget, TreeBy, Reaching, Aimed, Lefts, Spans, Joined, Grown, Closed, Spanning};
-ghost use Rattle.conditions.specs.Hook.{leftOut, foundOf};
+ghost use Rattle.conditions.specs.Hook.{leftOut};
+ghost use Rattle.incidence.specs.Incidence.{foundOf};
 
 // What is reached from the hook over left arcs, as a tree: its first `size` entries. Entry 0 is the hook, node 0; any other is a node, with an
 // earlier one to which a left arc of dimension `dim` joins it. `reached` tells of each node whether it is an entry.

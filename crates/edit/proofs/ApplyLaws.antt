@@ -24,7 +24,7 @@ use Rattle.model.proofs.AcceptedLaws.{small}
 use Rattle.edit.specs.Nodes.{isKind, Listed}
 use Rattle.conditions.specs.Tree.{TreeOf}
 use Rattle.conditions.specs.declared.tree.Tree.{Tree}
-use Rattle.conditions.proofs.CodeLaws.{coded}
+use Rattle.model.proofs.CodeLaws.{coded}
 use Rattle.table.specs.Words.{Sized}
 use Rattle.orbit.specs.Store.{Taken, Walked}
 use Rattle.orbit.specs.At.{At, site}

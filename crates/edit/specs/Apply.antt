@@ -15,7 +15,7 @@ use Rattle.model.specs.Match.{matches}
 use Rattle.model.specs.Edit.{edited}
 use Rattle.model.specs.Calls.{fitFault, siteDone}
 use Rattle.model.specs.declared.Answer.{Answer}
-use Rattle.conditions.specs.Arcs.{Coded}
+use Rattle.model.specs.Shaped.{Coded}
 use Rattle.orbit.specs.Store.{Taken, Assigned}
 use Rattle.orbit.specs.At.{At, site, WalkedAt}
 

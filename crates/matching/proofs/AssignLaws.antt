@@ -27,7 +27,7 @@ use Rattle.model.proofs.MatchLaws.{assigns-match}
 use Rattle.orbit.specs.At.{site}
 use Rattle.orbit.specs.Store.{mark, place, next, dartAt, Assigned}
 use Rattle.model.specs.Codes.{arcCode}
-use Rattle.conditions.specs.Arcs.{Coded}
+use Rattle.model.specs.Shaped.{Coded}
 use Rattle.matching.specs.Columns.{BeforeMatching, Grown}
 use Rattle.matching.specs.ArcTests.{Turns, follows, explicitTest, implicitTest, codeTest, arcTest, arcsTest, Firm}
 use Rattle.matching.specs.Assign.{Matched}

@@ -8,7 +8,7 @@ use lib.ListN.{length}
 use Rattle.model.specs.Scheme.{left}
 use Rattle.model.specs.Site.{Site}
 use Rattle.model.specs.Match.{matches}
-use Rattle.conditions.specs.Arcs.{Coded}
+use Rattle.model.specs.Shaped.{Coded}
 use Rattle.orbit.specs.Store.{Assigned, Kept}
 use Rattle.orbit.specs.At.{site}
 use Rattle.matching.specs.Columns.{BeforeMatching}

@@ -10,6 +10,7 @@ pub mod CycleLaws
 pub mod MatchLaws
 pub mod SchemeLaws
 pub mod AcceptedLaws
+pub mod CodeLaws
 pub mod MatchIff
 pub mod MapLaws
 pub mod RankLaws

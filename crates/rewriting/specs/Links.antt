@@ -15,7 +15,7 @@ use Rattle.model.specs.Edit.{addedDarts}
 use Rattle.table.specs.Words.{Sized, blanked}
 use Rattle.orbit.specs.Store.{next, dartAt}
 use Rattle.orbit.specs.At.{At, site, WalkedAt}
-use Rattle.conditions.specs.Arcs.{Coded}
+use Rattle.model.specs.Shaped.{Coded}
 use Rattle.rewriting.specs.Darts.{Darts, Given}
 
 -- ---- what is written

@@ -8,7 +8,8 @@ use native.Mathlib.Omega.{arith}
 use Rattle.base.specs.First.{least, first}
 use Rattle.base.proofs.FirstLaws.{least-more}
 use Rattle.conditions.specs.Hook.{leftOut}
-use Rattle.conditions.proofs.HookLaws.{found-none, found-at, out-added, out-left}
+use Rattle.incidence.proofs.FoundLaws.{found-none, found-at}
+use Rattle.conditions.proofs.HookLaws.{out-added, out-left}
 use Rattle.conditions.proofs.hook.unreached.Statement.{statement}
 use Rattle.conditions.proofs.hook.unreached.Tie as tie
 

@@ -1,0 +1,44 @@
+-- `incidence::arcs_fault` meets its contract.
+-- Assumes nothing.
+use Rattle.incidence.proofs.AnswerLaws.{answer-incidence, answer-cycle}
+use borrow.Author.Needs.{needs}
+use Rattle.incidence.proofs.arcs_fault.Statement.{statement}
+use Rattle.incidence.proofs.arcs_fault.Tie as tie
+
+wide-requires : tie.Need-wide-requires
+wide-requires c κs = search needs
+
+unbalanced-requires : tie.Need-unbalanced-requires
+unbalanced-requires c κs = search needs
+
+enum-known-bad : tie.Need-enum-known-bad
+enum-known-bad c = search needs
+
+returns : tie.Need-returns
+returns c =
+    let u = c .before .before .before in
+    answer-incidence _ _ _ _ _ _ _ _ _ (u .before .wide .ensures .0) _ (u .unbalanced .ensures) _ (c .before .bad .given .1)
+
+enum-told : tie.Need-enum-told
+enum-told c = search needs
+
+cycle-fault-requires : tie.Need-cycle-fault-requires
+cycle-fault-requires c κs = search needs
+
+returns-2 : tie.Need-returns-2
+returns-2 c =
+    let t = c .before in
+    let u = t .before .before in
+    answer-cycle _ _ _ _ _ _ _ _ _ (u .before .wide .ensures .0) _ (u .unbalanced .ensures) (t .enum-told .given .1) _ (c .cycle-fault .ensures)
+
+pub arcs-fault-spec : {M : Type 1} → statement M
+arcs-fault-spec =
+    tie.close
+    (tie.spec
+    wide-requires
+    unbalanced-requires
+    enum-known-bad
+    returns
+    enum-told
+    cycle-fault-requires
+    returns-2)

@@ -1,0 +1,69 @@
+-- Cycles, over the codes of arcs and the stored list of dimension pairs.
+-- Assumes nothing.
+use Prim.Native.Nat.{ℕ, _+_, _*_, _-_, _<_}
+use mathlib.Core.Path.{_≡_}
+use mathlib.Core.Bool.{Bool, true, false, not, cond}
+use mathlib.Core.Option.{Option, Option·getD}
+use mathlib.Core.List.{List, [], _∷_}
+use lib.ListN.{getD}
+use lib.Dec.{eqb, ltb, leb}
+use Rattle.base.specs.Test.{_and_, _or_}
+use Rattle.base.specs.First.{first, someIf}
+use Rattle.model.specs.Codes.{entry}
+use Rattle.model.specs.declared.Answer.{Answer}
+use Rattle.model.specs.declared.Answer.the-variants.{Done, BadCycle}
+
+-- two dimensions differ by at least 2
+unfoldable pub farApart : ℕ → ℕ → Bool
+farApart p q = leb (p + 2) q or leb (q + 2) p
+
+module _ (codes : List ℕ) (s i j : ℕ) where
+  -- both arcs of s lead to nodes: the four lead back
+  unfoldable pub goesRound : ℕ → Bool
+  goesRound t = cond (ltb (entry codes t i) 16) (eqb (entry codes (entry codes t i) j) s) false
+
+  -- the i-arc of s leads to a node, whose j-arc is t
+  unfoldable pub fromNode : ℕ → Bool
+  fromNode t = cond (ltb t 16) (goesRound t) (cond (eqb t 255) false (eqb t (entry codes s j)))
+
+-- the i-arc of a node is implicit with the code a, and its j-arc has the code b
+unfoldable pub fromPlace : List ℕ → List ℕ → ℕ → ℕ → ℕ → Bool
+fromPlace orbit codes i a b = cond (ltb b 16) (eqb (entry codes b i) a)
+    (cond (eqb b 255) false (farApart (getD orbit (a - 16) 0) (getD orbit (b - 16) 0)))
+
+-- s is on an ij-cycle
+unfoldable pub cycleBy : List ℕ → List ℕ → ℕ → ℕ → ℕ → Bool
+cycleBy orbit codes s i j = cond (ltb (entry codes s i) 16) (fromNode codes s i j (entry codes (entry codes s i) j))
+    (cond (eqb (entry codes s i) 255) false (fromPlace orbit codes i (entry codes s i) (entry codes s j)))
+
+-- the codes of the nodes are those of arcs: a node, a position, or none
+pub record Coding (nodes : ℕ) (codes : List ℕ) : Type 0 where
+  pub small : (s i : ℕ) → s < nodes → i < 4 → (entry codes s i ≡ 255 → ⊥) → entry codes s i < 20
+
+-- a node of a kind is right at the pair i, j
+unfoldable pub pairBy : ℕ → List ℕ → List ℕ → List ℕ → ℕ → ℕ → ℕ → Bool
+pairBy kind orbit lefts rights s i j =
+    cond (eqb kind 1) true
+    (cond (eqb kind 3) (cycleBy orbit rights s i j)
+    (cond (cycleBy orbit lefts s i j) (cycleBy orbit rights s i j)
+    (eqb (entry lefts s i) (entry rights s i) and eqb (entry lefts s j) (entry rights s j))))
+
+-- the pairs, one after the other; with n = 2 only the first counts
+abbrev pub pairs : List ℕ
+pairs = 0 ∷ 2 ∷ 0 ∷ 3 ∷ 1 ∷ 3 ∷ []
+
+abbrev pub pairCount : ℕ → ℕ
+pairCount n = cond (eqb n 2) 1 3
+
+module _ (orbit kinds lefts rights : List ℕ) where
+  -- the offence of node s at pair k
+  unfoldable pub atPair : ℕ → ℕ → Option Answer
+  atPair s k = someIf (not (pairBy (getD kinds s 0) orbit lefts rights s (getD pairs (2 * k) 0) (getD pairs (2 * k + 1) 0)))
+      (BadCycle s (getD pairs (2 * k) 0) (getD pairs (2 * k + 1) 0))
+
+  unfoldable pub atNode : ℕ → ℕ → Option Answer
+  atNode n s = first (pairCount n) (atPair s)
+
+  -- the offence of the least node that has one, at its first pair
+  unfoldable pub cycleAnswer : ℕ → ℕ → Answer
+  cycleAnswer n nodes = Option·getD (first nodes (atNode n)) Done

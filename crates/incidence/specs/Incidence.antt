@@ -1,0 +1,41 @@
+-- Incidence, over the codes of arcs and the nodes that have two of a dimension, and the answer that comes of them.
+-- Assumes nothing.
+use Prim.Native.Nat.{ℕ, suc}
+use mathlib.Core.Bool.{Bool, false, not, cond}
+use mathlib.Core.Option.{Option, none, some, Option·getD}
+use mathlib.Core.List.{List}
+use lib.ListN.{getD}
+use lib.Dec.{eqb}
+use Rattle.base.specs.Test.{_or_}
+use Rattle.base.specs.Below.{allBelow}
+use Rattle.base.specs.First.{least, first, _orElse_}
+use Rattle.model.specs.Codes.{entry}
+use Rattle.model.specs.Conditions.{noted}
+use Rattle.model.specs.declared.Answer.{Answer}
+use Rattle.model.specs.declared.Answer.the-variants.{Done, BadIncidence}
+use Rattle.incidence.specs.Cycles.{atNode}
+use Rattle.incidence.specs.declared.Found.{Found}
+use Rattle.incidence.specs.declared.Found.the-variants.{Node, Nothing}
+
+-- what a search for a node finds
+abbrev pub foundOf : Option ℕ → Found
+foundOf none = Nothing
+foundOf (some s) = Node s
+
+-- a node of a kind with at most one arc of a dimension on each side may have these codes there, 255 for none
+unfoldable pub paired : ℕ → ℕ → ℕ → Bool
+paired kind l r = cond (eqb kind 1) (not (eqb l 255)) (cond (eqb kind 3) (not (eqb r 255)) (cond (eqb l 255) (eqb r 255) (not (eqb r 255))))
+
+-- node s, of a kind, has the arcs of each dimension that it may have
+unfoldable pub incidentBy : ℕ → ℕ → List ℕ → List ℕ → ℕ → Bool
+incidentBy n kind lefts rights s = allBelow (suc n) (λ i. paired kind (entry lefts s i) (entry rights s i))
+
+-- s has two arcs of a dimension on a side, or has not the arcs that it may have
+unfoldable pub offends : ℕ → List ℕ → List ℕ → List ℕ → List Bool → List Bool → ℕ → Bool
+offends n kinds lefts rights leftTwice rightTwice s =
+    getD leftTwice s false or (getD rightTwice s false or not (incidentBy n (getD kinds s 0) lefts rights s))
+
+-- the fault of incidence, else that of the cycles
+unfoldable pub arcsAnswer : ℕ → ℕ → List ℕ → List ℕ → List ℕ → List ℕ → List Bool → List Bool → Answer
+arcsAnswer n nodes orbit kinds lefts rights leftTwice rightTwice =
+    Option·getD (noted BadIncidence (least nodes (offends n kinds lefts rights leftTwice rightTwice)) orElse first nodes (atNode orbit kinds lefts rights n)) Done
