@@ -13,16 +13,15 @@ use Rattle.base.specs.Test.{_or_}
 use Rattle.base.specs.Below.{allBelow, anyBelow, countBelow}
 use Rattle.base.specs.Lists.{list, listFrom}
 use Rattle.base.proofs.TestLaws.{true-or-false, refuted}
-use Rattle.model.specs.Bytes.{nodesOf, arcsAt, arcByte, arcCount}
-use Rattle.model.specs.Codes.{placedAt, targetsOf}
-use Rattle.model.specs.Scheme.{Side, left, right, orbitForm, nodeForm, arcsForm, arcsOf, inForm, schemeOf}
+use Rattle.model.specs.Bytes.{nodesOf, arcsAt, arcCount}
+use Rattle.model.specs.Scheme.{Side, left, right, orbitForm, nodeForm, arcsForm, inForm, schemeOf}
 use Rattle.model.specs.Conditions.{arcsOfDim}
 use Rattle.model.specs.Twice.{twiceAt, twiceOf}
 use Rattle.scheme.specs.Frame.{LaidOut}
 use Rattle.scheme.specs.Words.{sideOf}
-use Rattle.scheme.specs.Arcs.{ArcsPlaced}
-use Rattle.scheme.specs.Targets.{twiceTo}
-use Rattle.scheme.specs.Reading.{Counted, Held, blank, readAs, reading}
+use Rattle.scheme.specs.Nodes.{Noded}
+use Rattle.scheme.specs.Arcs.{ArcsPlaced, ArcsRead}
+use Rattle.scheme.specs.Reading.{blank, readAs, reading}
 use Rattle.scheme.specs.declared.frame.Layout.{Layout}
 use Rattle.scheme.specs.declared.Reading.{Reading}
 use Rattle.scheme.proofs.FormLaws.{parts, whole}
@@ -82,99 +81,59 @@ module _ (b : List ℕ) (l : Layout) (laid : LaidOut b l) (nodes : allBelow (nod
       sides left = lefts
       sides right = rights
 
-  pub counts : Counted (schemeOf b) (l .n) (l .places) (l .nodes) (l .lcount) (l .rcount)
-  unfolding schemeOf
-  counts =
-      let h = laid .headed in
-      record { nIs = h .nIs; placesIs = h .placesIs; nodesIs = h .nodesIs; lcountIs = laid .lcountIs; rcountIs = laid .rcountIs }
-
-pub holds : (b : List ℕ) → inForm b ≡ true → {orbit kinds lwords rwords larcs ltargets rarcs rtargets : List ℕ} {ltwice rtwice : List Bool}
-    → orbit ≡ schemeOf b .orbit → kinds ≡ schemeOf b .kinds → lwords ≡ schemeOf b .lwords → rwords ≡ schemeOf b .rwords
-    → larcs ≡ arcsOf b left → ltargets ≡ targetsOf b left → ltwice ≡ twiceTo (placedAt b left) (arcByte b left) (arcCount b left)
-    → rarcs ≡ arcsOf b right → rtargets ≡ targetsOf b right → rtwice ≡ twiceTo (placedAt b right) (arcByte b right) (arcCount b right)
-    → Held (schemeOf b) orbit kinds lwords rwords larcs ltargets rarcs rtargets ltwice rtwice
-unfolding schemeOf
-holds b q o k l r la lt lw ra rt rv = record {
-  orbitIs = o;
-  kindsIs = k;
-  lwordsIs = l;
-  rwordsIs = r;
-  larcsIs = la;
-  ltargetsIs = lt;
-  rarcsIs = ra;
-  rtargetsIs = rt;
-  ltwiceIs = lw ∙ twice-same b q left;
-  rtwiceIs = rv ∙ twice-same b q right;
-}
-
 -- ---- the reading
 
 -- a blank scheme has no arcs
-pub blank-held : (v : ℕ) → Held (blank v) (replicate 4 0) (replicate 16 0) (replicate 64 v) (replicate 64 v)
-    (replicate 192 0) (replicate 64 v) (replicate 192 0) (replicate 64 v) (replicate 16 false) (replicate 16 false)
+pub blank-twice : (side : Side) → twiceOf blank side ≡ replicate 16 false
 unfolding blank twiceOf twiceAt arcsOfDim countBelow anyBelow list listFrom _or_
-blank-held v = record {
-  orbitIs = refl;
-  kindsIs = refl;
-  lwordsIs = refl;
-  rwordsIs = refl;
-  larcsIs = refl;
-  ltargetsIs = refl;
-  rarcsIs = refl;
-  rtargetsIs = refl;
-  ltwiceIs = refl;
-  rtwiceIs = refl;
-}
-
-pub blank-twice : (v : ℕ) (side : Side) → twiceOf (blank v) side ≡ replicate 16 false
-blank-twice v left = sym (blank-held v .ltwiceIs)
-blank-twice v right = sym (blank-held v .rtwiceIs)
+blank-twice left = refl
+blank-twice right = refl
 
 module _ (b : List ℕ) where
-  pub read-broken : inForm b ≡ false → readAs false (blank 0) ≡ reading b
+  pub read-broken : inForm b ≡ false → readAs false blank ≡ reading b
   unfolding reading
   read-broken e = rw e refl
 
   -- the reading is made of its parts
-  pub read-formed : {n places nodes lcount rcount : ℕ} {orbit kinds lwords rwords larcs ltargets rarcs rtargets : List ℕ} {ltwice rtwice : List Bool}
-      → inForm b ≡ true → Counted (schemeOf b) n places nodes lcount rcount
-      → Held (schemeOf b) orbit kinds lwords rwords larcs ltargets rarcs rtargets ltwice rtwice
+  pub read-formed : {l : Layout} {first second third : ℕ} {orbit kinds lwords rwords lplaced rplaced larcs ltargets rarcs rtargets : List ℕ}
+      {ltwice rtwice : List Bool} → inForm b ≡ true → LaidOut b l → orbit ≡ schemeOf b .orbit → Noded b first kinds lwords rwords lplaced rplaced
+      → ArcsRead b left second larcs ltargets ltwice → ArcsRead b right third rarcs rtargets rtwice
       → _≡_ {A = Reading} (record {
         ok = true;
         scheme = record {
-          n = n;
-          places = places;
+          n = l .n;
+          places = l .places;
           orbit = orbit;
-          nodes = nodes;
+          nodes = l .nodes;
           kinds = kinds;
           lwords = lwords;
           rwords = rwords;
           ltargets = ltargets;
           rtargets = rtargets;
-          lcount = lcount;
+          lcount = l .lcount;
           larcs = larcs;
-          rcount = rcount;
+          rcount = l .rcount;
           rarcs = rarcs;
         };
         ltwice = ltwice;
         rtwice = rtwice;
       }) (reading b)
-  unfolding reading
-  read-formed e c h = rw (
+  unfolding reading schemeOf
+  read-formed e laid o n f g = rw (
     e,
-    c .nIs,
-    c .placesIs,
-    c .nodesIs,
-    c .lcountIs,
-    c .rcountIs,
-    h .orbitIs,
-    h .kindsIs,
-    h .lwordsIs,
-    h .rwordsIs,
-    h .larcsIs,
-    h .ltargetsIs,
-    h .rarcsIs,
-    h .rtargetsIs,
-    h .ltwiceIs,
-    h .rtwiceIs,
+    laid .headed .nIs,
+    laid .headed .placesIs,
+    laid .headed .nodesIs,
+    laid .lcountIs,
+    laid .rcountIs,
+    o,
+    n .kindsIs,
+    n .lwordsIs,
+    n .rwordsIs,
+    f .arcsIs,
+    f .targetsIs,
+    g .arcsIs,
+    g .targetsIs,
+    f .twiceIs ∙ twice-same b e left,
+    g .twiceIs ∙ twice-same b e right,
   ) refl

@@ -9,7 +9,7 @@ use Rattle.scheme.proofs.refused.Tie as tie
 
 returns : tie.Need-returns
 unfolding blank
-returns c = rw (blank-twice 0 left, blank-twice 0 right) refl
+returns c = rw (blank-twice left, blank-twice right) refl
 
 pub refused-spec : {M : Type 1} → statement M
 refused-spec = tie.close (tie.spec returns)
