@@ -8,6 +8,7 @@ pub mod ArcLaws
 pub mod HookLaws
 pub mod CycleLaws
 pub mod MatchLaws
+pub mod FormLaws
 pub mod SchemeLaws
 pub mod AcceptedLaws
 pub mod CodeLaws

@@ -17,12 +17,13 @@ use Rattle.base.proofs.TestLaws.{and-left, and-right, or-cases, true-or-false}
 use Rattle.base.proofs.BelowLaws.{all-at}
 use Rattle.base.proofs.FirstLaws.{first-same, least-none-of, least-same}
 use Rattle.base.proofs.ListLaws.{getD-list}
-use Rattle.model.specs.Bytes.{onSide, byte, dimensionOf, placesOf, nodesOf, kindAt, wordAt, arcCount, arcByte, endAt, upTo}
+use Rattle.model.specs.Bytes.{onSide, byte, dimensionOf, placesOf, nodesOf, kindAt, wordAt, arcCount, arcByte, upTo}
 use Rattle.model.specs.Arc.{farEnd, arcOf}
 use Rattle.model.specs.Codes.{placeCode, placed, placedAt, targetsOf, targets, arcCode}
 use Rattle.model.specs.Scheme.{Side, left, right, orbitForm, wordForm, nodeForm, arcForm, arcsForm, inForm, wordsOf, arcsOf, schemeOf, kind, orbitDim, word, arcs, arcPart, has}
 use Rattle.model.specs.Conditions.{arcAt, reads}
 use Rattle.model.specs.Shaped.{Shaped, ShapedSide}
+use Rattle.model.proofs.FormLaws as F
 
 up-to : (bound x v filling : ℕ) → x < bound → upTo bound x v filling ≡ v
 up-to bound x v filling h = rw (lt-ltb x bound h) refl
@@ -36,48 +37,28 @@ code-of none none = refl
 module _ (b : List ℕ) (q : inForm b ≡ true) where
   -- ---- the parts of the form
 
-  form-n : (dimensionOf b ≡ 2) ⊎ (dimensionOf b ≡ 3)
-  unfolding inForm
-  form-n = ⊎-elim (λ e. inl (eqb-true _ _ e)) (λ e. inr (eqb-true _ _ e))
-      (or-cases _ _ (and-left _ _ (and-left _ _ (and-left _ _ (and-left _ _ (and-left _ _ (and-left _ _ (and-left _ _ q))))))))
+  form : F.Parts b
+  form = F.parts b q
 
   pub small : dimensionOf b ≤ 3
-  small = ⊎-elim (λ e. omega arith) (λ e. omega arith) form-n
-
-  form-orbit : orbitForm b ≡ true
-  unfolding inForm
-  form-orbit = and-right _ _ (and-left _ _ (and-left _ _ (and-left _ _ (and-left _ _ (and-left _ _ (and-left _ _ q))))))
+  small = ⊎-elim (λ e. omega arith) (λ e. omega arith) (form .dimension)
 
   pub places-few : placesOf b ≤ dimensionOf b + 1
-  unfolding orbitForm
-  places-few = leb-true _ _ (and-left _ _ (and-left _ _ form-orbit))
-
-  pub nodes-some : 1 ≤ nodesOf b
-  unfolding inForm
-  nodes-some = leb-true _ _ (and-right _ _ (and-left _ _ (and-left _ _ (and-left _ _ (and-left _ _ (and-left _ _ q))))))
+  places-few = F.places-few b form
 
   pub nodes-few : nodesOf b ≤ 16
-  unfolding inForm
-  nodes-few = leb-true _ _ (and-right _ _ (and-left _ _ (and-left _ _ (and-left _ _ (and-left _ _ q)))))
+  nodes-few = form .nodesFew
 
   form-node : (s : ℕ) → s < nodesOf b → nodeForm b s ≡ true
-  unfolding inForm
-  form-node s h = all-at _ _ (and-right _ _ (and-left _ _ (and-left _ _ (and-left _ _ q)))) s h
-
-  form-arcs : (side : Side) → arcsForm b side ≡ true
-  unfolding inForm
-  form-arcs left = and-right _ _ (and-left _ _ (and-left _ _ q))
-  form-arcs right = and-right _ _ (and-left _ _ q)
+  form-node s h = all-at _ _ (form .nodes) s h
 
   pub arcs-few : (side : Side) → arcCount b side ≤ 64
-  unfolding arcsForm
-  arcs-few side = leb-true _ _ (and-left _ _ (form-arcs side))
+  arcs-few side = F.arcs-few b form side
 
   -- docs/RULES.md: the longest scheme has 537 bytes; the bench program's limit relies on it: no scheme in the form is too long for it
   pub form-short : length b ≤ 537
-  unfolding inForm
   form-short =
-      let ends : length b ≡ endAt b = eqb-true _ _ (and-right _ _ q) in
+      let ends = form .ends in
       let n3 = small in
       let few = places-few in
       let nodes = mul-le-mul-right (1 + 2 * placesOf b) nodes-few in
@@ -87,7 +68,7 @@ module _ (b : List ℕ) (q : inForm b ≡ true) where
 
   form-arc : (side : Side) (a : ℕ) → a < arcCount b side → arcForm b side a ≡ true
   unfolding arcsForm
-  form-arc side a h = all-at _ _ (and-right _ _ (form-arcs side)) a h
+  form-arc side a h = all-at _ _ (and-right _ _ (form .arcs side)) a h
 
   pub form-word : (side : Side) (s : ℕ) → s < nodesOf b → wordForm b side s ≡ true
   unfolding nodeForm
@@ -205,7 +186,7 @@ module _ (b : List ℕ) (q : inForm b ≡ true) where
 
   pub orbit-dim : (p : ℕ) → p < placesOf b → orbitDim (schemeOf b) p ≤ dimensionOf b
   unfolding orbitForm
-  orbit-dim p h = rw (value-orbit p h) (leb-true _ _ (all-at _ _ (and-right _ _ (and-left _ _ form-orbit)) p h))
+  orbit-dim p h = rw (value-orbit p h) (leb-true _ _ (all-at _ _ (and-right _ _ (and-left _ _ (form .orbit))) p h))
 
   pub word-dim : (side : Side) (s p : ℕ) → s < nodesOf b → p < placesOf b
       → (word (schemeOf b) side s p ≡ 255) ⊎ (word (schemeOf b) side s p ≤ dimensionOf b)
@@ -260,10 +241,10 @@ module _ (b : List ℕ) (q : inForm b ≡ true) where
   pub shaped : Shaped (schemeOf b)
   unfolding schemeOf
   shaped = record {
-    dimension = form-n;
+    dimension = form .dimension;
     placesFew = places-few;
     orbitDims = orbit-dim;
-    nodesSome = nodes-some;
+    nodesSome = form .nodesSome;
     nodesFew = nodes-few;
     kinds = kind-range;
     sides = λ side. shaped-side side (count-is side);

@@ -22,13 +22,13 @@ use Rattle.model.specs.Bytes.{onSide, byte, dimensionOf, nodesOf, kindAt, arcsA
 use Rattle.model.specs.Arc.{farEnd}
 use Rattle.model.specs.Codes.{placedAt, targetsOf}
 use Rattle.model.specs.Scheme.{Side, before, nodeForm, arcForm, arcsForm, arcsOf, schemeOf}
-use Rattle.scheme.specs.Place.{ArcAt}
+use Rattle.frame.specs.Place.{ArcAt}
 use Rattle.scheme.specs.Words.{sideOf}
 use Rattle.scheme.specs.Arcs.{ArcsPlaced, ArcsRead, keyOf, arcTest}
 use Rattle.scheme.specs.Targets.{Linked, twiceTo}
-use Rattle.scheme.specs.declared.cursor.Arc.{Arc}
-use Rattle.scheme.specs.declared.frame.Layout.{Layout}
-use Rattle.scheme.proofs.FrameLaws.{dimension-small}
+use Rattle.frame.specs.declared.cursor.Arc.{Arc}
+use Rattle.frame.specs.declared.Layout.{Layout}
+use Rattle.frame.proofs.FrameLaws.{dimension-small}
 use Rattle.scheme.proofs.WordLaws.{on-side}
 use Rattle.scheme.proofs.LinkLaws.{Shown, touches, shown-none, linked-more, places}
 

@@ -17,14 +17,14 @@ use Rattle.model.specs.Bytes.{nodesOf, arcsAt, arcCount}
 use Rattle.model.specs.Scheme.{Side, left, right, orbitForm, nodeForm, arcsForm, inForm, schemeOf}
 use Rattle.model.specs.Conditions.{arcsOfDim}
 use Rattle.model.specs.Twice.{twiceAt, twiceOf}
-use Rattle.scheme.specs.Frame.{LaidOut}
+use Rattle.frame.specs.Frame.{LaidOut}
 use Rattle.scheme.specs.Words.{sideOf}
 use Rattle.scheme.specs.Nodes.{Noded}
 use Rattle.scheme.specs.Arcs.{ArcsPlaced, ArcsRead}
 use Rattle.scheme.specs.Reading.{blank, readAs, reading}
-use Rattle.scheme.specs.declared.frame.Layout.{Layout}
+use Rattle.frame.specs.declared.Layout.{Layout}
 use Rattle.scheme.specs.declared.Reading.{Reading}
-use Rattle.scheme.proofs.FormLaws.{parts, whole}
+use Rattle.model.proofs.FormLaws.{parts, whole}
 use Rattle.scheme.proofs.TwiceLaws.{twice-same}
 
 -- the kind that is not on a side, by a test that computes

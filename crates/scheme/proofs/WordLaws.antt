@@ -21,9 +21,12 @@ use Rattle.base.proofs.BelowLaws.{all-at, all-of}
 use Rattle.base.proofs.FirstLaws.{least-none-of, least-same}
 use Rattle.base.proofs.ListLaws.{getD-list, length-list}
 use Rattle.base.proofs.FilledLaws.{filled-over, stored-filled}
-use Rattle.model.specs.Bytes.{onSide, byte, dimensionOf, placesOf, kindAt, wordAt, upTo}
+use Rattle.model.specs.Bytes.{onSide, byte, dimensionOf, placesOf, nodesOf, kindAt, wordAt, upTo}
 use Rattle.model.specs.Codes.{placeCode, placed}
 use Rattle.model.specs.Scheme.{Side, left, right, wordForm, wordEmpty}
+use Rattle.frame.specs.Frame.{LaidOut}
+use Rattle.frame.specs.declared.Layout.{Layout}
+use Rattle.frame.proofs.FrameLaws.{node-inside}
 use Rattle.scheme.specs.Words.{sideOf, wordPlace, row, freshAt, emptyAt, fitsAt}
 use Rattle.scheme.specs.Targets.{rowed}
 use Rattle.scheme.proofs.MarkLaws.{stands, length-rowed, rowed-else, rowed-at}
@@ -234,3 +237,8 @@ module _ (b : List ℕ) (s other kind n places at : ℕ) (w : Placed b s other k
     where
       far : {d i : ℕ} → i < 4 → d ≡ 255 → d ≡ i → ⊥
       far h e f = omega arith
+
+-- a word of a node lies within the bytes
+pub word-inside : (b : List ℕ) (l : Layout) → LaidOut b l → (side : Side) (s : ℕ) → s < nodesOf b → wordPlace b side s + placesOf b ≤ length b
+word-inside b l laid left s h = omega (arith, node-inside b l laid s h)
+word-inside b l laid right s h = omega (arith, node-inside b l laid s h)

@@ -12,10 +12,10 @@ use Rattle.base.specs.Below.{allBelow}
 use Rattle.model.specs.Bytes.{nodesOf, arcsAt, arcCount, arcByte}
 use Rattle.model.specs.Codes.{placedAt, targetsOf}
 use Rattle.model.specs.Scheme.{Side, nodeForm, arcsOf, schemeOf}
-use Rattle.scheme.specs.Frame.{LaidOut}
+use Rattle.frame.specs.Frame.{LaidOut}
 use Rattle.scheme.specs.Words.{sideOf}
 use Rattle.scheme.specs.Targets.{twiceTo}
-use Rattle.scheme.specs.declared.frame.Layout.{Layout}
+use Rattle.frame.specs.declared.Layout.{Layout}
 
 -- the count and the arcs of the side that has not the nodes of the kind `other`, after nodes that are in the form
 pub record ArcsPlaced (b : List ℕ) (l : Layout) (kinds : List ℕ) (other from : ℕ) : Type 0 where

@@ -1,5 +1,3 @@
-pub mod Place
-pub mod Frame
 pub mod Words
 pub mod Nodes
 pub mod Arcs

@@ -1,7 +1,5 @@
 // Reading a scheme's bytes into one value of fixed size.
 mod arcs;
-pub mod cursor;
-mod frame;
 mod nodes;
 
 use arcs::read_arcs;

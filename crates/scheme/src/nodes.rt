@@ -1,8 +1,8 @@
 // The orbit type and the nodes: each is tested and stored as it is read.
-use crate::cursor::Cursor;
-use crate::cursor::Verdict;
-use crate::cursor::wide;
-use crate::frame::Layout;
+use frame::Layout;
+use frame::cursor::Cursor;
+use frame::cursor::Verdict;
+use frame::cursor::wide;
 ghost use mathlib.Core.Path.{_≡_};
 ghost use mathlib.Core.Logic.{_⊎_};
 ghost use mathlib.Core.Bool.{true};
@@ -14,7 +14,7 @@ ghost use Rattle.base.specs.Filled.{filled, stored};
 ghost use Rattle.model.specs.Bytes.{placesOf, nodesOf, kindAt};
 ghost use Rattle.model.specs.Codes.{placed};
 ghost use Rattle.model.specs.Scheme.{orbitForm, wordForm, wordEmpty, nodeForm, schemeOf};
-ghost use Rattle.scheme.specs.Frame.{LaidOut};
+ghost use Rattle.frame.specs.Frame.{LaidOut};
 ghost use Rattle.scheme.specs.Nodes.{Passed, Noded};
 ghost use Rattle.scheme.specs.Words.{sideOf, wordPlace, row, emptyAt, fitsAt};
 ghost use Rattle.scheme.specs.Targets.{markable, marked, rowed};

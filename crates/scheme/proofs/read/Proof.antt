@@ -8,7 +8,7 @@ use borrow.Author.Needs.{needs}
 use Rattle.base.specs.Below.{allBelow}
 use Rattle.model.specs.Bytes.{nodesOf}
 use Rattle.model.specs.Scheme.{left, right, nodeForm}
-use Rattle.scheme.specs.Frame.{LaidOut}
+use Rattle.frame.specs.Frame.{LaidOut}
 use Rattle.scheme.proofs.ReadLaws.{no-orbit, no-nodes, no-arcs, side-kind, placed-side, all-formed, read-broken, read-formed}
 use Rattle.scheme.proofs.read.Statement.{statement}
 use Rattle.scheme.proofs.read.Tie as tie

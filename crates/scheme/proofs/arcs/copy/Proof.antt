@@ -5,7 +5,7 @@ use mathlib.Core.Path.{_≡_, sym}
 use native.Mathlib.Omega.{arith}
 use Rattle.base.specs.Filled.{stored}
 use Rattle.base.proofs.FilledLaws.{stored-none, stored-all}
-use Rattle.scheme.proofs.PlaceLaws.{taken-at, stored-byte}
+use Rattle.frame.proofs.PlaceLaws.{taken-at, stored-byte}
 use Rattle.scheme.proofs.arcs.copy.Statement.{statement}
 use Rattle.scheme.proofs.arcs.copy.Tie as tie
 

@@ -9,7 +9,7 @@ use Rattle.base.specs.Below.{allBelow}
 use Rattle.base.proofs.BelowLaws.{all-none, all-more, all-stops, all-ends}
 use Rattle.model.specs.Bytes.{byte}
 use Rattle.scheme.specs.Words.{emptyAt}
-use Rattle.scheme.proofs.PlaceLaws.{taken-at}
+use Rattle.frame.proofs.PlaceLaws.{taken-at}
 use Rattle.scheme.proofs.WordLaws.{is-empty, not-empty}
 use Rattle.scheme.proofs.nodes.empty.Statement.{statement}
 use Rattle.scheme.proofs.nodes.empty.Tie as tie

@@ -9,7 +9,7 @@ use borrow.Author.Tests.{not-true, not-false}
 use denote.Ref.{now}
 use borrow.Author.Needs.{needs}
 use Rattle.model.specs.Bytes.{byte, nodeAt, kindAt}
-use Rattle.scheme.proofs.FrameLaws.{node-inside}
+use Rattle.frame.proofs.FrameLaws.{node-inside}
 use Rattle.scheme.proofs.NodeLaws.{node-low, node-high, node-left, node-right, passed-more}
 use Rattle.scheme.proofs.nodes.read_node.Statement.{statement}
 use Rattle.scheme.proofs.nodes.read_node.Tie as tie

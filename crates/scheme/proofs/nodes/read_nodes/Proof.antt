@@ -11,7 +11,7 @@ use denote.Ref.{now}
 use Rattle.base.proofs.BelowLaws.{all-stops, all-ends}
 use Rattle.model.specs.Bytes.{byte, nodesOf}
 use Rattle.scheme.specs.Nodes.{Passed}
-use Rattle.scheme.proofs.FrameLaws.{count-inside}
+use Rattle.frame.proofs.FrameLaws.{count-inside}
 use Rattle.scheme.proofs.NodeLaws.{passed-none, passed-all}
 use Rattle.scheme.proofs.nodes.read_nodes.Statement.{statement}
 use Rattle.scheme.proofs.nodes.read_nodes.Tie as tie

@@ -9,8 +9,8 @@ use native.Mathlib.Omega.{arith}
 use borrow.Author.Needs.{needs}
 use denote.Ref.{now}
 use Rattle.model.specs.Bytes.{byte, dimensionOf, placesOf}
-use Rattle.scheme.proofs.PlaceLaws.{taken-at}
-use Rattle.scheme.proofs.FrameLaws.{dimension-small, places-small, count-inside}
+use Rattle.frame.proofs.PlaceLaws.{taken-at}
+use Rattle.frame.proofs.FrameLaws.{dimension-small, places-small, count-inside}
 use Rattle.scheme.proofs.OrbitLaws.{Risen, risen-none, risen-more, risen-low, risen-high, risen-form, risen-value}
 use Rattle.scheme.proofs.nodes.read_orbit.Statement.{statement}
 use Rattle.scheme.proofs.nodes.read_orbit.Tie as tie

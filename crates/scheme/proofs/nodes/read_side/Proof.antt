@@ -7,8 +7,8 @@ use Prim.Native.Nat.{_+_, _≤_}
 use lib.ListN.{length}
 use Rattle.scheme.specs.Words.{sideOf}
 use borrow.Author.Needs.{needs}
-use Rattle.scheme.proofs.FrameLaws.{dimension-small, places-small, word-inside}
-use Rattle.scheme.proofs.WordLaws.{Placed, on-form, on-value, on-targets, off-form, off-value, off-targets, targets-clear}
+use Rattle.frame.proofs.FrameLaws.{dimension-small, places-small}
+use Rattle.scheme.proofs.WordLaws.{word-inside, Placed, on-form, on-value, on-targets, off-form, off-value, off-targets, targets-clear}
 use Rattle.scheme.proofs.nodes.read_side.Statement.{statement}
 use Rattle.scheme.proofs.nodes.read_side.Tie as tie
 

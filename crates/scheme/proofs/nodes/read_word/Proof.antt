@@ -14,7 +14,7 @@ use Rattle.base.proofs.FilledLaws.{stored-none, stored-all}
 use Rattle.model.specs.Bytes.{byte}
 use Rattle.scheme.specs.Words.{fitsAt}
 use Rattle.scheme.specs.Targets.{rowed}
-use Rattle.scheme.proofs.PlaceLaws.{taken-at, stored-byte}
+use Rattle.frame.proofs.PlaceLaws.{taken-at, stored-byte}
 use Rattle.scheme.proofs.MarkLaws.{rowed-none, rowed-more, rowed-all, rowed-fits}
 use Rattle.scheme.proofs.nodes.read_word.Statement.{statement}
 use Rattle.scheme.proofs.nodes.read_word.Tie as tie

@@ -1,9 +1,9 @@
--- `scheme::cursor::Cursor::byte` meets its contract.
+-- `frame::cursor::Cursor::byte` meets its contract.
 -- Assumes nothing.
 use borrow.Author.Needs.{needs}
-use Rattle.scheme.proofs.PlaceLaws.{step-byte, step-end}
-use Rattle.scheme.proofs.cursor.Cursor.byte.Statement.{statement}
-use Rattle.scheme.proofs.cursor.Cursor.byte.Tie as tie
+use Rattle.frame.proofs.PlaceLaws.{step-byte, step-end}
+use Rattle.frame.proofs.cursor.Cursor.byte.Statement.{statement}
+use Rattle.frame.proofs.cursor.Cursor.byte.Tie as tie
 
 shared-slice-read-t8 : tie.Need-shared-slice-read-t8
 shared-slice-read-t8 c = search needs

@@ -1,9 +1,9 @@
--- `scheme::cursor::Cursor::arc` meets its contract.
+-- `frame::cursor::Cursor::arc` meets its contract.
 -- Assumes nothing.
 use borrow.Author.Needs.{needs}
-use Rattle.scheme.proofs.PlaceLaws.{arc-of}
-use Rattle.scheme.proofs.cursor.Cursor.arc.Statement.{statement}
-use Rattle.scheme.proofs.cursor.Cursor.arc.Tie as tie
+use Rattle.frame.proofs.PlaceLaws.{arc-of}
+use Rattle.frame.proofs.cursor.Cursor.arc.Statement.{statement}
+use Rattle.frame.proofs.cursor.Cursor.arc.Tie as tie
 
 take-requires : tie.Need-take-requires
 take-requires c κs = search needs

@@ -1,4 +1,4 @@
--- `scheme::frame::head` meets its contract.
+-- `frame::head` meets its contract.
 -- Assumes nothing.
 use Prim.Native.Nat.{ℕ, _+_, _*_, _<_}
 use mathlib.Core.Path.{_≡_, refl, ap}
@@ -8,11 +8,11 @@ use denote.Ref.{now}
 use lib.ListN.{length}
 use borrow.Author.Needs.{needs}
 use Rattle.model.specs.Bytes.{dimensionOf, placesOf}
-use Rattle.scheme.specs.Place.{after}
-use Rattle.scheme.proofs.PlaceLaws.{Fitted, stepped, ended, counted, uncounted}
-use Rattle.scheme.proofs.FrameLaws.{two-or-three, no-bytes, low-dimension, high-dimension, no-places, no-nodes}
-use Rattle.scheme.proofs.frame.head.Statement.{statement}
-use Rattle.scheme.proofs.frame.head.Tie as tie
+use Rattle.frame.specs.Place.{after}
+use Rattle.frame.proofs.PlaceLaws.{Fitted, stepped, ended, counted, uncounted}
+use Rattle.frame.proofs.FrameLaws.{two-or-three, no-bytes, low-dimension, high-dimension, no-places, no-nodes}
+use Rattle.frame.proofs.head.Statement.{statement}
+use Rattle.frame.proofs.head.Tie as tie
 
 -- what the first byte is
 took : (c : tie.After-known-told) → let b = now (c .before .before .before .before .before .args .bytes) in let g = c .before .n .given .0 in

@@ -11,13 +11,13 @@ use Rattle.base.specs.Filled.{stored}
 use Rattle.base.proofs.TestLaws.{and-left, and-right, and-of, and-no-left, and-no-right}
 use Rattle.base.proofs.FilledLaws.{stored-next}
 use Rattle.model.specs.Bytes.{byte}
-use Rattle.scheme.specs.Place.{TakenAt, ArcAt, stepAt, after, fits, sectionAt}
-use Rattle.scheme.specs.declared.cursor.Cursor.{Cursor}
-use Rattle.scheme.specs.declared.cursor.Taken.{Taken}
-use Rattle.scheme.specs.declared.cursor.Step.{Step}
-use Rattle.scheme.specs.declared.cursor.Step.the-variants.{Byte, End}
-use Rattle.scheme.specs.declared.cursor.Section.{Section}
-use Rattle.scheme.specs.declared.cursor.Section.the-variants.{Count, Bad}
+use Rattle.frame.specs.Place.{TakenAt, ArcAt, stepAt, after, fits, sectionAt}
+use Rattle.frame.specs.declared.cursor.Cursor.{Cursor}
+use Rattle.frame.specs.declared.cursor.Taken.{Taken}
+use Rattle.frame.specs.declared.cursor.Step.{Step}
+use Rattle.frame.specs.declared.cursor.Step.the-variants.{Byte, End}
+use Rattle.frame.specs.declared.cursor.Section.{Section}
+use Rattle.frame.specs.declared.cursor.Section.the-variants.{Count, Bad}
 
 -- ---- a byte that is there
 

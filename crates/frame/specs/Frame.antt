@@ -8,11 +8,11 @@ use mathlib.Core.List.{List}
 use lib.ListN.{length}
 use Rattle.model.specs.Bytes.{dimensionOf, placesOf, nodesOf, arcsAt, arcCount, endAt}
 use Rattle.model.specs.Scheme.{left, right, inForm}
-use Rattle.scheme.specs.declared.frame.Opening.{Opening}
-use Rattle.scheme.specs.declared.frame.Opening.the-variants.{Counts, Broken as Shut}
-use Rattle.scheme.specs.declared.frame.Layout.{Layout}
-use Rattle.scheme.specs.declared.frame.Form.{Form}
-use Rattle.scheme.specs.declared.frame.Form.the-variants.{Laid, Broken}
+use Rattle.frame.specs.declared.Opening.{Opening}
+use Rattle.frame.specs.declared.Opening.the-variants.{Counts, Broken as Shut}
+use Rattle.frame.specs.declared.Layout.{Layout}
+use Rattle.frame.specs.declared.Form.{Form}
+use Rattle.frame.specs.declared.Form.the-variants.{Laid, Broken}
 
 -- the dimension and the counts of places and nodes, each in its range
 pub record Headed (b : List ℕ) (n places nodes : ℕ) : Type 0 where

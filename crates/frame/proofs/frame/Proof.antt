@@ -1,4 +1,4 @@
--- `scheme::frame::frame` meets its contract.
+-- `frame::frame` meets its contract.
 -- Assumes nothing.
 use mathlib.Core.Path.{_≡_, refl, sym, _∙_}
 use native.Mathlib.Omega.{arith}
@@ -6,12 +6,12 @@ use denote.Ref.{now}
 use borrow.Author.Needs.{needs}
 use Rattle.model.specs.Bytes.{arcsAt, arcCount}
 use Rattle.model.specs.Scheme.{left, right}
-use Rattle.scheme.specs.Place.{after}
-use Rattle.scheme.specs.Frame.{Headed}
-use Rattle.scheme.proofs.PlaceLaws.{Fitted, counted, uncounted}
-use Rattle.scheme.proofs.FrameLaws.{no-arcs, other-end}
-use Rattle.scheme.proofs.frame.frame.Statement.{statement}
-use Rattle.scheme.proofs.frame.frame.Tie as tie
+use Rattle.frame.specs.Place.{after}
+use Rattle.frame.specs.Frame.{Headed}
+use Rattle.frame.proofs.PlaceLaws.{Fitted, counted, uncounted}
+use Rattle.frame.proofs.FrameLaws.{no-arcs, other-end}
+use Rattle.frame.proofs.frame.Statement.{statement}
+use Rattle.frame.proofs.frame.Tie as tie
 
 abbrev before-lefts : tie.After-known-told2 → tie.After-known-told
 before-lefts c = c .before .before .before .before

@@ -11,12 +11,11 @@ use lib.ListN.{length}
 use Rattle.base.proofs.TestLaws.{true-or-false, refuted}
 use Rattle.model.specs.Bytes.{dimensionOf, placesOf, nodesOf, nodeAt, arcsAt}
 use Rattle.model.specs.Scheme.{Side, left, right, inForm}
-use Rattle.scheme.specs.Place.{after, fits}
-use Rattle.scheme.specs.Frame.{LaidOut}
-use Rattle.scheme.specs.Words.{wordPlace}
-use Rattle.scheme.specs.declared.frame.Layout.{Layout}
-use Rattle.scheme.proofs.PlaceLaws.{fitting}
-use Rattle.scheme.proofs.FormLaws.{Parts, parts, places-few, arcs-few}
+use Rattle.frame.specs.Place.{after, fits}
+use Rattle.frame.specs.Frame.{LaidOut}
+use Rattle.frame.specs.declared.Layout.{Layout}
+use Rattle.frame.proofs.PlaceLaws.{fitting}
+use Rattle.model.proofs.FormLaws.{Parts, parts, places-few, arcs-few}
 
 pub two-or-three : {n : ℕ} → 2 ≤ n → n ≤ 3 → (n ≡ 2) ⊎ (n ≡ 3)
 two-or-three h k = ⊎-elim (λ e. inl (sym e)) (λ l. inr (omega arith)) (eq-or-lt-of-le h)
@@ -72,7 +71,3 @@ module _ (b : List ℕ) (l : Layout) (laid : LaidOut b l) where
 
   pub node-inside : (s : ℕ) → s < nodesOf b → nodeAt b s + 1 + 2 * placesOf b ≤ length b
   node-inside s h = omega (arith, mul-le-mul-right (1 + 2 * placesOf b) h)
-
-  pub word-inside : (side : Side) (s : ℕ) → s < nodesOf b → wordPlace b side s + placesOf b ≤ length b
-  word-inside left s h = omega (arith, node-inside s h)
-  word-inside right s h = omega (arith, node-inside s h)

@@ -8,12 +8,12 @@ use lib.ListN.{length}
 use lib.Dec.{ltb, leb}
 use Rattle.base.specs.Test.{_and_}
 use Rattle.model.specs.Bytes.{byte}
-use Rattle.scheme.specs.declared.cursor.Taken.{Taken}
-use Rattle.scheme.specs.declared.cursor.Arc.{Arc}
-use Rattle.scheme.specs.declared.cursor.Step.{Step}
-use Rattle.scheme.specs.declared.cursor.Step.the-variants.{Byte, End}
-use Rattle.scheme.specs.declared.cursor.Section.{Section}
-use Rattle.scheme.specs.declared.cursor.Section.the-variants.{Count, Bad}
+use Rattle.frame.specs.declared.cursor.Taken.{Taken}
+use Rattle.frame.specs.declared.cursor.Arc.{Arc}
+use Rattle.frame.specs.declared.cursor.Step.{Step}
+use Rattle.frame.specs.declared.cursor.Step.the-variants.{Byte, End}
+use Rattle.frame.specs.declared.cursor.Section.{Section}
+use Rattle.frame.specs.declared.cursor.Section.the-variants.{Count, Bad}
 
 -- r is the byte of b at a place, and the place after it
 pub record TakenAt (b : List ℕ) (at : ℕ) (r : Taken) : Type 0 where

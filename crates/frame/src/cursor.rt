@@ -2,7 +2,7 @@
 ghost use mathlib.Core.Path.{_≡_};
 ghost use Prim.Native.Nat.{_+_, _≤_, _<_};
 ghost use lib.ListN.{length};
-ghost use Rattle.scheme.specs.Place.{TakenAt, ArcAt, stepAt, sectionAt};
+ghost use Rattle.frame.specs.Place.{TakenAt, ArcAt, stepAt, sectionAt};
 
 pub struct Cursor {
     pub at: usize,

@@ -1,4 +1,4 @@
--- `scheme::cursor::Cursor::count` meets its contract.
+-- `frame::cursor::Cursor::count` meets its contract.
 -- Assumes nothing.
 use Prim.Native.Nat.{_+_, _*_, _<_}
 use mathlib.Core.Path.{_≡_, ap₂, _∙_}
@@ -8,10 +8,10 @@ use denote.Ref.{now}
 use lib.ListN.{length}
 use borrow.Author.Needs.{needs}
 use Rattle.model.specs.Bytes.{byte}
-use Rattle.scheme.specs.Place.{after}
-use Rattle.scheme.proofs.PlaceLaws.{stepped, ended, section-count, section-bad, below-least, above-most, beyond}
-use Rattle.scheme.proofs.cursor.Cursor.count.Statement.{statement}
-use Rattle.scheme.proofs.cursor.Cursor.count.Tie as tie
+use Rattle.frame.specs.Place.{after}
+use Rattle.frame.proofs.PlaceLaws.{stepped, ended, section-count, section-bad, below-least, above-most, beyond}
+use Rattle.frame.proofs.cursor.Cursor.count.Statement.{statement}
+use Rattle.frame.proofs.cursor.Cursor.count.Tie as tie
 
 -- what `byte` found
 took : (c : tie.After-known-told) → let a = c .before .before .before .before .before .args in let g = c .before .count .given .0 in

@@ -1,8 +1,10 @@
 // The frame of a scheme's bytes: n and the counts, which settle that every section lies within the bytes.
-use crate::cursor::Cursor;
-use crate::cursor::Section;
-use crate::cursor::Step;
-ghost use Rattle.scheme.specs.Frame.{HeadOf, FrameOf};
+pub mod cursor;
+
+use cursor::Cursor;
+use cursor::Section;
+use cursor::Step;
+ghost use Rattle.frame.specs.Frame.{HeadOf, FrameOf};
 
 // The dimension, the counts of the orbit type and of the nodes, the place of the first section and the place after the nodes.
 pub enum Opening {
@@ -67,7 +69,7 @@ fn head(bytes: &[u8]) -> Opening
 }
 
 // The layout, where every count is in its range and the bytes end with the right arcs.
-pub(crate) fn frame(bytes: &[u8]) -> Form
+pub fn frame(bytes: &[u8]) -> Form
     ensures { λ r. ⌜ FrameOf (now (bytes .entry)) r ⌝ }
 {
     let Opening::Counts {
