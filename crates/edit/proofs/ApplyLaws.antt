@@ -12,7 +12,7 @@ use borrow.Author.Tests.{lt-ltb, le-ltb}
 use Rattle.base.specs.Below.{countBelow}
 use Rattle.base.proofs.BelowLaws.{count-le}
 use Rattle.base.specs.First.{someIf, _orElse_, there, nthLowest}
-use Rattle.model.specs.Map.{view, tableOf, unused}
+use Rattle.model.specs.Map.{view, tableOf, unused, maxSlots}
 use Rattle.model.specs.Scheme.{left, right, orbitDim, added}
 use Rattle.model.specs.Site.{Site, siteAt, Sound}
 use Rattle.model.specs.Match.{matches}
@@ -116,12 +116,12 @@ module _ {slots : ℕ} {t store : List ℕ} {c : ℕ} {kinds codes : List ℕ} {
     pub kind-count : many ≡ countBelow (A .scheme .nodes) (isKind (A .scheme .kinds) k)
     kind-count = n .total ∙ ap₂ (λ (z : ℕ) (l : List ℕ). countBelow z (isKind l k)) (P .nodes) (P .kinded)
 
-    pub pairs-few : (size ≤ 1024) × (size * many ≤ 16384)
+    pub pairs-few : (size ≤ maxSlots) × (size * many ≤ 16 * maxSlots)
     pairs-few =
-        let few : size ≤ 1024 = omega (arith, F .walked .fits, A .sized .few) in
+        let few : size ≤ maxSlots = omega (arith, F .walked .fits, A .sized .few) in
         let below : many ≤ c = rw (n .total) (count-le c (isKind kinds k)) in
         let nodes : many ≤ 16 = omega (arith, nodes-few) in
-        (few, omega (arith, mul-le-mul-right many few, mul-le-mul-left 1024 nodes))
+        (few, omega (arith, mul-le-mul-right many few, mul-le-mul-left maxSlots nodes))
 
   -- the added nodes are listed
   module _ {node : List ℕ} {many : ℕ} (new : Listed c kinds 3 node many) where

@@ -15,7 +15,7 @@ use Rattle.base.specs.Digits.{numberAt}
 use Rattle.base.proofs.TestLaws.{true-or-false}
 use Rattle.base.proofs.BelowLaws.{below-suc}
 use Rattle.base.proofs.FirstLaws.{first-step, least-at, least-only}
-use Rattle.model.specs.Map.{tableSize, recordOf, tableOf}
+use Rattle.model.specs.Map.{tableSize, recordOf, tableOf, maxSlots}
 use Rattle.model.specs.File.{atPlace, twoAt, tagAt, linkAt, placeOf, fileMap}
 use Rattle.table.specs.Words.{Sized, wordAt}
 use Rattle.table.proofs.WordLaws.{words-by}
@@ -29,7 +29,7 @@ pub record Filled (n N : ℕ) (b : List ℕ) (k : ℕ) (t : List ℕ) : Type 0 w
   pub sized : Sized N t
   pub held : (x c : ℕ) → x < N → c < 6 → wordAt t x c ≡ wordOf n b k x c
 
-pub filled-none : (n N : ℕ) (b t : List ℕ) → N ≤ 1024 → t ≡ replicate (tableSize N) 0 → Filled n N b 0 t
+pub filled-none : (n N : ℕ) (b t : List ℕ) → N ≤ maxSlots → t ≡ replicate (tableSize N) 0 → Filled n N b 0 t
 unfolding wordOf wordAt least first
 filled-none n N b t h e = record {
   sized = record { few = h; long = ap length e ∙ length-replicate (tableSize N) 0 };

@@ -19,7 +19,7 @@ use Rattle.base.proofs.TestLaws.{and-of, true-or-false}
 use Rattle.base.proofs.BelowLaws.{all-of, count-lt, count-reaches}
 use Rattle.base.proofs.FirstLaws.{some-not-none, least-only, least-none-of}
 use Rattle.base.proofs.ListLaws.{joined-same}
-use Rattle.model.specs.Map.{Map, live, recordOf, tableOf}
+use Rattle.model.specs.Map.{Map, live, recordOf, tableOf, maxSlots}
 use Rattle.model.specs.WellFormed.{WellFormed}
 use Rattle.model.specs.File.{liveDarts, file, placeOf, fileForm, fileMap}
 use Rattle.table.proofs.SlotLaws.{two-le}
@@ -34,7 +34,7 @@ use Rattle.file.proofs.WrittenLaws.{start, count-back, head-back, slot-
 
 -- ---- written, then read
 
-module _ (n : ℕ) (m : Map) (h : n < 256) (few : m .slots ≤ 1024) where
+module _ (n : ℕ) (m : Map) (h : n < 256) (few : m .slots ≤ maxSlots) where
   abbrev b : List ℕ
   b = file n m
 

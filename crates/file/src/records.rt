@@ -6,7 +6,7 @@ ghost use mathlib.Core.Logic.{_⊎_};
 ghost use Prim.Native.Nat.{_+_, _*_, _≤_, _<_};
 ghost use lib.ListN.{length, replicate};
 ghost use Rattle.base.specs.Digits.{numberAt};
-ghost use Rattle.model.specs.Map.{tableOf, tableSize};
+ghost use Rattle.model.specs.Map.{tableOf, tableSize, maxSlots};
 ghost use Rattle.model.specs.File.{fileMap};
 ghost use Rattle.table.specs.Words.{Sized, put as putWord};
 ghost use Rattle.file.specs.Form.{slotOf};
@@ -66,7 +66,7 @@ fn enter(n: u32, slots: usize, table: &mut [u32], b: &[u8], darts: usize, k: usi
 // The darts of a file in its form, entered into a table that is all zero.
 pub fn fill(n: u32, slots: usize, table: &mut [u32], b: &[u8], darts: usize)
     requires { ⌜ (n ≡ 2) ⊎ (n ≡ 3) ⌝ }
-    requires { ⌜ (slots ≤ 1024) × (now table ≡ replicate (tableSize slots) 0) ⌝ }
+    requires { ⌜ (slots ≤ maxSlots) × (now table ≡ replicate (tableSize slots) 0) ⌝ }
     requires { ⌜ Formed n slots (now b) ⌝ }
     requires { ⌜ darts ≡ numberAt 2 (now b) 3 ⌝ }
     ensures { λ _. ⌜ now (table .exit) ≡ tableOf (fileMap n slots (now (b .entry))) ⌝ }

@@ -8,7 +8,7 @@ ghost use mathlib.Core.Logic.{_⊎_};
 ghost use Prim.Native.Nat.{suc, _+_, _*_, _≤_, _<_};
 ghost use lib.ListN.{length};
 ghost use Rattle.base.specs.Digits.{bytesOf};
-ghost use Rattle.model.specs.Map.{view};
+ghost use Rattle.model.specs.Map.{view, maxSlots};
 ghost use Rattle.model.specs.File.{liveDarts};
 ghost use Rattle.table.specs.Words.{Sized};
 ghost use Rattle.cursor.specs.Places.{Put};
@@ -69,7 +69,7 @@ fn dart(
 
 // n and the number of slots, at the start of `out`.
 pub fn head(n: u32, slots: usize, out: &mut [u8]) -> Cursor
-    requires { ⌜ (slots ≤ 1024) × (3 ≤ length (now out)) ⌝ }
+    requires { ⌜ (slots ≤ maxSlots) × (3 ≤ length (now out)) ⌝ }
     ensures { λ r. ⌜ Put (now (out .entry)) 0 (headBytes n slots) (now (out .exit)) (r .at) ⌝ }
 {
     let start = Cursor { at: 0 };

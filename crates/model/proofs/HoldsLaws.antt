@@ -14,7 +14,7 @@ use borrow.Author.Tests.{eq-eqb, ne-eqb}
 use Rattle.base.specs.Test.{_and_, _or_}
 use Rattle.base.specs.First.{someIf, there, _orElse_}
 use Rattle.base.proofs.FirstLaws.{or-else-none}
-use Rattle.model.specs.Map.{Map, State, view, tableOf, tableSize}
+use Rattle.model.specs.Map.{Map, State, view, tableOf, tableSize, maxSlots}
 use Rattle.model.specs.WellFormed.{WellFormed, wellFormed}
 use Rattle.model.specs.Edit.{edited}
 use Rattle.model.specs.File.{file, fileMap}
@@ -61,7 +61,7 @@ module _ (n N : ℕ) (t : List ℕ) where
 
     -- another table of as many words has its sizes right too
     pub sizes-too : (u : List ℕ) → length u ≡ length t → sizesOk n N u ≡ true
-    sizes-too u e = ap (λ (k : ℕ). (eqb n 2 or eqb n 3) and leb 1 N and leb N 1024 and eqb k (tableSize N)) e ∙ s
+    sizes-too u e = ap (λ (k : ℕ). (eqb n 2 or eqb n 3) and leb 1 N and leb N maxSlots and eqb k (tableSize N)) e ∙ s
 
     -- the table of a well-formed map of N slots holds it
     pub words-hold : (m : Map) → m .slots ≡ N → WellFormed n m → Holds n N (tableOf m)

@@ -8,6 +8,10 @@ use lib.ListN.{getD, set}
 use lib.Dec.{eqb, leb}
 use Rattle.base.specs.Lists.{joined}
 
+-- the greatest number of slots
+abbrev pub maxSlots : ℕ
+maxSlots = 1024
+
 -- `link i x` is αi(x)
 pub record Map : Type 0 where
   pub slots : ℕ

@@ -9,14 +9,14 @@ use table::words::link;
 ghost use mathlib.Core.Path.{_≡_};
 ghost use Prim.Native.Nat.{_*_, _<_, _≤_};
 ghost use lib.ListN.{getD};
-ghost use Rattle.model.specs.Map.{view};
+ghost use Rattle.model.specs.Map.{view, maxSlots};
 ghost use Rattle.orbit.specs.Store.{Taken, Walked, place};
 ghost use Rattle.orbit.specs.Places.{Blank};
 ghost use Rattle.orbit.specs.Walk.{BeforeWalking, Followed, Expanded};
 
 // Slot y takes the place `end`, unless it has a place, and the word `at` becomes the place of y. It returns the new end.
 fn follow(slots: usize, store: &mut [u32], end: usize, at: usize, y: usize) -> usize
-    requires { ⌜ slots ≤ 1024 ⌝ }
+    requires { ⌜ slots ≤ maxSlots ⌝ }
     requires { ⌜ Taken slots (now store) end ⌝ }
     requires { ⌜ (y < slots) × (2 * slots ≤ at) × (at < 16 * slots) ⌝ }
     ensures { λ r. ⌜ Followed slots (now (store .entry)) end at y (now (store .exit)) r ⌝ }

@@ -2,6 +2,7 @@
 ghost use mathlib.Core.Path.{_≡_};
 ghost use Prim.Native.Nat.{_+_, _^_, _<_, _≤_};
 ghost use lib.ListN.{length, getD, set};
+ghost use Rattle.model.specs.Map.{maxSlots};
 ghost use Rattle.orbit.specs.Store.{Taken, mark};
 ghost use Rattle.orbit.specs.Places.{Pushed, unmarked};
 
@@ -29,7 +30,7 @@ pub fn keep(store: &mut [u32], at: usize, v: usize)
 
 // Slot y, which has no place, takes the place `end`, the first that is free.
 pub fn push(slots: usize, store: &mut [u32], end: usize, y: usize)
-    requires { ⌜ slots ≤ 1024 ⌝ }
+    requires { ⌜ slots ≤ maxSlots ⌝ }
     requires { ⌜ Taken slots (now store) end ⌝ }
     requires { ⌜ (y < slots) × (mark (now store) y ≡ 0) ⌝ }
     ensures { λ _. ⌜ Pushed slots (now (store .entry)) end y (now (store .exit)) ⌝ }

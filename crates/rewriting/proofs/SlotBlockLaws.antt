@@ -22,7 +22,7 @@ use Rattle.base.proofs.BinaryLaws.{binary-same, binary-below, binary-more, bina
 use Rattle.model.specs.Site.{Site}
 use Rattle.orbit.specs.Store.{mark, place}
 use Rattle.orbit.specs.At.{At, site}
-use Rattle.rewriting.specs.Slots.{Grant, Granting, Turn, early, Placed, NoDigits, Digits, Block}
+use Rattle.rewriting.specs.Slots.{Grant, Granting, Turn, early, Placed, NoDigits, digitWords, Digits, Block}
 use Rattle.orbit.proofs.StoreLaws.{among-at, among-of}
 use Rattle.rewriting.proofs.SlotRowLaws.{good, placed}
 
@@ -36,7 +36,7 @@ early-of : (N : ℕ) (s : List ℕ) (r x : ℕ) → x < N → 1 ≤ mark s x →
 unfolding early
 early-of N s r x h l m = and-of (lt-ltb x N h) (among-of s r x l m)
 
-pub blank : NoDigits (replicate 16 0)
+pub blank : NoDigits (replicate digitWords 0)
 blank = record { long = length-replicate {A = ℕ} 16 0; zeros = λ w h. getD-replicate 16 w 0 0 h }
 
 pub digits-none : (N : ℕ) (s bits : List ℕ) → NoDigits bits → Digits (early N s 0) bits

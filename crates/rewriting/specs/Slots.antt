@@ -1,6 +1,6 @@
 -- The darts of the added pairs: what the giving of slots starts from, what holds once some of the pairs have theirs, and what holds in the end.
 -- Assumes nothing.
-use Prim.Native.Nat.{ℕ, _+_, _*_, _-_, _≤_, _<_}
+use Prim.Native.Nat.{ℕ, _+_, _*_, _-_, _/_, _≤_, _<_}
 use mathlib.Core.Path.{_≡_}
 use mathlib.Core.Logic.{_⊎_}
 use mathlib.Core.Bool.{Bool, true}
@@ -12,7 +12,7 @@ use Rattle.base.specs.Test.{_and_}
 use Rattle.base.specs.Below.{countBelow}
 use Rattle.base.specs.First.{nthLowest}
 use Rattle.base.specs.Binary.{binary}
-use Rattle.model.specs.Map.{Field, State, Link, Tag, fieldAt, put, view, unused}
+use Rattle.model.specs.Map.{Field, State, Link, Tag, fieldAt, put, view, unused, maxSlots}
 use Rattle.model.specs.Scheme.{added}
 use Rattle.model.specs.Site.{Site}
 use Rattle.model.specs.Edit.{addedDarts, rank, dartOf}
@@ -49,7 +49,7 @@ columnStart N size a = 2 * N + a * size
 -- different nodes, with room for their columns
 pub record Apart (N size : ℕ) (nodes : List ℕ) (many : ℕ) : Type 0 where
   pub few : many ≤ 16
-  pub slots : N ≤ 1024
+  pub slots : N ≤ maxSlots
   pub room : many * size ≤ N
   pub below : (a : ℕ) → a < many → getD nodes a 0 < 16
   pub once : (a b : ℕ) → a < b → b < many → getD nodes a 0 ≡ getD nodes b 0 → ⊥
@@ -112,22 +112,26 @@ early N s r x = ltb x N and among s r x
 
 -- the first `size` places hold different slots, each marked with its place
 pub record Placed (N : ℕ) (s : List ℕ) (size : ℕ) : Type 0 where
-  pub few : N ≤ 1024
+  pub few : N ≤ maxSlots
   pub long : length s ≡ 16 * N
   pub fits : size ≤ N
   pub slot : (r : ℕ) → r < size → place N s r < N
   pub back : (r : ℕ) → r < size → mark s (place N s r) ≡ r + 1
   pub found : (x : ℕ) → x < N → among s size x ≡ true → place N s (mark s x - 1) ≡ x
 
--- sixteen zeros
+-- how many words have a binary digit for each slot of the largest table, 64 to a word
+abbrev pub digitWords : ℕ
+digitWords = maxSlots / 64
+
+-- no digit is set
 pub record NoDigits (bits : List ℕ) : Type 0 where
-  pub long : length bits ≡ 16
-  pub zeros : (w : ℕ) → w < 16 → getD bits w 0 ≡ 0
+  pub long : length bits ≡ digitWords
+  pub zeros : (w : ℕ) → w < digitWords → getD bits w 0 ≡ 0
 
 -- a binary digit for each slot, 64 to a word, set where p
 pub record Digits (p : ℕ → Bool) (bits : List ℕ) : Type 0 where
-  pub long : length bits ≡ 16
-  pub at : (w : ℕ) → w < 16 → getD bits w 0 ≡ binary 64 (λ k. p (64 * w + k))
+  pub long : length bits ≡ digitWords
+  pub at : (w : ℕ) → w < digitWords → getD bits w 0 ≡ binary 64 (λ k. p (64 * w + k))
 
 -- the pairs of the orbit darts from 64 × w to 64 × w + 63 come next, with a digit for each; the other fields are as in `Turn`
 pub record Block (N : ℕ) (t s : List ℕ) (size many w number free : ℕ) : Type 0 where

@@ -1,4 +1,5 @@
 // The darts of the added pairs: each takes the lowest slot that is left of those unused before the edit, by orbit dart and then by node.
+use model::MAX_SLOTS;
 use orbit::store::keep;
 use orbit::store::word;
 use table::words::put_link;
@@ -13,6 +14,9 @@ ghost use Rattle.base.specs.Below.{countBelow};
 ghost use Rattle.table.specs.Words.{Sized};
 ghost use Rattle.orbit.specs.At.{site};
 ghost use Rattle.rewriting.specs.Slots.{Room, Lowest, revived, Apart, ColumnsBegin, Turn, Granting, early, Placed, NoDigits, Digits, Block, BeforeGiving, Granted};
+
+// The words that hold a binary digit for each slot of the largest table.
+const DIGITS: usize = MAX_SLOTS as usize / 64;
 
 // The lowest unused slot from `from` on. Four slots a turn: in a full table this scan is most of what an added dart costs.
 fn lowest(slots: usize, table: &[u32], from: usize) -> usize
@@ -90,7 +94,7 @@ fn columns(slots: usize, size: usize, added: &[u8; 16], many: usize, cols: &mut 
 }
 
 // The darts at the first `size` places as binary digits, 64 slots a word, so that they can be taken ascending.
-fn mark_bits(slots: usize, store: &[u32], size: usize, bits: &mut [u64; 16])
+fn mark_bits(slots: usize, store: &[u32], size: usize, bits: &mut [u64; DIGITS])
     requires { ⌜ Placed slots (now store) size ⌝ }
     requires { ⌜ NoDigits (now bits) ⌝ }
     ensures { λ _. ⌜ Digits (early slots (now (store .entry)) size) (now (bits .exit)) ⌝ }
@@ -149,11 +153,11 @@ pub fn give(
     if many == 0 {
         return;
     }
-    let mut bits: [u64; 16] = [0; 16];
+    let mut bits: [u64; DIGITS] = [0; DIGITS];
     mark_bits(slots, store, size, &mut bits);
     let mut free = 0;
     let mut w = 0;
-    while w < 16 {
+    while w < DIGITS {
         let digits = bits[w];
         free = block(slots, table, store, size, many, w, digits, free);
         w += 1;

@@ -5,11 +5,11 @@ use mathlib.Core.Path.{_≡_}
 use mathlib.Core.List.{List}
 use lib.ListN.{length, set}
 use Rattle.base.specs.Steps.{steps}
-use Rattle.model.specs.Map.{recordSize, tableSize}
+use Rattle.model.specs.Map.{recordSize, tableSize, maxSlots}
 
 -- t is a table of a number of slots that the kernel takes
 pub record Sized (slots : ℕ) (t : List ℕ) : Type 0 where
-  pub few : slots ≤ 1024
+  pub few : slots ≤ maxSlots
   pub long : length t ≡ tableSize slots
 
 -- the table with zeros as the record of slot x

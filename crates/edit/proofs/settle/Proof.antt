@@ -3,6 +3,7 @@
 use Prim.Native.Nat.{_*_, _≤_}
 use native.Mathlib.Omega.{arith}
 use borrow.Author.Needs.{needs}
+use Rattle.model.specs.Map.{maxSlots}
 use Rattle.edit.proofs.ApplyLaws.{pairs-few, no-room, give-ready, link-ready, done}
 use Rattle.edit.proofs.settle.Statement.{statement}
 use Rattle.edit.proofs.settle.Tie as tie
@@ -11,10 +12,10 @@ use Rattle.edit.proofs.settle.Tie as tie
 abbrev start : tie.After-of-kind2 → tie.Start
 start k = k .before .before .before .before
 
-new-few : (k : tie.After-of-kind2) → (start k .args .size ≤ 1024) × (start k .args .size * k .of-kind2 .result .size ≤ 16384)
+new-few : (k : tie.After-of-kind2) → (start k .args .size ≤ maxSlots) × (start k .args .size * k .of-kind2 .result .size ≤ 16 * maxSlots)
 new-few k = pairs-few (start k .pre) (k .of-kind2 .ensures .listed)
 
-gone-few : (k : tie.After-of-kind2) → (start k .args .size ≤ 1024) × (start k .args .size * k .before .of-kind .result .size ≤ 16384)
+gone-few : (k : tie.After-of-kind2) → (start k .args .size ≤ maxSlots) × (start k .args .size * k .before .of-kind .result .size ≤ 16 * maxSlots)
 gone-few k = pairs-few (start k .pre) (k .before .of-kind .ensures .listed)
 
 -- the places passed on the way to the last call

@@ -5,6 +5,7 @@ use mathlib.Core.Path.{_≡_, refl, sym, _∙_}
 use native.Mathlib.Omega.{arith}
 use lib.Count.{trailingZeros}
 use lib.ListN.{length}
+use Rattle.model.specs.Map.{maxSlots}
 use Rattle.rewriting.specs.Slots.{Block}
 use Rattle.rewriting.proofs.SlotBlockLaws.{Passed, passed-none, passed-more, passed-all, in-word, digit-less, dart-fits, mark-some, turn-of}
 use Rattle.rewriting.proofs.slots.block.Statement.{statement}
@@ -22,7 +23,7 @@ start l = l .before .before .before
 
 -- the dart that comes next is a slot, and its digit one of 64
 next : (c : tie.In-loop Inv-loop μ-loop) → let l = c .before in let j = trailingZeros 64 (l .loop .rest) in
-    (j < 64) × (64 * start l .args .w + j < start l .args .slots) × (start l .args .slots ≤ 1024) × (length (l .loop .store) ≡ 16 * start l .args .slots)
+    (j < 64) × (64 * start l .args .w + j < start l .args .slots) × (start l .args .slots ≤ maxSlots) × (length (l .loop .store) ≡ 16 * start l .args .slots)
 next c =
     let l = c .before in
     let B = start l .pre in

@@ -7,7 +7,7 @@ use borrow.Author.Needs.{needs}
 use denote.Ref.{now}
 use Rattle.base.specs.Below.{countBelow}
 use Rattle.orbit.specs.At.{At, site}
-use Rattle.rewriting.specs.Slots.{Grant, Granting, early, Digits}
+use Rattle.rewriting.specs.Slots.{Grant, Granting, early, digitWords, Digits}
 use Rattle.rewriting.proofs.SlotBlockLaws.{blank}
 use Rattle.rewriting.proofs.SlotGiveLaws.{placed-of, apart-of, granting-start, granting-idle, block-of, next-block, granted-all, granted}
 use Rattle.rewriting.proofs.slots.give.Statement.{statement}
@@ -19,11 +19,11 @@ use Rattle.rewriting.proofs.slots.columns.Reads as columns-reads
 use Rattle.rewriting.proofs.slots.mark_bits.Reads as mark-bits-reads
 
 abbrev Inv-loop : tie.InvT-loop
-Inv-loop slots table₀ store₀ size added many cols bits free₀ w₀ table store free w = (w ≤ 16) × Digits (early slots store₀ size) bits
+Inv-loop slots table₀ store₀ size added many cols bits free₀ w₀ table store free w = (w ≤ digitWords) × Digits (early slots store₀ size) bits
     × ((A : At slots table₀) → Grant A store₀ size many → Granting A store₀ size (countBelow (64 * w) (site A .orbit) * many) free table store)
 
 abbrev μ-loop : tie.MeasureT-loop
-μ-loop slots table₀ store₀ size added many cols bits free₀ w₀ table store free w = 16 - w
+μ-loop slots table₀ store₀ size added many cols bits free₀ w₀ table store free w = digitWords - w
 
 abbrev start : tie.At-loop Inv-loop μ-loop → tie.Start Inv-loop μ-loop
 start l = l .before .before .before .before .before .before .before .before .before

@@ -4,6 +4,7 @@ use Prim.Native.Nat.{ℕ, _+_, _-_, _≤_, _<_}
 use mathlib.Core.Path.{refl}
 use native.Mathlib.Omega.{arith}
 use denote.Ref.{now}
+use Rattle.model.specs.Map.{maxSlots}
 use Rattle.table.specs.Words.{Sized}
 use Rattle.rewriting.proofs.SlotRowLaws.{Scanned, scan-start, scan-inside, scan-more, scan-found}
 use Rattle.rewriting.proofs.slots.lowest.Statement.{statement}
@@ -38,7 +39,7 @@ past-4 c = scan-more (past-3 (c .before .before)) _ _ (c .before .state4 .ensure
 inside : (l : tie.At-loop Inv-loop μ-loop) (k : ℕ) → Past l k → Sized (start l .args .slots) (now (start l .args .table)) × (l .loop .y + k < start l .args .slots)
 inside l k p = (start l .pre .0, scan-inside p (start l .pre .1))
 
-fits : (l : tie.At-loop Inv-loop μ-loop) (k : ℕ) → Past l k → (l .loop .y + k < start l .args .slots) × (start l .args .slots ≤ 1024)
+fits : (l : tie.At-loop Inv-loop μ-loop) (k : ℕ) → Past l k → (l .loop .y + k < start l .args .slots) × (start l .args .slots ≤ maxSlots)
 fits l k p = (scan-inside p (start l .pre .1), start l .pre .0 .few)
 
 loop-holds : tie.Need-loop-holds Inv-loop μ-loop

@@ -4,7 +4,7 @@ use Prim.Native.Nat.{_-_, _/_, _≤_, _<_}
 use mathlib.Core.Path.{_≡_}
 use native.Mathlib.Omega.{arith}
 use borrow.Author.Needs.{needs}
-use Rattle.rewriting.specs.Slots.{early, Digits}
+use Rattle.rewriting.specs.Slots.{early, digitWords, Digits}
 use Rattle.rewriting.proofs.SlotBlockLaws.{digits-none, mark-word, mark-room, mark-more}
 use Rattle.rewriting.proofs.slots.mark_bits.Statement.{statement}
 use Rattle.rewriting.proofs.slots.mark_bits.Tie as tie
@@ -16,7 +16,7 @@ abbrev μ-loop : tie.MeasureT-loop
 μ-loop slots store size bits₀ r₀ bits r = size - r
 
 -- in a turn, past the call: the word of the digits is inside
-inside : (c : tie.After-word Inv-loop μ-loop) → c .word .result / 64 < 16
+inside : (c : tie.After-word Inv-loop μ-loop) → c .word .result / 64 < digitWords
 inside c =
     let l = c .before .before in
     mark-word _ _ _ (l .before .before .pre .0) _ (c .before .loop-test .taken) _ (l .loop .inv .1) _ (c .word .ensures)

@@ -7,6 +7,7 @@ use native.Mathlib.Omega.{arith}
 use lib.ListN.{length}
 use borrow.Author.Needs.{needs}
 use Rattle.base.specs.Below.{countBelow}
+use Rattle.model.specs.Map.{maxSlots}
 use Rattle.table.specs.Words.{Sized}
 use Rattle.orbit.specs.At.{site}
 use Rattle.rewriting.specs.Slots.{Turn, Granting}
@@ -31,7 +32,7 @@ sized l = granting-sized (start l .pre .grant) (l .loop .inv .1 (start l .pre))
 
 -- in a turn the word of the store that is written is inside
 inside : (c : tie.In-loop Inv-loop μ-loop) → let l = c .before in
-    (l .loop .a * start l .args .size + start l .args .r < start l .args .slots) × (start l .args .slots ≤ 1024)
+    (l .loop .a * start l .args .size + start l .args .r < start l .args .slots) × (start l .args .slots ≤ maxSlots)
     × (length (l .loop .store) ≡ 16 * start l .args .slots)
 inside c =
     let l = c .before in
