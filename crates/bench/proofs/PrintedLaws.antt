@@ -14,7 +14,7 @@ use Rattle.base.specs.First.{someIf, _orElse_}
 use Rattle.base.proofs.BelowLaws.{count-le}
 use Rattle.base.proofs.ListLaws.{sets-start}
 use Rattle.model.specs.Answer.{number}
-use Rattle.model.specs.Map.{view, live, unused}
+use Rattle.model.specs.Map.{tableSize, view, live, unused}
 use Rattle.model.specs.Calls.{sizesOk, readFault, readAnswer}
 use Rattle.model.specs.Bench.{refusedLine, lastLine, mapLength, framed, mapSlots, mapAnswer, tableAfter, runLines, printed}
 use Rattle.model.specs.declared.Answer.the-variants.{BadCall}
@@ -36,7 +36,8 @@ printed-fault b e = rw e refl
 many-slots : (n N : ℕ) (t b : List ℕ) → 1024 < N → readAnswer n N t b ≡ BadCall
 unfolding readAnswer readFault someIf _orElse_ _and_
 many-slots n N t b h =
-    let over : sizesOk n N t ≡ false = ap (λ (x : Bool). x and eqb (length t) (6 * N)) (ap (λ (x : Bool). (eqb n 2 or eqb n 3) and leb 1 N and x) (lt-leb N 1024 h) ∙ and-no-right ((eqb n 2 or eqb n 3) and leb 1 N) refl) in
+    let over : sizesOk n N t ≡ false = ap (λ (x : Bool). x and eqb (length t) (tableSize N))
+    (ap (λ (x : Bool). (eqb n 2 or eqb n 3) and leb 1 N and x) (lt-leb N 1024 h) ∙ and-no-right ((eqb n 2 or eqb n 3) and leb 1 N) refl) in
     rw over refl
 
 module _ (b : List ℕ) (l : Layout) (laid : Laid b l) where
@@ -66,11 +67,13 @@ module _ (b : List ℕ) (l : Layout) (laid : Laid b l) where
         bad = many-slots _ (mapSlots b) _ _ h
 
     pub printed-run : number (mapAnswer b) ≡ 0 → printed b ≡ dartLines b (l .darts)
-        ++ lastLine (countBelow (mapSlots b) (live (view (mapSlots b) (tableAfter b (l .darts))))) (countBelow (mapSlots b) (unused (view (mapSlots b) (tableAfter b (l .darts)))))
+        ++ lastLine (countBelow (mapSlots b) (live (view (mapSlots b) (tableAfter b (l .darts)))))
+        (countBelow (mapSlots b) (unused (view (mapSlots b) (tableAfter b (l .darts)))))
     unfolding runLines dartLines
     printed-run e =
         printed-read ∙ ap (λ (t : Bool). cond t (runLines b) (refusedLine (number (mapAnswer b)))) (eq-eqb (number (mapAnswer b)) 0 e)
-        ∙ ap (λ (k : ℕ). dartLines b k ++ lastLine (countBelow (mapSlots b) (live (view (mapSlots b) (tableAfter b k)))) (countBelow (mapSlots b) (unused (view (mapSlots b) (tableAfter b k)))))
+        ∙ ap (λ (k : ℕ). dartLines b k ++ lastLine (countBelow (mapSlots b) (live (view (mapSlots b) (tableAfter b k))))
+        (countBelow (mapSlots b) (unused (view (mapSlots b) (tableAfter b k)))))
         (dart-count b (l .map) (l .scheme) (l .darts) (laid .map) (laid .scheme) (laid .darts))
 
     -- the same, of the counts that were taken

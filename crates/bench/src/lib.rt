@@ -8,14 +8,14 @@ use file::cursor::Cursor;
 use framing::Framing;
 use framing::frame;
 use session::session;
+use table::words::LONGEST;
+use table::words::size;
 use writer::refused_line;
 ghost use Prim.Native.Nat.{_≤_};
 ghost use lib.ListN.{length};
 ghost use Rattle.bench.specs.Session.{longest, Printed};
 
-// The words of a table and of a store for 1,024 slots.
-const TABLE: usize = 6144;
-
+// The words of a store for 1,024 slots.
 const STORE: usize = 16384;
 
 // Prints to the start of `out`, and gives the number of bytes.
@@ -34,9 +34,9 @@ pub fn run(input: &[u8], out: &mut [u8]) -> usize
     if 1024 < slots {
         return refused_line(out, 0, 1);
     }
-    let mut table = [0u32; TABLE];
+    let mut table = [0u32; LONGEST];
     let mut store = [0u32; STORE];
-    let words = 6 * (slots as usize);
+    let words = size(slots);
     let places = 16 * (slots as usize);
     session(
         input,

@@ -1,6 +1,6 @@
 -- Refusals 1 and 7, test by test.
 -- Assumes nothing.
-use Prim.Native.Nat.{ℕ, _*_, _≤_, _<_}
+use Prim.Native.Nat.{ℕ, _≤_, _<_}
 use mathlib.Core.Path.{_≡_}
 use mathlib.Core.Logic.{_⊎_, inl, inr, ⊎-elim}
 use mathlib.Core.Bool.{true, false}
@@ -10,7 +10,7 @@ use lib.Dec.{eqb}
 use borrow.Author.Tests.{eqb-true, eq-eqb, ne-eqb, leb-true, le-leb, lt-leb}
 use Rattle.base.specs.Test.{_and_, _or_}
 use Rattle.base.specs.First.{someIf, _orElse_}
-use Rattle.model.specs.Map.{view}
+use Rattle.model.specs.Map.{tableSize, view}
 use Rattle.model.specs.WellFormed.{wellFormed}
 use Rattle.model.specs.Calls.{sizesOk, tableFault, checkTable}
 use Rattle.model.specs.declared.Answer.the-variants.{Done, BadCall, BadTable}
@@ -35,9 +35,9 @@ module _ (n N : ℕ) (t : List ℕ) where
     unfolding _and_
     many-slots g h = rw (known, le-leb 1 N g, lt-leb N 1024 h)
 
-    pub length-is : 1 ≤ N → N ≤ 1024 → eqb (length t) (6 * N) ≡ sizesOk n N t
+    pub length-is : 1 ≤ N → N ≤ 1024 → (size : ℕ) → size ≡ tableSize N → eqb (length t) size ≡ sizesOk n N t
     unfolding _and_
-    length-is g h = rw (known, le-leb 1 N g, le-leb N 1024 h)
+    length-is g h size e = rw (known, le-leb 1 N g, le-leb N 1024 h, e)
 
   pub sizes-read : sizesOk n N t ≡ true → ((n ≡ 2) ⊎ (n ≡ 3)) × Sized N t
   sizes-read e = (

@@ -8,6 +8,9 @@ ghost use Rattle.table.specs.Words.{Sized, blanked};
 // The words of a record: the state, the link of dimension 0 with the others behind it, and the tag.
 const RECORD: usize = 6;
 
+// The words of a table of 1,024 slots.
+pub const LONGEST: usize = 1024 * RECORD;
+
 const STATE: usize = 0;
 
 const LINKS: usize = 1;
