@@ -20,7 +20,8 @@ use Rattle.base.proofs.BelowLaws.{count-le}
 use Rattle.model.specs.Map.{view, tableOf, live}
 use Rattle.model.specs.WellFormed.{wellFormed}
 use Rattle.model.specs.File.{liveDarts, file, fileForm, fileMap}
-use Rattle.model.specs.Calls.{zeros, sizesOk, tableFault, readFault, readAnswer, readTable, writeFault, writeAnswer, writeOut}
+use Rattle.model.specs.Calls.{zeros, sizesOk, mapFault, tableFault, readFaultAt, readFault, readAnswer, readTable}
+use Rattle.model.specs.Calls.{writeFaultAt, writeFault, writeAnswer, writeOut}
 use Rattle.model.specs.declared.Answer.the-variants.{Done, Written, BadCall, BadTable, BadFile, ShortOutput}
 use Rattle.model.proofs.MapLaws.{length-words}
 use Rattle.model.proofs.AlikeLaws.{words-formed}
@@ -36,12 +37,12 @@ use Rattle.kernel.proofs.CallLaws.{sizes-read}
 
 module _ (n N : ℕ) (t b : List ℕ) where
   pub read-1 : sizesOk n N t ≡ false → (BadCall ≡ readAnswer n N t b) × (t ≡ readTable n N t b)
-  unfolding readAnswer readTable readFault someIf _orElse_
+  unfolding readAnswer readTable readFault readFaultAt someIf _orElse_
   read-1 e = (rw e refl, rw e refl)
 
   module _ (s : sizesOk n N t ≡ true) where
     pub read-11 : (t' : List ℕ) → fileForm n N b ≡ false → t' ≡ loaded n N t b → (BadFile ≡ readAnswer n N t b) × (t' ≡ readTable n N t b)
-    unfolding readAnswer readTable readFault someIf _orElse_ there loaded
+    unfolding readAnswer readTable readFault readFaultAt someIf _orElse_ there loaded
     read-11 t' f e = (rw (s, f) refl, e ∙ rw (s, f) refl)
 
     module _ (t₁ : List ℕ) (f : fileForm n N b ≡ true) (e : t₁ ≡ loaded n N t b) where
@@ -62,15 +63,15 @@ module _ (n N : ℕ) (t b : List ℕ) where
       well-is = ap (λ (l : List ℕ). wellFormed n (view N l)) filled ∙ words-formed n (fileMap n N b) (three-le (sizes-read n N t s .0))
 
       pub read-7 : (t' : List ℕ) → wellFormed n (view N t₁) ≡ false → t' ≡ zeros t₁ → (BadTable ≡ readAnswer n N t b) × (t' ≡ readTable n N t b)
-      unfolding readAnswer readTable readFault someIf _orElse_ there
+      unfolding readAnswer readTable readFault readFaultAt someIf _orElse_ there
       read-7 t' w z = let v = sym well-is ∙ w in (rw (s, f, v) refl, z ∙ ap (λ (k : ℕ). replicate k 0) same-length ∙ rw (s, f, v) refl)
 
       pub read-0 : wellFormed n (view N t₁) ≡ true → (Done ≡ readAnswer n N t b) × (t₁ ≡ readTable n N t b)
-      unfolding readAnswer readTable readFault someIf _orElse_ there
+      unfolding readAnswer readTable readFault readFaultAt someIf _orElse_ there
       read-0 w = let v = sym well-is ∙ w in (rw (s, f, v) refl, filled ∙ rw (s, f, v) refl)
 
   pub read-small : Small (readAnswer n N t b)
-  unfolding readAnswer readFault someIf _orElse_
+  unfolding readAnswer readFault readFaultAt someIf _orElse_
   read-small = ⊎-elim
       (λ (s : sizesOk n N t ≡ true). ⊎-elim
       (λ (f : fileForm n N b ≡ true). ⊎-elim
@@ -86,12 +87,12 @@ module _ (n N : ℕ) (t b : List ℕ) where
 
 module _ (n N : ℕ) (t out : List ℕ) where
   pub write-1 : sizesOk n N t ≡ false → (BadCall ≡ writeAnswer n N t out) × (out ≡ writeOut n N t out)
-  unfolding writeAnswer writeOut writeFault tableFault someIf _orElse_ there
+  unfolding writeAnswer writeOut writeFault writeFaultAt tableFault mapFault someIf _orElse_ there
   write-1 e = (rw e refl, rw e refl)
 
   module _ (s : sizesOk n N t ≡ true) where
     pub write-7 : wellFormed n (view N t) ≡ false → (BadTable ≡ writeAnswer n N t out) × (out ≡ writeOut n N t out)
-    unfolding writeAnswer writeOut writeFault tableFault someIf _orElse_ there
+    unfolding writeAnswer writeOut writeFault writeFaultAt tableFault mapFault someIf _orElse_ there
     write-7 w = (rw (s, w) refl, rw (s, w) refl)
 
     module _ (k : ℕ) (e : k ≡ countBelow N (live (view N t))) where
@@ -112,20 +113,20 @@ module _ (n N : ℕ) (t out : List ℕ) where
 
         module _ (w : wellFormed n (view N t) ≡ true) where
           pub write-12 : length out < size → (ShortOutput ≡ writeAnswer n N t out) × (out ≡ writeOut n N t out)
-          unfolding writeAnswer writeOut writeFault tableFault someIf _orElse_ there
+          unfolding writeAnswer writeOut writeFault writeFaultAt tableFault mapFault someIf _orElse_ there
           write-12 h =
               let l : ltb (length out) (length (file n (view N t))) ≡ true = lt-ltb (length out) (length (file n (view N t))) (rw (← write-size) h) in
               (rw (s, w, l) refl, rw (s, w, l) refl)
 
           pub write-0 : (out' : List ℕ) → size ≤ length out → out' ≡ file n (view N t) ++ drop (length (file n (view N t))) out
               → (Written size ≡ writeAnswer n N t out) × (out' ≡ writeOut n N t out)
-          unfolding writeAnswer writeOut writeFault tableFault someIf _orElse_ there
+          unfolding writeAnswer writeOut writeFault writeFaultAt tableFault mapFault someIf _orElse_ there
           write-0 out' h z =
               let l : ltb (length out) (length (file n (view N t))) ≡ false = le-ltb (length out) (length (file n (view N t))) (write-fits h) in
               (rw (s, w, l, write-size) refl, z ∙ rw (s, w, l) refl)
 
   pub write-small : Small (writeAnswer n N t out)
-  unfolding writeAnswer writeFault tableFault someIf _orElse_
+  unfolding writeAnswer writeFault writeFaultAt tableFault mapFault someIf _orElse_
   write-small = ⊎-elim
       (λ (s : sizesOk n N t ≡ true). ⊎-elim
       (λ (w : wellFormed n (view N t) ≡ true). ⊎-elim
