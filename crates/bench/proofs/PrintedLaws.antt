@@ -14,9 +14,9 @@ use Rattle.base.specs.First.{someIf, _orElse_}
 use Rattle.base.proofs.BelowLaws.{count-le}
 use Rattle.base.proofs.ListLaws.{sets-start}
 use Rattle.model.specs.Answer.{number}
-use Rattle.model.specs.Map.{view, live, unused}
+use Rattle.model.specs.Map.{tableSize, view, live, unused, maxSlots}
 use Rattle.model.specs.Calls.{sizesOk, readFault, readAnswer}
-use Rattle.bench.specs.Bench.{lastLine, mapLength, framed, mapSlots, mapAnswer, tableAfter, runLines, printed}
+use Rattle.bench.specs.Bench.{lastLine, mapLength, framed, mapSlots, mapAnswer, tableAfter, runLines, printed, mostDarts}
 use Rattle.lines.specs.Lines.{refusedLine}
 use Rattle.lines.proofs.LineLaws.{refused-few}
 use Rattle.model.specs.declared.Answer.the-variants.{BadCall}
@@ -35,10 +35,11 @@ unfolding printed _and_
 printed-fault b e = rw e refl
 
 -- a table of more than 1,024 slots is refused
-many-slots : (n N : ℕ) (t b : List ℕ) → 1024 < N → readAnswer n N t b ≡ BadCall
+many-slots : (n N : ℕ) (t b : List ℕ) → maxSlots < N → readAnswer n N t b ≡ BadCall
 unfolding readAnswer readFault someIf _orElse_ _and_
 many-slots n N t b h =
-    let over : sizesOk n N t ≡ false = ap (λ (x : Bool). x and eqb (length t) (6 * N)) (ap (λ (x : Bool). (eqb n 2 or eqb n 3) and leb 1 N and x) (lt-leb N 1024 h) ∙ and-no-right ((eqb n 2 or eqb n 3) and leb 1 N) refl) in
+    let over : sizesOk n N t ≡ false = ap (λ (x : Bool). x and eqb (length t) (tableSize N))
+    (ap (λ (x : Bool). (eqb n 2 or eqb n 3) and leb 1 N and x) (lt-leb N maxSlots h) ∙ and-no-right ((eqb n 2 or eqb n 3) and leb 1 N) refl) in
     rw over refl
 
 module _ (b : List ℕ) (l : Layout) (laid : Laid b l) where
@@ -58,7 +59,7 @@ module _ (b : List ℕ) (l : Layout) (laid : Laid b l) where
     pub printed-refused : (number (mapAnswer b) ≡ 0 → ⊥) → printed b ≡ refusedLine (number (mapAnswer b))
     printed-refused f = printed-read ∙ ap (λ (t : Bool). cond t (runLines b) (refusedLine (number (mapAnswer b)))) (ne-eqb (number (mapAnswer b)) 0 f)
 
-    pub printed-many : 1024 < mapSlots b → printed b ≡ refusedLine 1
+    pub printed-many : maxSlots < mapSlots b → printed b ≡ refusedLine 1
     unfolding mapAnswer
     printed-many h =
         let one : number (mapAnswer b) ≡ 1 = ap number bad in
@@ -68,11 +69,13 @@ module _ (b : List ℕ) (l : Layout) (laid : Laid b l) where
         bad = many-slots _ (mapSlots b) _ _ h
 
     pub printed-run : number (mapAnswer b) ≡ 0 → printed b ≡ dartLines b (l .darts)
-        ++ lastLine (countBelow (mapSlots b) (live (view (mapSlots b) (tableAfter b (l .darts))))) (countBelow (mapSlots b) (unused (view (mapSlots b) (tableAfter b (l .darts)))))
+        ++ lastLine (countBelow (mapSlots b) (live (view (mapSlots b) (tableAfter b (l .darts)))))
+        (countBelow (mapSlots b) (unused (view (mapSlots b) (tableAfter b (l .darts)))))
     unfolding runLines dartLines
     printed-run e =
         printed-read ∙ ap (λ (t : Bool). cond t (runLines b) (refusedLine (number (mapAnswer b)))) (eq-eqb (number (mapAnswer b)) 0 e)
-        ∙ ap (λ (k : ℕ). dartLines b k ++ lastLine (countBelow (mapSlots b) (live (view (mapSlots b) (tableAfter b k)))) (countBelow (mapSlots b) (unused (view (mapSlots b) (tableAfter b k)))))
+        ∙ ap (λ (k : ℕ). dartLines b k ++ lastLine (countBelow (mapSlots b) (live (view (mapSlots b) (tableAfter b k))))
+        (countBelow (mapSlots b) (unused (view (mapSlots b) (tableAfter b k)))))
         (dart-count b (l .map) (l .scheme) (l .darts) (laid .map) (laid .scheme) (laid .darts))
 
     -- the same, of the counts that were taken
@@ -85,7 +88,7 @@ module _ (b : List ℕ) (l : Layout) (laid : Laid b l) where
 -- ---- written
 
 -- as many as are counted are few
-pub tally-few : (N : ℕ) (p : ℕ → Bool) (x : ℕ) → x ≡ countBelow N p → N ≤ 1024 → x ≤ 1024
+pub tally-few : (N : ℕ) (p : ℕ → Bool) (x : ℕ) → x ≡ countBelow N p → N ≤ maxSlots → x ≤ maxSlots
 tally-few N p x e h = omega (arith, e, count-le N p)
 
 pub edits-room : (b : List ℕ) (l : Layout) (out : List ℕ) → Laid b l → longest ≤ length out → 23 * l .darts ≤ length out
@@ -98,10 +101,10 @@ module _ (b out : List ℕ) where
   pub refused-room : (k : ℕ) → k < 100 → longest ≤ length out → 0 + length (refusedLine k) ≤ length out
   refused-room k h room = omega (arith, refused-few k h, room)
 
-  pub last-room : (at darts x y : ℕ) → at ≤ 23 * darts → darts ≤ 1024 → x ≤ 1024 → y ≤ 1024 → longest ≤ length out → at + length (lastLine x y) ≤ length out
+  pub last-room : (at darts x y : ℕ) → at ≤ 23 * darts → darts ≤ mostDarts → x ≤ maxSlots → y ≤ maxSlots → longest ≤ length out → at + length (lastLine x y) ≤ length out
   last-room at darts x y h k u w room = omega (arith, last-few x y u w, room)
 
-  pub wrote-run : (lines out₁ : List ℕ) (at darts x y : ℕ) (out′ : List ℕ) (r : ℕ) → at ≤ 23 * darts → darts ≤ 1024 → x ≤ 1024 → y ≤ 1024
+  pub wrote-run : (lines out₁ : List ℕ) (at darts x y : ℕ) (out′ : List ℕ) (r : ℕ) → at ≤ 23 * darts → darts ≤ mostDarts → x ≤ maxSlots → y ≤ maxSlots
       → printed b ≡ lines ++ lastLine x y → Put out 0 lines out₁ at → Put out₁ at (lastLine x y) out′ r → Wrote b out r out′
   wrote-run lines out₁ at darts x y out′ r h k u w e p q = record {
     bytes = rw e (put-then _ _ _ _ _ _ _ _ p q);

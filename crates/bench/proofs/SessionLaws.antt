@@ -15,6 +15,7 @@ use Rattle.base.specs.Digits.{numberAt}
 use Rattle.base.specs.Lists.{joined}
 use Rattle.base.proofs.BelowLaws.{count-step}
 use Rattle.base.proofs.ListLaws.{joined-step}
+use Rattle.model.specs.Map.{tableSize, maxSlots}
 use Rattle.model.specs.File.{twoAt}
 use Rattle.model.specs.Calls.{zeros, sizesOk, readAnswer, readTable, editAnswer, editTable, editStore}
 use Rattle.bench.specs.Bench.{mapLength, schemeLength, dartLine, dartAt, answerAt, mapBytes, schemeBytes, mapDimension, mapSlots, mapAnswer, tableAfter}
@@ -72,18 +73,18 @@ module _ (b : List ℕ) (l : Layout) (k : Laid b l) where
     unfolding mapDimension
     dimension-here v e = e ∙ sym (byte-here 0 (omega arith))
 
-    pub asked-of : (n N : ℕ) → n ≡ getD b 2 0 → N ≡ mapSlots b → N ≤ 1024 → Asked b n N
+    pub asked-of : (n N : ℕ) → n ≡ getD b 2 0 → N ≡ mapSlots b → N ≤ maxSlots → Asked b n N
     asked-of n N e f h = record { dimension = dimension-here n e; slots = f; few = h }
 
 -- ---- the map is read
 
 module _ (b : List ℕ) (n N : ℕ) (asked : Asked b n N) where
-  read-moved : {A : Type 0} (f : ℕ → ℕ → List ℕ → List ℕ → A) (t part : List ℕ) → t ≡ replicate (6 * N) 0 → part ≡ mapBytes b
-      → f n N t part ≡ f (mapDimension b) (mapSlots b) (replicate (6 * mapSlots b) 0) (mapBytes b)
+  read-moved : {A : Type 0} (f : ℕ → ℕ → List ℕ → List ℕ → A) (t part : List ℕ) → t ≡ replicate (tableSize N) 0 → part ≡ mapBytes b
+      → f n N t part ≡ f (mapDimension b) (mapSlots b) (replicate (tableSize (mapSlots b)) 0) (mapBytes b)
   read-moved f t part e p =
-      ap₂ (λ (x y : List ℕ). f n N x y) e p ∙ ap₂ (λ (i j : ℕ). f i j (replicate (6 * j) 0) (mapBytes b)) (asked .dimension) (asked .slots)
+      ap₂ (λ (x y : List ℕ). f n N x y) e p ∙ ap₂ (λ (i j : ℕ). f i j (replicate (tableSize j) 0) (mapBytes b)) (asked .dimension) (asked .slots)
 
-  pub read-map : (t part : List ℕ) (r : Answer) (t′ : List ℕ) → t ≡ replicate (6 * N) 0 → part ≡ mapBytes b
+  pub read-map : (t part : List ℕ) (r : Answer) (t′ : List ℕ) → t ≡ replicate (tableSize N) 0 → part ≡ mapBytes b
       → FileRead n N t part r t′ → (r ≡ mapAnswer b) × (t′ ≡ tableAfter b 0)
   unfolding mapAnswer tableAfter
   read-map t part r t′ e p x = (answers-same (x .answer) ∙ read-moved readAnswer t part e p, x .table ∙ read-moved readTable t part e p)
@@ -125,7 +126,8 @@ module _ (b : List ℕ) (l : Layout) (laid : Laid b l) (n N : ℕ) (asked : Aske
   moved f =
       ap₂ (λ (x y : List ℕ). f n N x y (schemeBytes b) v) (g .stands .table) (g .stands .store)
       ∙ ap₂ (λ (i j : ℕ). f i j (tableAfter b k) (replicate (16 * j) 0) (schemeBytes b) v) (asked .dimension) (asked .slots)
-      ∙ ap (λ (d : ℕ). f (mapDimension b) (mapSlots b) (tableAfter b k) (replicate (16 * mapSlots b) 0) (schemeBytes b) d) (dart-here b l laid k v from (g .place) read)
+      ∙ ap (λ (d : ℕ). f (mapDimension b) (mapSlots b) (tableAfter b k) (replicate (16 * mapSlots b) 0) (schemeBytes b) d)
+      (dart-here b l laid k v from (g .place) read)
 
   module _ (a : Answer) (edit : a ≡ editAnswer n N t s (schemeBytes b) v) (small : v < 65536) where
     line-few : length (dartLine v a) ≤ 23
@@ -135,7 +137,8 @@ module _ (b : List ℕ) (l : Layout) (laid : Laid b l) (n N : ℕ) (asked : Aske
     pub line-room : k < l .darts → 23 * l .darts ≤ length out → at + length (dartLine v a) ≤ length out
     line-room h r = omega (arith, line-few, g .short)
 
-    pub going-more : (t′ s′ out′ : List ℕ) (from′ at′ : ℕ) → from′ ≡ from + 2 → t′ ≡ editTable n N t s (schemeBytes b) v → s′ ≡ editStore n N t s (schemeBytes b) v
+    pub going-more : (t′ s′ out′ : List ℕ) (from′ at′ : ℕ) → from′ ≡ from + 2
+        → t′ ≡ editTable n N t s (schemeBytes b) v → s′ ≡ editStore n N t s (schemeBytes b) v
         → Put out at (dartLine v a) out′ at′ → Going b l N (k + 1) t′ s′ out₀ out′ from′ at′
     unfolding dartLines answerAt tableAfter editStore
     going-more t′ s′ out′ from′ at′ f x y p = record {
@@ -164,7 +167,8 @@ tally-miss p x found h e = rw (count-step x p, h, ← e) (omega arith)
 pub blank-part : (w m : ℕ) → w ≤ m → take {A = ℕ} w (replicate m 0) ≡ replicate w 0
 blank-part w m h =
     let more : m ≡ w + (m - w) = omega arith in
-    ap (λ (k : ℕ). take {A = ℕ} w (replicate k 0)) more ∙ ap (take {A = ℕ} w) (sym (replicate-append-replicate w (m - w) 0)) ∙ take-at (replicate w 0) (replicate (m - w) 0) w (length-replicate w 0)
+    ap (λ (k : ℕ). take {A = ℕ} w (replicate k 0)) more ∙ ap (take {A = ℕ} w) (sym (replicate-append-replicate w (m - w) 0))
+    ∙ take-at (replicate w 0) (replicate (m - w) 0) w (length-replicate w 0)
 
 pub blank-length : (w m : ℕ) → w ≤ m → w ≡ length (take {A = ℕ} w (replicate m 0))
 blank-length w m h = sym (ap (length {A = ℕ}) (blank-part w m h) ∙ length-replicate w 0)

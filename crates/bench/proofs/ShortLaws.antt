@@ -12,7 +12,7 @@ use Rattle.base.specs.Below.{countBelow}
 use Rattle.base.proofs.TestLaws.{and-left, and-right}
 use Rattle.base.proofs.BelowLaws.{count-le}
 use Rattle.model.specs.Answer.{number}
-use Rattle.model.specs.Map.{view, unused}
+use Rattle.model.specs.Map.{view, unused, maxSlots}
 use Rattle.model.specs.Bytes.{nodesOf}
 use Rattle.model.specs.Scheme.{schemeOf, deleted}
 use Rattle.model.specs.Edit.{orbitSize, addedDarts, deletedDarts}
@@ -36,7 +36,7 @@ refused-short d a h f =
     let one : (j : ℕ) → digits (shown a j) ≤ 1 = λ j. subst (λ (v : ℕ). digits v ≤ 1) (sym (none-shown j)) (decimal-short 0 0 (omega arith)) in
     omega (arith, dart-length d a, decimal-short 4 d h, decimal-short 1 (number a) (omega (arith, number-few a)), one 0, one 1, one 2)
 
-done-short : (d o e f : ℕ) → d < 1024 → o ≤ 1024 → e ≤ 1024 → f ≤ 16384 → length (dartLine d (Edited o e f)) ≤ 23
+done-short : (d o e f : ℕ) → d < maxSlots → o ≤ maxSlots → e ≤ maxSlots → f ≤ 16 * maxSlots → length (dartLine d (Edited o e f)) ≤ 23
 done-short d o e f h x y z =
     omega (
       arith,
@@ -54,12 +54,12 @@ module _ (n N : ℕ) (t store b : List ℕ) (d : ℕ) where
   unfolding orbitSize deletedDarts schemeOf
   granted-short q =
       let g = granted n N t store b d q in
-      let few : N ≤ 1024 = leb-true _ _ (and-right _ _ (and-left _ _ (g .sizes))) in
+      let few : N ≤ maxSlots = leb-true _ _ (and-right _ _ (and-left _ _ (g .sizes))) in
       let O = orbitOf N t b d in
       let orbits : countBelow N O ≤ N = count-le N O in
       let nodes : countBelow (nodesOf b) (deleted (schemeOf b)) ≤ 16 = omega (arith, count-le (nodesOf b) (deleted (schemeOf b)), nodes-few b (g .form)) in
-      let room : addedDarts (view N t) (schemeOf b) O ≤ 1024 = omega (arith, g .room, count-le N (unused (view N t))) in
-      let gone : countBelow N O * countBelow (nodesOf b) (deleted (schemeOf b)) ≤ 16384 =
+      let room : addedDarts (view N t) (schemeOf b) O ≤ maxSlots = omega (arith, g .room, count-le N (unused (view N t))) in
+      let gone : countBelow N O * countBelow (nodesOf b) (deleted (schemeOf b)) ≤ 16 * maxSlots =
       omega (arith, mul-le-mul-left (countBelow N O) nodes) in
       done-short d _ _ _ (omega (arith, g .slot)) (omega arith) room gone
 
@@ -74,5 +74,5 @@ module _ (n N : ℕ) (t store b : List ℕ) (d : ℕ) where
 
 -- ---- the last line
 
-pub last-few : (x y : ℕ) → x ≤ 1024 → y ≤ 1024 → length (lastLine x y) ≤ 22
+pub last-few : (x y : ℕ) → x ≤ maxSlots → y ≤ maxSlots → length (lastLine x y) ≤ 22
 last-few x y h k = omega (arith, last-length x y, decimal-short 3 x (omega arith), decimal-short 3 y (omega arith))

@@ -37,6 +37,10 @@ lastLine lives rest = liveWord ++ space ++ decimal lives ++ space ++ unusedWord 
 
 -- ---- the input: map file, scheme and dart list, each after a two-byte count
 
+-- the greatest number of darts in the list
+abbrev pub mostDarts : ℕ
+mostDarts = 1024
+
 module _ (b : List ℕ) where
   abbrev pub mapLength : ℕ
   mapLength = twoAt b 0
@@ -58,7 +62,7 @@ module _ (b : List ℕ) where
 
   -- the counts are within their limits, and nothing is missing or left over
   unfoldable pub framed : Bool
-  framed = leb mapLength 14345 and leb schemeLength 537 and leb dartCount 1024
+  framed = leb mapLength 14345 and leb schemeLength 537 and leb dartCount mostDarts
       and eqb (length b) (6 + mapLength + schemeLength + 2 * dartCount)
 
   -- ---- the run

@@ -5,6 +5,7 @@ use mathlib.Core.Path.{_≡_}
 use mathlib.Core.List.{List, _++_}
 use lib.ListN.{length, drop, replicate}
 use Rattle.base.specs.Lists.{joined}
+use Rattle.model.specs.Map.{maxSlots}
 use Rattle.bench.specs.Bench.{dartLine, dartAt, answerAt, mapDimension, mapSlots, tableAfter, printed}
 use Rattle.cursor.specs.Places.{Put}
 
@@ -16,7 +17,7 @@ longest = 23574
 pub record Asked (b : List ℕ) (n N : ℕ) : Type 0 where
   pub dimension : n ≡ mapDimension b
   pub slots : N ≡ mapSlots b
-  pub few : N ≤ 1024
+  pub few : N ≤ maxSlots
 
 -- the table t and the store s are as they stand after the first k edits
 pub record Stands (b : List ℕ) (N k : ℕ) (t s : List ℕ) : Type 0 where

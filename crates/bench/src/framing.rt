@@ -2,6 +2,9 @@
 use cursor::Cursor;
 ghost use Rattle.bench.specs.Input.{FramingOf};
 
+// The greatest number of darts in the list.
+const MOST_DARTS: usize = 1024;
+
 // How many bytes the map file and the scheme have, and how many darts are listed.
 pub struct Layout {
     pub map: usize,
@@ -44,7 +47,7 @@ pub fn frame(input: &[u8]) -> Framing
     if 537 < scheme {
         return Framing::Fault;
     }
-    if 1024 < darts {
+    if MOST_DARTS < darts {
         return Framing::Fault;
     }
     Framing::Framed(Layout {

@@ -9,14 +9,17 @@ use framing::Framing;
 use framing::frame;
 use lines::refused_line;
 use session::session;
+use model::MAX_SLOTS;
+use table::words::RECORD;
+use table::words::size;
 ghost use Prim.Native.Nat.{_≤_};
 ghost use lib.ListN.{length};
 ghost use Rattle.bench.specs.Session.{longest, Printed};
 
-// The words of a table and of a store for 1,024 slots.
-const TABLE: usize = 6144;
+// The words of a table and of a store for the greatest number of slots.
+const TABLE: usize = RECORD * MAX_SLOTS as usize;
 
-const STORE: usize = 16384;
+const STORE: usize = 16 * MAX_SLOTS as usize;
 
 // Prints to the start of `out`, and gives the number of bytes.
 pub fn run(input: &[u8], out: &mut [u8]) -> usize
@@ -31,12 +34,12 @@ pub fn run(input: &[u8], out: &mut [u8]) -> usize
     }
     let place = Cursor { at: 3 };
     let slots = place.two(input).value;
-    if 1024 < slots {
+    if MAX_SLOTS < slots {
         return refused_line(out, 0, 1);
     }
     let mut table = [0u32; TABLE];
     let mut store = [0u32; STORE];
-    let words = 6 * (slots as usize);
+    let words = size(slots);
     let places = 16 * (slots as usize);
     session(
         input,

@@ -12,7 +12,7 @@ ghost use Prim.Native.Nat.{_+_, _*_, _≤_};
 ghost use lib.Dec.{eqb};
 ghost use lib.ListN.{length, replicate};
 ghost use Rattle.base.specs.Below.{countBelow};
-ghost use Rattle.model.specs.Map.{view};
+ghost use Rattle.model.specs.Map.{tableSize, view, maxSlots};
 ghost use Rattle.model.specs.Calls.{editAnswer, editTable, editStore};
 ghost use Rattle.bench.specs.Bench.{schemeBytes, mapAnswer, mapSlots, tableAfter};
 ghost use Rattle.cursor.specs.Places.{Put};
@@ -30,7 +30,7 @@ fn wide(b: u8) -> u32
 fn load(input: &[u8], layout: Layout, n: u32, slots: u32, table: &mut [u32]) -> Answer
     requires { ⌜ Laid (now input) layout ⌝ }
     requires { ⌜ Asked (now input) n slots ⌝ }
-    requires { ⌜ now table ≡ replicate (6 * slots) 0 ⌝ }
+    requires { ⌜ now table ≡ replicate (tableSize slots) 0 ⌝ }
     ensures { λ r. ⌜ (r ≡ mapAnswer (now (input .entry))) × (now (table .exit) ≡ tableAfter (now (input .entry)) 0) ⌝ }
 {
     let end = 2 + layout.map;
@@ -117,8 +117,8 @@ pub fn session(
     out: &mut [u8],
 ) -> usize
     requires { ⌜ Laid (now input) layout ⌝ }
-    requires { ⌜ (3 ≤ layout .map) × (slots ≡ mapSlots (now input)) × (slots ≤ 1024) ⌝ }
-    requires { ⌜ (now table ≡ replicate (6 * slots) 0) × (now store ≡ replicate (16 * slots) 0) ⌝ }
+    requires { ⌜ (3 ≤ layout .map) × (slots ≡ mapSlots (now input)) × (slots ≤ maxSlots) ⌝ }
+    requires { ⌜ (now table ≡ replicate (tableSize slots) 0) × (now store ≡ replicate (16 * slots) 0) ⌝ }
     requires { ⌜ longest ≤ length (now out) ⌝ }
     ensures { λ r. ⌜ Wrote (now (input .entry)) (now (out .entry)) r (now (out .exit)) ⌝ }
 {

@@ -179,7 +179,7 @@ module _ (n N : ℕ) (t store b : List ℕ) (d : ℕ) where
       isOrbit = orbit-of N t b d (sound (a .admitted));
       new = edited E;
       dart = dartOf E;
-      rewriting = rewriting E at;
+      rewriting = rewriting at;
       table = p .table ∙ edit-table n N t store b d (applicable-free a);
       done = p .answer .sameNumber ∙ ap number done-answer;
       counted = p .answer .sameValues ∙ ap values done-answer;
@@ -193,5 +193,5 @@ module _ (n N : ℕ) (t store b : List ℕ) (d : ℕ) where
         let same : siteOver N t b d (e .orbit) ≡ E = one-site (a .admitted) (e .isOrbit) in
         let own : Rewriting E (e .new) (e .dart) = subst (λ (F : Site). Rewriting F (e .new) (e .dart)) same (e .rewriting) in (
           e .counted ∙ ap counts same ∙ sym (ap values done-answer),
-          e .table ∙ edit-once E at own ∙ sym (edit-table n N t store b d (applicable-free a)),
+          e .table ∙ edit-once at own ∙ sym (edit-table n N t store b d (applicable-free a)),
         )

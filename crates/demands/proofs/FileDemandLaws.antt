@@ -1,19 +1,19 @@
 -- The file calls of demand 2: what is written, read again, and written back.
 -- Assumes nothing.
-use Prim.Native.Nat.{ℕ, zero, suc, _≤_, _<_}
+use Prim.Native.Nat.{ℕ, _≤_, _<_}
 use mathlib.Core.Path.{_≡_, refl, sym, ap, _∙_, subst}
 use mathlib.Core.Logic.{⊎-elim, inl, inr}
 use mathlib.Core.Bool.{true, false, cond}
 use mathlib.Core.Option.{Option, none, Option·getD}
 use mathlib.Core.List.{List, _++_}
 use native.Mathlib.Omega.{arith}
-use lib.ListN.{length, getD, take, drop, replicate}
+use lib.ListN.{length, getD, take, drop}
 use lib.Dec.{ltb}
 use borrow.Author.Tests.{eqb-true, eqb-false, eq-eqb, ne-eqb, le-ltb}
 use Rattle.base.specs.First.{someIf, there, _orElse_}
 use Rattle.base.proofs.TestLaws.{true-or-false}
 use Rattle.base.proofs.FirstLaws.{or-else-none, when-none}
-use Rattle.model.specs.Map.{Map, view, tableOf, live, recordOf}
+use Rattle.model.specs.Map.{Map, Field, State, Link, Tag, fieldOf, dimension, view, tableOf, live}
 use Rattle.model.specs.Alike.{Alike}
 use Rattle.model.specs.File.{file, fileForm, fileMap}
 use Rattle.model.specs.WellFormed.{WellFormed}
@@ -22,6 +22,7 @@ use Rattle.model.specs.Calls.{sizesOk, tableFault, checkTable, readFaultAt, rea
 use Rattle.model.specs.Sequence.{Holds, AlikeTables}
 use Rattle.model.specs.declared.Answer.{Answer}
 use Rattle.model.specs.declared.Answer.the-variants.{Done, Written}
+use Rattle.model.proofs.MapLaws.{field-at}
 use Rattle.model.proofs.SizeLaws.{sizes-iff}
 use Rattle.model.proofs.WellFormedLaws.{wellFormed-iff}
 use Rattle.model.proofs.CallLaws.{passed}
@@ -32,23 +33,6 @@ use Rattle.file.proofs.RoundTrip.{written-form, read-back, written-back}
 use Rattle.demands.specs.Promises.{FileRead, FileWritten}
 use Rattle.demands.proofs.RefusalLaws.{cond-true, cond-false, done-none, read-within, write-within}
 
--- what a record of a map holds, word by word
-same-record : (m k : Map) (x : ℕ) → recordOf m x ≡ recordOf k x
-    → (m .state x ≡ k .state x) × ((i : ℕ) → i ≤ 3 → m .link i x ≡ k .link i x) × (m .tag x ≡ k .tag x)
-same-record m k x e = (
-  ap (λ (l : List ℕ). getD l 0 0) e,
-  λ i h. upTo3 (λ i. m .link i x ≡ k .link i x) (ap (λ (l : List ℕ). getD l 1 0) e) (ap (λ (l : List ℕ). getD l 2 0) e)
-      (ap (λ (l : List ℕ). getD l 3 0) e) (ap (λ (l : List ℕ). getD l 4 0) e) i h,
-  ap (λ (l : List ℕ). getD l 5 0) e,
-)
-  where
-    upTo3 : (P : ℕ → Type 0) → P 0 → P 1 → P 2 → P 3 → (i : ℕ) → i ≤ 3 → P i
-    upTo3 P a b c d zero h = a
-    upTo3 P a b c d (suc zero) h = b
-    upTo3 P a b c d (suc (suc zero)) h = c
-    upTo3 P a b c d (suc (suc (suc zero))) h = d
-    upTo3 P a b c d (suc (suc (suc (suc i)))) h = absurd (omega arith)
-
 -- the map in the file of a well-formed map is like it
 module _ (n N : ℕ) (t : List ℕ) (h : Holds n N t) (small : (i : ℕ) → getD t i 0 < 4294967296) where
   abbrev m : Map
@@ -57,32 +41,32 @@ module _ (n N : ℕ) (t : List ℕ) (h : Holds n N t) (small : (i : ℕ) → get
   abbrev k : Map
   k = fileMap n N (file n m)
 
-  back : (x : ℕ) → x < N → recordOf k x ≡ cond (live m x) (recordOf m x) (replicate 6 0)
-  back = let s = sizes-iff n N t .0 (h .sizes) in read-back n m (omega (arith, dimension-small n N t (h .sizes))) (s .few) (s .dimension) (h .well)
-      (λ x g l. small _)
+  back : (f : Field) (x : ℕ) → dimension f ≤ 3 → x < N → fieldOf k f x ≡ cond (live m x) (fieldOf m f x) 0
+  back = read-back n m (omega (arith, dimension-small n N t (h .sizes))) (sizes-iff n N t .0 (h .sizes) .few)
+      (sizes-iff n N t .0 (h .sizes) .dimension) (h .well) (λ x g l. rw (field-at t Tag x (omega arith)) (small _))
 
-  back-live : (x : ℕ) → x < N → m .state x ≡ 1 → recordOf m x ≡ recordOf k x
-  back-live x g l = sym (back x g ∙ cond-true (live m x) _ _ (eq-eqb _ _ l))
+  back-live : (f : Field) (x : ℕ) → dimension f ≤ 3 → x < N → m .state x ≡ 1 → fieldOf m f x ≡ fieldOf k f x
+  back-live f x b g l = sym (back f x b g ∙ cond-true (live m x) _ _ (eq-eqb _ _ l))
 
   back-unused : (x : ℕ) → x < N → (m .state x ≡ 1 → ⊥) → k .state x ≡ 0
-  back-unused x g l = ap (λ (w : List ℕ). getD w 0 0) (back x g ∙ cond-false (live m x) _ _ (ne-eqb _ _ l))
+  back-unused x g l = back State x (omega arith) g ∙ cond-false (live m x) _ _ (ne-eqb _ _ l)
 
   file-alike : Alike m k
   unfolding fileMap
   file-alike = record {
     slots = refl;
     live = λ x g. (
-      λ l. sym (same-record m k x (back-live x g l) .0) ∙ l,
+      λ l. sym (back-live State x (omega arith) g l) ∙ l,
       λ l. ⊎-elim (λ e. eqb-true _ _ e) (λ e. let z = back-unused x g (eqb-false _ _ e) in absurd (omega arith)) (true-or-false (live m x)),
     );
-    link = λ x g l. same-record m k x (back-live x g l) .1;
-    tag = λ x g l. same-record m k x (back-live x g l) .2;
+    link = λ x g l i b. back-live (Link i) x b g l;
+    tag = λ x g l. back-live Tag x (omega arith) g l;
   }
 
   file-well : WellFormed n k
   unfolding fileMap
   file-well = well-alike n (dimension-small n N t (h .sizes)) m k file-alike (h .well)
-      (λ x g. ⊎-elim (λ e. inr (sym (same-record m k x (back-live x g (eqb-true _ _ e)) .0) ∙ eqb-true _ _ e))
+      (λ x g. ⊎-elim (λ e. inr (sym (back-live State x (omega arith) g (eqb-true _ _ e)) ∙ eqb-true _ _ e))
       (λ e. inl (back-unused x g (eqb-false _ _ e))) (true-or-false (live m x)))
 
   table-alike : Alike m (view N (tableOf k))
@@ -171,8 +155,8 @@ read-written n N t b r t′ p e bytes out r₂ out′ len q =
     let form : fileForm n N b ≡ true = passed _ _ (or-else-none _ _ (parts .1) .0) in
     let table : t′ ≡ tableOf (fileMap n N b) = p .table ∙ read-table n N t b sized free in
     let h : Holds n N t′ = subst (Holds n N) (sym (p .table)) (read-holds n N t b sized) in
-    let same : file n (view N t′) ≡ b =
-    ap (λ (l : List ℕ). file n (view N l)) table ∙ one-file n N b (dimension-small n N t sized) ∙ written-back n N b form bytes in
+    let same : file n (view N t′) ≡ b = ap (λ (l : List ℕ). file n (view N l)) table
+    ∙ one-file n N b (dimension-small n N t sized) ∙ written-back n N b form bytes in
     let room : ltb (length out) (length (file n (view N t′))) ≡ false = ap (λ (l : List ℕ). ltb (length out) (length l)) same ∙ le-ltb _ _ len in (
       q .answer .sameNumber ∙ ap (λ (o : Option Answer). number (Option·getD o (Written (length (file n (view N t′)))))) (write-free n N t′ out h room),
       promised-file n N t′ out r₂ out′ q ∙ write-leaves n N t′ out h room ∙ same,

@@ -17,7 +17,7 @@ use Rattle.base.proofs.DigitLaws.{number-join}
 use Rattle.base.proofs.TestLaws.{and-left, and-right, and-of, and-assoc, true-or-false}
 use Rattle.base.proofs.BelowLaws.{below-suc, all-at, all-of, all-stops, all-step}
 use Rattle.model.specs.File.{twoAt, fourAt, fileForm}
-use Rattle.file.specs.Form.{headOk, countsOk, frameOk, framed, slotOf, lowest, slotsOk}
+use Rattle.file.specs.Form.{headOk, countsOk, fileSize, frameOk, framed, slotOf, lowest, slotsOk}
 use Rattle.file.specs.Records.{Formed}
 use Rattle.file.specs.declared.form.Framing.the-variants.{Darts, Broken}
 
@@ -42,7 +42,7 @@ module _ (n N : ℕ) (b : List ℕ) where
   unfolding framed
   refuted f e = ⊎-elim (λ w. absurd (true≢false (sym (f w) ∙ e))) (λ w. rw w refl) (true-or-false (frameOk n N b))
 
-  pub frame-length : frameOk n N b ≡ true → length b ≡ 9 + numberAt 2 b 3 * (6 + 2 * (n + 1))
+  pub frame-length : frameOk n N b ≡ true → length b ≡ fileSize n (numberAt 2 b 3)
   unfolding frameOk
   frame-length t = eqb-true _ _ (and-right _ _ t)
 
@@ -55,7 +55,7 @@ module _ (n N : ℕ) (b : List ℕ) where
   frame-head r e h = refuted (λ w. and-left _ _ (and-left _ _ w)) (sym e ∙ not-true r h)
 
   module _ (L : ℕ) (e : L ≡ numberAt 2 b 3) where
-    pub frame-size : (length b ≡ 9 + L * (6 + 2 * (n + 1)) → ⊥) → Broken ≡ framed n N b
+    pub frame-size : (length b ≡ fileSize n L → ⊥) → Broken ≡ framed n N b
     unfolding frameOk
     frame-size h = refuted (λ w. and-right _ _ w) (rw (← e) (ne-eqb (length b) _ h))
 
@@ -63,11 +63,11 @@ module _ (n N : ℕ) (b : List ℕ) where
     unfolding frameOk
     frame-counts r f h = refuted (λ w. and-right _ _ (and-left _ _ w)) (rw (← e) (sym f ∙ not-true r h))
 
-    whole : (r s : Bool) → r ≡ headOk n N b → not r ≡ false → length b ≡ 9 + L * (6 + 2 * (n + 1)) → s ≡ countsOk b L → not s ≡ false → frameOk n N b ≡ true
+    whole : (r s : Bool) → r ≡ headOk n N b → not r ≡ false → length b ≡ fileSize n L → s ≡ countsOk b L → not s ≡ false → frameOk n N b ≡ true
     unfolding frameOk
     whole r s f h z g k = and-of (and-of (sym f ∙ not-false r h) (rw (← e) (sym g ∙ not-false s k))) (rw (← e) (eq-eqb (length b) _ z))
 
-    pub frame-is : (r s : Bool) → r ≡ headOk n N b → not r ≡ false → length b ≡ 9 + L * (6 + 2 * (n + 1)) → s ≡ countsOk b L → not s ≡ false
+    pub frame-is : (r s : Bool) → r ≡ headOk n N b → not r ≡ false → length b ≡ fileSize n L → s ≡ countsOk b L → not s ≡ false
         → Darts L ≡ framed n N b
     unfolding framed
     frame-is r s f h z g k = rw (whole r s f h z g k, e) refl
@@ -102,7 +102,8 @@ module _ (N : ℕ) (b : List ℕ) where
 
     pub slots-more : slotsOk N b k ≡ true → lowest b k ≤ x → x < N → slotsOk N b (k + 1) ≡ true
     unfolding slotsOk
-    slots-more t l h = all-step k _ ∙ and-of t (and-of (rw (← e) (lt-ltb x N h)) (all-of k _ (λ o g. lt-ltb (slotOf b o) (slotOf b k) (rw (← e) (omega (arith, below-lowest k t o g))))))
+    slots-more t l h = all-step k _ ∙ and-of t (and-of (rw (← e) (lt-ltb x N h))
+        (all-of k _ (λ o g. lt-ltb (slotOf b o) (slotOf b k) (rw (← e) (omega (arith, below-lowest k t o g))))))
 
 module _ (b : List ℕ) where
   -- the slot that is read at the k-th place
@@ -134,9 +135,9 @@ module _ (n N : ℕ) (b : List ℕ) where
   unfolding fileForm frameOk headOk countsOk slotsOk slotOf
   form-is =
       ap₂ (λ (g : ℕ) (f : ℕ → ℕ). eqb g n and eqb (f 1) N and eqb (f (5 + 2 * f 3)) (f 3) and eqb (f (7 + 6 * f 3)) (f 3)
-      and eqb (length b) (9 + f 3 * (6 + 2 * (n + 1))) and allBelow (f 3) (λ k. ltb (f (5 + 2 * k)) N and allBelow k (λ o. ltb (f (5 + 2 * o)) (f (5 + 2 * k)))))
+      and eqb (length b) (fileSize n (f 3)) and allBelow (f 3) (λ k. ltb (f (5 + 2 * k)) N and allBelow k (λ o. ltb (f (5 + 2 * o)) (f (5 + 2 * k)))))
       (sym (one-at b)) (λ i at. sym (two-at b at) i)
-      ∙ ap (λ (t : Bool). t and eqb (length b) (9 + numberAt 2 b 3 * (6 + 2 * (n + 1))) and slotsOk N b (numberAt 2 b 3)) (and-assoc _ _ _)
+      ∙ ap (λ (t : Bool). t and eqb (length b) (fileSize n (numberAt 2 b 3)) and slotsOk N b (numberAt 2 b 3)) (and-assoc _ _ _)
 
   module _ (t : (frameOk n N b and slotsOk N b (numberAt 2 b 3)) ≡ true) where
     pub formed : Formed n N b

@@ -1,8 +1,8 @@
 -- The records of a file's darts as they are entered into a table.
 -- Assumes nothing.
 use Prim.Native.Nat.{ℕ, zero, suc, _+_, _*_, _≤_, _<_}
-use mathlib.Core.Path.{_≡_, refl, ap₂, _∙_}
-use mathlib.Core.Logic.{inl, inr, ⊎-elim}
+use mathlib.Core.Path.{_≡_, refl, sym, ap, ap₂, _∙_}
+use mathlib.Core.Logic.{⊎-elim}
 use mathlib.Core.List.{List}
 use native.Mathlib.Nat.{mul-le-mul-left}
 use native.Mathlib.Omega.{arith}
@@ -10,13 +10,15 @@ use lib.ListN.{length}
 use borrow.Author.Tests.{le-leb}
 use Rattle.base.specs.Digits.{numberAt}
 use Rattle.base.proofs.BelowLaws.{below-suc}
-use Rattle.table.specs.Words.{Sized, wordAt, put}
-use Rattle.table.proofs.WordLaws.{put-same, put-other, put-sized}
+use Rattle.model.specs.Map.{Field, State, Link, Tag, dimension, fieldAt, put}
+use Rattle.model.proofs.MapLaws.{state-not-tag, state-not-link, tag-not-link, put-same, put-other}
+use Rattle.table.specs.Words.{Sized}
+use Rattle.table.proofs.WordLaws.{put-sized}
 use Rattle.file.specs.Form.{slotOf}
 use Rattle.file.specs.Records.{Formed, linkWord, linkPlace, tagPlace, rowOf, putRow, putLinks}
 
-pub put-number : (t : List ℕ) (x c : ℕ) {v w : ℕ} (t' : List ℕ) → t' ≡ put t x c v → v ≡ w → t' ≡ put t x c w
-put-number t x c t' e f = rw (← f) e
+pub put-number : (t : List ℕ) (f : Field) (x : ℕ) {v w : ℕ} (t' : List ℕ) → t' ≡ put t f x v → v ≡ w → t' ≡ put t f x w
+put-number t f x t' e h = rw (← h) e
 
 -- ---- the links of a dart
 
@@ -28,7 +30,7 @@ pub record Linked (n : ℕ) (b : List ℕ) (at x : ℕ) (t : List ℕ) (k : ℕ)
 pub links-sized : (N : ℕ) (t : List ℕ) (x : ℕ) (g : ℕ → ℕ) (k : ℕ) → Sized N t → Sized N (putLinks t x g k)
 unfolding putLinks
 links-sized N t x g zero s = s
-links-sized N t x g (suc k) s = put-sized (putLinks t x g k) x (suc k) (g k) N (links-sized N t x g k s)
+links-sized N t x g (suc k) s = put-sized (putLinks t x g k) (Link k) x (g k) N (links-sized N t x g k s)
 
 module _ (n : ℕ) (b : List ℕ) (at x : ℕ) (t : List ℕ) where
   pub link-start : Linked n b at x t 0 t at
@@ -36,7 +38,7 @@ module _ (n : ℕ) (b : List ℕ) (at x : ℕ) (t : List ℕ) where
   link-start = record { words = refl; place = omega arith }
 
   module _ (k : ℕ) (t' : List ℕ) (p : ℕ) (u : Linked n b at x t k t' p) where
-    pub link-step : (t'' : List ℕ) (q : ℕ) → k ≤ n → t'' ≡ put t' x (suc k) (numberAt 2 b p) → q ≡ p + 2 → Linked n b at x t (suc k) t'' q
+    pub link-step : (t'' : List ℕ) (q : ℕ) → k ≤ n → t'' ≡ put t' (Link k) x (numberAt 2 b p) → q ≡ p + 2 → Linked n b at x t (suc k) t'' q
     unfolding putLinks linkWord
     link-step t'' q h e f = record {
       words = rw (le-leb k n h, ← u .place, ← u .words) e;
@@ -47,36 +49,53 @@ module _ (n : ℕ) (b : List ℕ) (at x : ℕ) (t : List ℕ) where
     linked-sized N s = rw (u .words) (links-sized N t x (linkWord n b at x) k s)
 
   -- with n = 2 the last link is x itself
-  pub link-flat : (t' t'' : List ℕ) (p : ℕ) → n ≡ 2 → Linked n b at x t 3 t' p → t'' ≡ put t' x 4 x → t'' ≡ putLinks t x (linkWord n b at x) 4
+  pub link-flat : (t' t'' : List ℕ) (p : ℕ) → n ≡ 2 → Linked n b at x t 3 t' p → t'' ≡ put t' (Link 3) x x → t'' ≡ putLinks t x (linkWord n b at x) 4
   unfolding putLinks linkWord
-  link-flat t' t'' p e u f = f ∙ ap₂ (λ (l : List ℕ) (v : ℕ). put l x 4 v) (u .words) (rw e refl)
+  link-flat t' t'' p e u f = f ∙ ap₂ (λ (l : List ℕ) (v : ℕ). put l (Link 3) x v) (u .words) (rw e refl)
 
 -- ---- a record
 
-module _ (t : List ℕ) (x : ℕ) (f : ℕ → ℕ) where
-  pub row-sized : (N k : ℕ) → Sized N t → Sized N (putRow t x f k)
-  unfolding putRow
-  row-sized N zero s = s
-  row-sized N (suc k) s = put-sized (putRow t x f k) x k (f k) N (row-sized N k s)
+module _ (t : List ℕ) (x : ℕ) (g : ℕ → ℕ) where
+  -- a word of another slot, or one that is no link
+  links-leave : (k : ℕ) → k ≤ 4 → (y : ℕ) (f : Field) → (y ≡ x → (i : ℕ) → f ≡ Link i → ⊥) → fieldAt (putLinks t x g k) f y ≡ fieldAt t f y
+  unfolding putLinks
+  links-leave zero h y f off = refl
+  links-leave (suc k) h y f off = put-other (putLinks t x g k) (Link k) x (g k) (omega arith) f y (λ e. off e k) ∙ links-leave k (omega arith) y f off
 
-  pub row-other : (k y d : ℕ) → k ≤ 6 → d < 6 → (y ≡ x → ⊥) → wordAt (putRow t x f k) y d ≡ wordAt t y d
-  unfolding putRow
-  row-other zero y d h l ne = refl
-  row-other (suc k) y d h l ne = put-other (putRow t x f k) x k (f k) y d h l (inl ne) ∙ row-other k y d (omega arith) l ne
-
-  pub row-same : (N k c : ℕ) → Sized N t → x < N → k ≤ 6 → c < k → wordAt (putRow t x f k) x c ≡ f c
-  unfolding putRow
-  row-same N zero c s b h l = absurd (omega arith)
-  row-same N (suc k) c s b h l =
-      ⊎-elim
-      (λ e. rw e (put-same (putRow t x f k) x k (f k) (omega (arith, row-sized N k s .long))))
-      (λ w. put-other (putRow t x f k) x k (f k) x c h (omega arith) (inr (λ e. omega arith)) ∙ row-same N k c s b (omega arith) w)
+  links-same : (N : ℕ) → Sized N t → x < N → (k i : ℕ) → k ≤ 4 → i < k → fieldAt (putLinks t x g k) (Link i) x ≡ g i
+  unfolding putLinks
+  links-same N s b zero i h l = absurd (omega arith)
+  links-same N s b (suc k) i h l = ⊎-elim
+      (λ e. rw e (put-same (putLinks t x g k) (Link k) x (g k) (omega arith) N (links-sized N t x g k s .long) b))
+      (λ w. put-other (putLinks t x g k) (Link k) x (g k) (omega arith) (Link i) x (λ p q. let z : i ≡ k = ap dimension q in omega arith)
+      ∙ links-same N s b k i (omega arith) w)
       (below-suc l)
 
--- the six words of the k-th dart, as they are put
-pub entered : (n : ℕ) (b : List ℕ) (k x v at tagged : ℕ) (t t1 t2 t3 : List ℕ) → x ≡ slotOf b k → at ≡ linkPlace n b k → v ≡ numberAt 4 b tagged → tagged ≡ tagPlace b k
-    → t1 ≡ put t x 0 1 → t2 ≡ putLinks t1 x (linkWord n b at x) 4 → t3 ≡ put t2 x 5 v → t3 ≡ putRow t (slotOf b k) (rowOf n b k) 6
-unfolding putRow putLinks rowOf
+module _ (t : List ℕ) (x : ℕ) (g : Field → ℕ) where
+  pub row-sized : (N : ℕ) → Sized N t → Sized N (putRow t x g)
+  unfolding putRow
+  row-sized N s = put-sized _ Tag x (g Tag) N (links-sized N _ x _ 4 (put-sized t State x (g State) N s))
+
+  pub row-other : (y : ℕ) (f : Field) → (y ≡ x → ⊥) → fieldAt (putRow t x g) f y ≡ fieldAt t f y
+  unfolding putRow
+  row-other y f ne = put-other _ Tag x (g Tag) (omega arith) f y (λ e q. ne e)
+      ∙ links-leave _ x _ 4 (omega arith) y f (λ e i q. ne e)
+      ∙ put-other t State x (g State) (omega arith) f y (λ e q. ne e)
+
+  pub row-same : (N : ℕ) → Sized N t → x < N → (f : Field) → dimension f ≤ 3 → fieldAt (putRow t x g) f x ≡ g f
+  unfolding putRow
+  row-same N s h State l = put-other _ Tag x (g Tag) (omega arith) State x (λ e. state-not-tag)
+      ∙ links-leave _ x _ 4 (omega arith) x State (λ e i. state-not-link)
+      ∙ put-same t State x (g State) (omega arith) N (s .long) h
+  row-same N s h (Link i) l = put-other _ Tag x (g Tag) (omega arith) (Link i) x (λ e q. tag-not-link (sym q))
+      ∙ links-same _ x _ N (put-sized t State x (g State) N s) h 4 i (omega arith) (omega arith)
+  row-same N s h Tag l = put-same _ Tag x (g Tag) (omega arith) N (links-sized N _ x _ 4 (put-sized t State x (g State) N s) .long) h
+
+-- the words of the k-th dart, as they are put
+pub entered : (n : ℕ) (b : List ℕ) (k x v at tagged : ℕ) (t t1 t2 t3 : List ℕ)
+    → x ≡ slotOf b k → at ≡ linkPlace n b k → v ≡ numberAt 4 b tagged → tagged ≡ tagPlace b k
+    → t1 ≡ put t State x 1 → t2 ≡ putLinks t1 x (linkWord n b at x) 4 → t3 ≡ put t2 Tag x v → t3 ≡ putRow t (slotOf b k) (rowOf n b k)
+unfolding putRow rowOf
 entered n b k x v at tagged t t1 t2 t3 e f g h p q r = rw (r, q, p, g, h, f, e) refl
 
 -- the links of a dart stand within the bytes, and its slot is below the number of slots

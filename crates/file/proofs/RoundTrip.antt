@@ -6,20 +6,18 @@ use mathlib.Core.Path.{_≡_, refl, sym, ap, _∙_}
 use mathlib.Core.Logic.{_⊎_, ⊎-elim}
 use mathlib.Core.Bool.{true, false, cond, true≢false}
 use mathlib.Core.Option.{none, some}
-use mathlib.Core.List.{List, [], _∷_}
+use mathlib.Core.List.{List}
 use native.Mathlib.Nat.{eq-or-lt-of-le}
 use native.Mathlib.Omega.{arith}
-use lib.ListN.{getD, replicate}
+use lib.ListN.{getD}
 use lib.Dec.{ltb, leb}
 use borrow.Author.Tests.{eqb-true, eq-eqb, ne-eqb, ltb-true, ltb-false, lt-ltb, leb-true, leb-false}
 use Rattle.base.specs.Below.{countBelow}
-use Rattle.base.specs.Lists.{joined}
 use Rattle.base.specs.Digits.{numberAt}
 use Rattle.base.proofs.TestLaws.{and-of, true-or-false}
 use Rattle.base.proofs.BelowLaws.{all-of, count-lt, count-reaches}
 use Rattle.base.proofs.FirstLaws.{some-not-none, least-only, least-none-of}
-use Rattle.base.proofs.ListLaws.{joined-same}
-use Rattle.model.specs.Map.{Map, live, recordOf, tableOf, maxSlots}
+use Rattle.model.specs.Map.{Map, Field, State, Link, Tag, fieldOf, dimension, live, maxSlots}
 use Rattle.model.specs.WellFormed.{WellFormed}
 use Rattle.model.specs.File.{liveDarts, file, placeOf, fileForm, fileMap}
 use Rattle.table.proofs.SlotLaws.{two-le}
@@ -105,28 +103,21 @@ module _ (n : ℕ) (m : Map) (h : n < 256) (few : m .slots ≤ maxSlots) where
         rw (t, three) (slot-back n m h x g e (omega arith) ∙ sym (w .flat two x g e)))
         (true-or-false (leb i n)))
 
-    live-record : (x : ℕ) → x < m .slots → m .state x ≡ 1 → recordOf (fileMap n (m .slots) b) x ≡ recordOf m x
+    live-record : (x : ℕ) → x < m .slots → m .state x ≡ 1 → (f : Field) → dimension f ≤ 3 → rowOf n b (countBelow x (live m)) f ≡ fieldOf m f x
     unfolding rowOf tagPlace
-    live-record x g e =
-        let c : ℕ = countBelow x (live m) in
-        let slot : slotOf b c ≡ x = slot-back n m h x g e (omega arith) in
-        let tag : numberAt 4 b (tagPlace b c) ≡ m .tag x
-        = ap (λ (L : ℕ). numberAt 4 b (7 + 2 * L + 4 * c)) darts-read ∙ tag-back n m h x g e (tags x g e) in
-        let link : (i : ℕ) → i ≤ 3 → linkWord n b (linkPlace n b c) (slotOf b c) i ≡ m .link i x = link-read x g e in
-        record-is n (m .slots) b x (some c) (place-live x g e) (λ k q. let z : c ≡ k = cc in ap (slotOf b) (sym z) ∙ slot)
-        ∙ (λ i. sym e i ∷ link 0 (omega arith) i ∷ link 1 (omega arith) i ∷ link 2 (omega arith) i ∷ link 3 (omega arith) i ∷ tag i ∷ [])
+    live-record x g e State l = sym e
+    live-record x g e (Link i) l = link-read x g e i l
+    live-record x g e Tag l = ap (λ (L : ℕ). numberAt 4 b (7 + 2 * L + 4 * countBelow x (live m))) darts-read ∙ tag-back n m h x g e (tags x g e)
 
     -- written and read again, a map has its live records, and zeros in all others
-    pub read-back : (x : ℕ) → x < m .slots → recordOf (fileMap n (m .slots) b) x ≡ cond (live m x) (recordOf m x) (replicate 6 0)
-    read-back x g = ⊎-elim
-        (λ (t : live m x ≡ true). rw t (live-record x g (eqb-true (m .state x) 1 t)))
-        (λ (t : live m x ≡ false). rw t (record-is n (m .slots) b x none (place-unused x t) (λ k q. absurd (some-not-none q refl))))
+    pub read-back : (f : Field) (x : ℕ) → dimension f ≤ 3 → x < m .slots → fieldOf (fileMap n (m .slots) b) f x ≡ cond (live m x) (fieldOf m f x) 0
+    read-back f x l g = ⊎-elim
+        (λ (t : live m x ≡ true). let e = eqb-true (m .state x) 1 t in
+        rw t (record-is n (m .slots) b x (some (countBelow x (live m))) (place-live x g e)
+        (λ k q. let z : countBelow x (live m) ≡ k = cc in ap (slotOf b) (sym z) ∙ slot-back n m h x g e (omega arith)) f
+        ∙ live-record x g e f l))
+        (λ (t : live m x ≡ false). rw t (record-is n (m .slots) b x none (place-unused x t) (λ k q. absurd (some-not-none q refl)) f))
         (true-or-false (live m x))
-
-    -- the table that is read
-    pub read-back-table : tableOf (fileMap n (m .slots) b) ≡ joined (m .slots) (λ x. cond (live m x) (recordOf m x) (replicate 6 0))
-    unfolding tableOf fileMap
-    read-back-table = joined-same (m .slots) _ _ read-back
 
 -- ---- read, then written
 

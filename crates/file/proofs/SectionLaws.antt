@@ -17,6 +17,7 @@ use Rattle.base.proofs.DigitLaws.{length-bytes}
 use Rattle.model.specs.Map.{Map, live}
 use Rattle.model.specs.File.{twoBytes, fourBytes, liveDarts, section, file}
 use Rattle.cursor.specs.Places.{Put}
+use Rattle.file.specs.Form.{fileSize}
 use Rattle.file.specs.Sections.{linkBytes, partBytes, partSize, dartsBytes, sectionBytes, headBytes}
 use Rattle.file.specs.declared.sections.Part.{Part}
 use Rattle.file.specs.declared.sections.Part.the-variants.{Slots, Tags, Links}
@@ -118,7 +119,8 @@ few-live n m k e = rw e (count-le (m .slots) (live m))
 
 pub length-section : (n : ℕ) (m : Map) (part : Part) → length (sectionBytes n m part) ≡ 2 + partSize n part * liveDarts m
 unfolding sectionBytes section liveDarts
-length-section n m part = ap (λ (k : ℕ). suc (suc k)) (length-chosen (partSize n part) (live m) (partBytes n m part) (length-part n m part) (m .slots)) ∙ omega arith
+length-section n m part = ap (λ (k : ℕ). suc (suc k)) (length-chosen (partSize n part) (live m) (partBytes n m part) (length-part n m part) (m .slots))
+    ∙ omega arith
 
 -- ---- a file
 
@@ -150,7 +152,7 @@ module _ (n : ℕ) (m : Map) (h : n < 256) where
       ++ section m (λ x. joined (suc n) (λ i. twoBytes (m .link i x)))) (sym e) tags
 
   -- the length of a map file
-  pub length-file : length (file n m) ≡ 9 + liveDarts m * (6 + 2 * (n + 1))
+  pub length-file : length (file n m) ≡ fileSize n (liveDarts m)
   unfolding partSize headBytes bytesOf
   length-file =
       rw (file-parts, length-append, length-append, length-append, length-section, length-section, length-section) (omega arith)

@@ -17,9 +17,13 @@ headOk n N b = eqb (numberAt 1 b 0) n and eqb (numberAt 2 b 1) N
 unfoldable pub countsOk : List ℕ → ℕ → Bool
 countsOk b L = eqb (numberAt 2 b (5 + 2 * L)) L and eqb (numberAt 2 b (7 + 6 * L)) L
 
+-- how many bytes a file of L darts has
+abbrev pub fileSize : ℕ → ℕ → ℕ
+fileSize n L = 9 + L * (6 + 2 * (n + 1))
+
 -- all but the slots of the darts
 unfoldable pub frameOk : ℕ → ℕ → List ℕ → Bool
-frameOk n N b = headOk n N b and countsOk b (numberAt 2 b 3) and eqb (length b) (9 + numberAt 2 b 3 * (6 + 2 * (n + 1)))
+frameOk n N b = headOk n N b and countsOk b (numberAt 2 b 3) and eqb (length b) (fileSize n (numberAt 2 b 3))
 
 unfoldable pub framed : ℕ → ℕ → List ℕ → Framing
 framed n N b = cond (frameOk n N b) (Darts (numberAt 2 b 3)) Broken

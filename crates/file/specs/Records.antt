@@ -5,18 +5,17 @@ use mathlib.Core.Path.{_≡_}
 use mathlib.Core.Bool.{cond}
 use mathlib.Core.List.{List}
 use lib.ListN.{length}
-use lib.Dec.{eqb, ltb, leb}
+use lib.Dec.{eqb, leb}
 use Rattle.base.specs.First.{least}
 use Rattle.base.specs.Digits.{numberAt}
 use Rattle.model.specs.File.{atPlace, fileForm, fileMap}
-use Rattle.model.specs.Map.{tableOf}
+use Rattle.model.specs.Map.{Field, State, Link, Tag, put, tableOf}
 use Rattle.model.specs.Calls.{zeros}
-use Rattle.table.specs.Words.{put}
-use Rattle.file.specs.Form.{slotOf}
+use Rattle.file.specs.Form.{fileSize, slotOf}
 
 -- what the form says of the darts
 pub record Formed (n N : ℕ) (b : List ℕ) : Type 0 where
-  pub size : length b ≡ 9 + numberAt 2 b 3 * (6 + 2 * (n + 1))
+  pub size : length b ≡ fileSize n (numberAt 2 b 3)
   pub below : (k : ℕ) → k < numberAt 2 b 3 → slotOf b k < N
   pub ascends : (j k : ℕ) → j < k → k < numberAt 2 b 3 → slotOf b j < slotOf b k
 
@@ -31,24 +30,24 @@ linkPlace n b k = 9 + 6 * numberAt 2 b 3 + 2 * ((n + 1) * k)
 unfoldable pub tagPlace : List ℕ → ℕ → ℕ
 tagPlace b k = 7 + 2 * numberAt 2 b 3 + 4 * k
 
--- the word of the k-th dart in column c
-unfoldable pub rowOf : ℕ → List ℕ → ℕ → ℕ → ℕ
-rowOf n b k zero = 1
-rowOf n b k (suc i) = cond (ltb i 4) (linkWord n b (linkPlace n b k) (slotOf b k) i) (numberAt 4 b (tagPlace b k))
-
--- t with f c as the word of x in each column c below k
-unfoldable pub putRow : List ℕ → ℕ → (ℕ → ℕ) → ℕ → List ℕ
-putRow t x f zero = t
-putRow t x f (suc k) = put (putRow t x f k) x k (f k)
+-- the words of the k-th dart
+unfoldable pub rowOf : ℕ → List ℕ → ℕ → Field → ℕ
+rowOf n b k State = 1
+rowOf n b k (Link i) = linkWord n b (linkPlace n b k) (slotOf b k) i
+rowOf n b k Tag = numberAt 4 b (tagPlace b k)
 
 -- t with g 0 to g (k - 1) as the first k links of x
 unfoldable pub putLinks : List ℕ → ℕ → (ℕ → ℕ) → ℕ → List ℕ
 putLinks t x g zero = t
-putLinks t x g (suc k) = put (putLinks t x g k) x (suc k) (g k)
+putLinks t x g (suc k) = put (putLinks t x g k) (Link k) x (g k)
 
--- the word of x in column c once the first k darts of the file are entered
-unfoldable pub wordOf : ℕ → List ℕ → ℕ → ℕ → ℕ → ℕ
-wordOf n b k x c = atPlace (least k (λ o. eqb (slotOf b o) x)) (λ o. rowOf n b o c)
+-- t with g f as each word f of x
+unfoldable pub putRow : List ℕ → ℕ → (Field → ℕ) → List ℕ
+putRow t x g = put (putLinks (put t State x (g State)) x (λ i. g (Link i)) 4) Tag x (g Tag)
+
+-- a word of x once the first k darts of the file are entered
+unfoldable pub wordOf : ℕ → List ℕ → ℕ → ℕ → Field → ℕ
+wordOf n b k x f = atPlace (least k (λ o. eqb (slotOf b o) x)) (λ o. rowOf n b o f)
 
 -- what a load leaves in the table t
 unfoldable pub loaded : ℕ → ℕ → List ℕ → List ℕ → List ℕ

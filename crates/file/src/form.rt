@@ -1,4 +1,5 @@
 // Whether bytes are a file for n and a number of slots: the frame, and that the slots ascend.
+use crate::size;
 use cursor::Cursor;
 ghost use mathlib.Core.Path.{_≡_};
 ghost use Prim.Native.Nat.{_+_, _*_, _≤_};
@@ -54,7 +55,7 @@ pub fn frame(n: u32, slots: usize, b: &[u8]) -> Framing
     let place = Cursor { at: 3 };
     let first = place.two(b);
     let darts = first.value as usize;
-    if b.len() != 9 + darts * (6 + 2 * (n as usize + 1)) {
+    if b.len() != size(n, darts) {
         return Framing::Broken;
     }
     if !counts(b, darts) {

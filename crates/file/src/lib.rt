@@ -3,6 +3,7 @@ mod form;
 mod records;
 mod sections;
 
+use base::clear;
 use form::Framing;
 use form::ascending;
 use form::frame;
@@ -10,16 +11,24 @@ use records::fill;
 use sections::Part;
 use sections::head;
 use sections::section;
-use table::words::clear;
 ghost use mathlib.Core.Path.{_≡_};
 ghost use mathlib.Core.Logic.{_⊎_};
 ghost use mathlib.Core.List.{_++_};
-ghost use Prim.Native.Nat.{_≤_};
+ghost use Prim.Native.Nat.{_^_, _≤_, _<_};
 ghost use lib.ListN.{length, drop};
 ghost use Rattle.model.specs.Map.{view};
 ghost use Rattle.model.specs.File.{liveDarts, file, fileForm};
 ghost use Rattle.table.specs.Words.{Sized};
+ghost use Rattle.file.specs.Form.{fileSize};
 ghost use Rattle.file.specs.Records.{loaded};
+
+// How many bytes the file of a map with so many live darts has.
+pub fn size(n: u32, darts: usize) -> usize
+    requires { ⌜ (n ≤ 3) × (darts ≤ 65535) ⌝ }
+    ensures { λ r. ⌜ (r ≡ fileSize n darts) × (r < 2 ^ 32) ⌝ }
+{
+    9 + darts * (6 + 2 * (n as usize + 1))
+}
 
 // The darts of a file in a table, all other records zero; or a table of zeros, where the bytes are no file for n and the number of slots.
 pub fn load(n: u32, slots: usize, table: &mut [u32], bytes: &[u8]) -> bool

@@ -1,20 +1,21 @@
 -- Refusals 1 and 7, test by test.
 -- Assumes nothing.
-use Prim.Native.Nat.{ℕ, _*_, _≤_, _<_}
+use Prim.Native.Nat.{ℕ, _≤_, _<_}
 use mathlib.Core.Path.{_≡_}
-use mathlib.Core.Logic.{_⊎_, inl, inr, ⊎-elim}
+use mathlib.Core.Logic.{_⊎_, ⊎-elim}
 use mathlib.Core.Bool.{true, false}
 use mathlib.Core.List.{List}
 use lib.ListN.{length}
 use lib.Dec.{eqb}
-use borrow.Author.Tests.{eqb-true, eq-eqb, ne-eqb, leb-true, le-leb, lt-leb}
+use borrow.Author.Tests.{eq-eqb, ne-eqb, le-leb, lt-leb}
 use Rattle.base.specs.Test.{_and_, _or_}
 use Rattle.base.specs.First.{someIf, _orElse_}
-use Rattle.model.specs.Map.{view}
+use Rattle.model.specs.Map.{tableSize, view, maxSlots}
 use Rattle.model.specs.WellFormed.{wellFormed}
-use Rattle.model.specs.Calls.{sizesOk, tableFault, checkTable}
+use Rattle.model.specs.Calls.{sizesOk, mapFault, tableFault, checkTable}
 use Rattle.model.specs.declared.Answer.the-variants.{Done, BadCall, BadTable}
-use Rattle.base.proofs.TestLaws.{and-left, and-right, or-cases, or-left, or-right, true-or-false}
+use Rattle.base.proofs.TestLaws.{or-left, or-right, true-or-false}
+use Rattle.model.proofs.SizeLaws.{sizes-iff}
 use Rattle.table.specs.Words.{Sized}
 use Rattle.word.specs.Word.{Small}
 
@@ -31,30 +32,27 @@ module _ (n N : ℕ) (t : List ℕ) where
     unfolding _and_
     no-slot h = rw (known, lt-leb 1 N h)
 
-    pub many-slots : 1 ≤ N → 1024 < N → false ≡ sizesOk n N t
+    pub many-slots : 1 ≤ N → maxSlots < N → false ≡ sizesOk n N t
     unfolding _and_
-    many-slots g h = rw (known, le-leb 1 N g, lt-leb N 1024 h)
+    many-slots g h = rw (known, le-leb 1 N g, lt-leb N maxSlots h)
 
-    pub length-is : 1 ≤ N → N ≤ 1024 → eqb (length t) (6 * N) ≡ sizesOk n N t
+    pub length-is : 1 ≤ N → N ≤ maxSlots → (size : ℕ) → size ≡ tableSize N → eqb (length t) size ≡ sizesOk n N t
     unfolding _and_
-    length-is g h = rw (known, le-leb 1 N g, le-leb N 1024 h)
+    length-is g h size e = rw (known, le-leb 1 N g, le-leb N maxSlots h, e)
 
   pub sizes-read : sizesOk n N t ≡ true → ((n ≡ 2) ⊎ (n ≡ 3)) × Sized N t
-  sizes-read e = (
-    ⊎-elim (λ w. inl (eqb-true n 2 w)) (λ w. inr (eqb-true n 3 w)) (or-cases (eqb n 2) (eqb n 3) (and-left _ _ (and-left _ _ (and-left _ _ e)))),
-    record { few = leb-true _ _ (and-right _ _ (and-left _ _ e)); long = eqb-true _ _ (and-right _ _ e) },
-  )
+  sizes-read e = let s = sizes-iff n N t .0 e in (s .dimension, record { few = s .few; long = s .long })
 
   pub is-1 : sizesOk n N t ≡ false → BadCall ≡ checkTable n N t
-  unfolding checkTable tableFault someIf _orElse_
+  unfolding checkTable tableFault mapFault someIf _orElse_
   is-1 e = rw e
 
   pub is-7 : sizesOk n N t ≡ true → wellFormed n (view N t) ≡ false → BadTable ≡ checkTable n N t
-  unfolding checkTable tableFault someIf _orElse_
+  unfolding checkTable tableFault mapFault someIf _orElse_
   is-7 e w = rw (e, w)
 
   pub is-0 : sizesOk n N t ≡ true → wellFormed n (view N t) ≡ true → Done ≡ checkTable n N t
-  unfolding checkTable tableFault someIf _orElse_
+  unfolding checkTable tableFault mapFault someIf _orElse_
   is-0 e w = rw (e, w)
 
   pub check-small : Small (checkTable n N t)

@@ -7,9 +7,9 @@ use mathlib.Core.List.{List}
 use native.Mathlib.Omega.{arith}
 use lib.ListN.{length}
 use Rattle.model.specs.Answer.{number, values, Answers}
-use Rattle.model.specs.Calls.{tableFault, checkTable, bytesFault, checkScheme, editFault, editAnswer, editTable, editStore, readFault, readAnswer, readTable, writeFault, writeAnswer, writeOut}
+use Rattle.model.specs.Calls.{tableFault, checkTable, bytesFault, checkScheme, siteDone, editFault, editAnswer, editTable, editStore}
+use Rattle.model.specs.Calls.{readFault, readAnswer, readTable, writeFault, writeAnswer, writeOut}
 use Rattle.model.specs.declared.Answer.{Answer}
-use Rattle.model.specs.declared.Answer.the-variants.{Done}
 use Rattle.demands.specs.Kernel.{Kernel, Refines}
 use Rattle.demands.specs.Ours.{ours}
 use Rattle.demands.specs.Demands.{Demand1, Demand2, Demand3}
@@ -57,7 +57,7 @@ unfolding checkScheme
 scheme-length b = done-length (bytesFault b) _ (bytes-within b) (omega arith)
 
 pub edit-length : (n N : ℕ) (t store b : List ℕ) (d : ℕ) → number (editAnswer n N t store b d) ≡ 0 → length (values (editAnswer n N t store b d)) ≡ 3
-unfolding editAnswer
+unfolding editAnswer siteDone
 edit-length n N t store b d = done-length (editFault n N t store b d) _ (edit-within n N t store b d) (omega arith)
 
 pub read-length : (n N : ℕ) (t b : List ℕ) → number (readAnswer n N t b) ≡ 0 → length (values (readAnswer n N t b)) ≡ 0
@@ -88,7 +88,10 @@ exported = record {
   Edit = SeenEdit;
   Read = SeenRead;
   Write = SeenWrite;
-  checksTable = λ n N t. (checkTable n N t, record { word = packed (checkTable n N t); promised = refl; answer = unpacks 0 _ (check-small n N t) (table-length n N t) });
+  checksTable = λ n N t. (
+    checkTable n N t,
+    record { word = packed (checkTable n N t); promised = refl; answer = unpacks 0 _ (check-small n N t) (table-length n N t) },
+  );
   checksScheme = λ b. (checkScheme b, record { word = packed (checkScheme b); promised = refl; answer = unpacks 0 _ (scheme-small b) (scheme-length b) });
   edits = λ n N t store b d. (
     editAnswer n N t store b d,

@@ -20,11 +20,13 @@ use Rattle.base.proofs.BelowLaws.{count-le}
 use Rattle.model.specs.Map.{view, tableOf, live}
 use Rattle.model.specs.WellFormed.{wellFormed}
 use Rattle.model.specs.File.{liveDarts, file, fileForm, fileMap}
-use Rattle.model.specs.Calls.{zeros, sizesOk, tableFault, readFault, readAnswer, readTable, writeFault, writeAnswer, writeOut}
+use Rattle.model.specs.Calls.{zeros, sizesOk, mapFault, tableFault, readFaultAt, readFault, readAnswer, readTable}
+use Rattle.model.specs.Calls.{writeFaultAt, writeFault, writeAnswer, writeOut}
 use Rattle.model.specs.declared.Answer.the-variants.{Done, Written, BadCall, BadTable, BadFile, ShortOutput}
 use Rattle.model.proofs.MapLaws.{length-words}
 use Rattle.model.proofs.AlikeLaws.{words-formed}
 use Rattle.table.specs.Words.{Sized}
+use Rattle.file.specs.Form.{fileSize}
 use Rattle.file.specs.Records.{loaded}
 use Rattle.file.proofs.FormLaws.{three-le}
 use Rattle.file.proofs.SectionLaws.{length-file}
@@ -35,12 +37,12 @@ use Rattle.kernel.proofs.CallLaws.{sizes-read}
 
 module _ (n N : ℕ) (t b : List ℕ) where
   pub read-1 : sizesOk n N t ≡ false → (BadCall ≡ readAnswer n N t b) × (t ≡ readTable n N t b)
-  unfolding readAnswer readTable readFault someIf _orElse_
+  unfolding readAnswer readTable readFault readFaultAt someIf _orElse_
   read-1 e = (rw e refl, rw e refl)
 
   module _ (s : sizesOk n N t ≡ true) where
     pub read-11 : (t' : List ℕ) → fileForm n N b ≡ false → t' ≡ loaded n N t b → (BadFile ≡ readAnswer n N t b) × (t' ≡ readTable n N t b)
-    unfolding readAnswer readTable readFault someIf _orElse_ there loaded
+    unfolding readAnswer readTable readFault readFaultAt someIf _orElse_ there loaded
     read-11 t' f e = (rw (s, f) refl, e ∙ rw (s, f) refl)
 
     module _ (t₁ : List ℕ) (f : fileForm n N b ≡ true) (e : t₁ ≡ loaded n N t b) where
@@ -61,15 +63,15 @@ module _ (n N : ℕ) (t b : List ℕ) where
       well-is = ap (λ (l : List ℕ). wellFormed n (view N l)) filled ∙ words-formed n (fileMap n N b) (three-le (sizes-read n N t s .0))
 
       pub read-7 : (t' : List ℕ) → wellFormed n (view N t₁) ≡ false → t' ≡ zeros t₁ → (BadTable ≡ readAnswer n N t b) × (t' ≡ readTable n N t b)
-      unfolding readAnswer readTable readFault someIf _orElse_ there
+      unfolding readAnswer readTable readFault readFaultAt someIf _orElse_ there
       read-7 t' w z = let v = sym well-is ∙ w in (rw (s, f, v) refl, z ∙ ap (λ (k : ℕ). replicate k 0) same-length ∙ rw (s, f, v) refl)
 
       pub read-0 : wellFormed n (view N t₁) ≡ true → (Done ≡ readAnswer n N t b) × (t₁ ≡ readTable n N t b)
-      unfolding readAnswer readTable readFault someIf _orElse_ there
+      unfolding readAnswer readTable readFault readFaultAt someIf _orElse_ there
       read-0 w = let v = sym well-is ∙ w in (rw (s, f, v) refl, filled ∙ rw (s, f, v) refl)
 
   pub read-small : Small (readAnswer n N t b)
-  unfolding readAnswer readFault someIf _orElse_
+  unfolding readAnswer readFault readFaultAt someIf _orElse_
   read-small = ⊎-elim
       (λ (s : sizesOk n N t ≡ true). ⊎-elim
       (λ (f : fileForm n N b ≡ true). ⊎-elim
@@ -85,50 +87,46 @@ module _ (n N : ℕ) (t b : List ℕ) where
 
 module _ (n N : ℕ) (t out : List ℕ) where
   pub write-1 : sizesOk n N t ≡ false → (BadCall ≡ writeAnswer n N t out) × (out ≡ writeOut n N t out)
-  unfolding writeAnswer writeOut writeFault tableFault someIf _orElse_ there
+  unfolding writeAnswer writeOut writeFault writeFaultAt tableFault mapFault someIf _orElse_ there
   write-1 e = (rw e refl, rw e refl)
 
   module _ (s : sizesOk n N t ≡ true) where
     pub write-7 : wellFormed n (view N t) ≡ false → (BadTable ≡ writeAnswer n N t out) × (out ≡ writeOut n N t out)
-    unfolding writeAnswer writeOut writeFault tableFault someIf _orElse_ there
+    unfolding writeAnswer writeOut writeFault writeFaultAt tableFault mapFault someIf _orElse_ there
     write-7 w = (rw (s, w) refl, rw (s, w) refl)
 
     module _ (k : ℕ) (e : k ≡ countBelow N (live (view N t))) where
-      write-size : 9 + k * (6 + 2 * (n + 1)) ≡ length (file n (view N t))
-      unfolding liveDarts
-      write-size = rw e (sym (length-file n (view N t) (omega (arith, three-le (sizes-read n N t s .0)))))
-
-      pub write-few : k * (6 + 2 * (n + 1)) ≤ 1024 * 14
-      write-few =
-          let r = sizes-read n N t s in
-          let a : k ≤ 1024 = rw e (omega (arith, count-le N (live (view N t)), r .1 .few)) in
-          let b : 6 + 2 * (n + 1) ≤ 14 = omega (arith, three-le (r .0)) in
-          mul-le-mul a b
-
-      pub write-fits : 9 + k * (6 + 2 * (n + 1)) ≤ length out → length (file n (view N t)) ≤ length out
-      write-fits h = rw (← write-size) h
+      -- so the length of the file can be asked for
+      pub write-few : (n ≤ 3) × (k ≤ 65535)
+      write-few = let r = sizes-read n N t s in (three-le (r .0), rw e (omega (arith, count-le N (live (view N t)), r .1 .few)))
 
       pub write-live : k ≡ liveDarts (view N t)
       unfolding liveDarts
       write-live = e
 
-      module _ (w : wellFormed n (view N t) ≡ true) where
-        pub write-12 : length out < 9 + k * (6 + 2 * (n + 1)) → (ShortOutput ≡ writeAnswer n N t out) × (out ≡ writeOut n N t out)
-        unfolding writeAnswer writeOut writeFault tableFault someIf _orElse_ there
-        write-12 h =
-            let l : ltb (length out) (length (file n (view N t))) ≡ true = lt-ltb (length out) (length (file n (view N t))) (rw (← write-size) h) in
-            (rw (s, w, l) refl, rw (s, w, l) refl)
+      module _ (size : ℕ) (is : size ≡ fileSize n k) where
+        write-size : size ≡ length (file n (view N t))
+        write-size = is ∙ ap (fileSize n) write-live ∙ sym (length-file n (view N t) (omega (arith, write-few)))
 
-        pub write-0 : (out' : List ℕ) → 9 + k * (6 + 2 * (n + 1)) ≤ length out
-            → out' ≡ file n (view N t) ++ drop (length (file n (view N t))) out
-            → (Written (9 + k * (6 + 2 * (n + 1))) ≡ writeAnswer n N t out) × (out' ≡ writeOut n N t out)
-        unfolding writeAnswer writeOut writeFault tableFault someIf _orElse_ there
-        write-0 out' h z =
-            let l : ltb (length out) (length (file n (view N t))) ≡ false = le-ltb (length out) (length (file n (view N t))) (rw (← write-size) h) in
-            (rw (s, w, l, write-size) refl, z ∙ rw (s, w, l) refl)
+        pub write-fits : size ≤ length out → length (file n (view N t)) ≤ length out
+        write-fits h = rw (← write-size) h
+
+        module _ (w : wellFormed n (view N t) ≡ true) where
+          pub write-12 : length out < size → (ShortOutput ≡ writeAnswer n N t out) × (out ≡ writeOut n N t out)
+          unfolding writeAnswer writeOut writeFault writeFaultAt tableFault mapFault someIf _orElse_ there
+          write-12 h =
+              let l : ltb (length out) (length (file n (view N t))) ≡ true = lt-ltb (length out) (length (file n (view N t))) (rw (← write-size) h) in
+              (rw (s, w, l) refl, rw (s, w, l) refl)
+
+          pub write-0 : (out' : List ℕ) → size ≤ length out → out' ≡ file n (view N t) ++ drop (length (file n (view N t))) out
+              → (Written size ≡ writeAnswer n N t out) × (out' ≡ writeOut n N t out)
+          unfolding writeAnswer writeOut writeFault writeFaultAt tableFault mapFault someIf _orElse_ there
+          write-0 out' h z =
+              let l : ltb (length out) (length (file n (view N t))) ≡ false = le-ltb (length out) (length (file n (view N t))) (write-fits h) in
+              (rw (s, w, l, write-size) refl, z ∙ rw (s, w, l) refl)
 
   pub write-small : Small (writeAnswer n N t out)
-  unfolding writeAnswer writeFault tableFault someIf _orElse_
+  unfolding writeAnswer writeFault writeFaultAt tableFault mapFault someIf _orElse_
   write-small = ⊎-elim
       (λ (s : sizesOk n N t ≡ true). ⊎-elim
       (λ (w : wellFormed n (view N t) ≡ true). ⊎-elim
@@ -141,12 +139,16 @@ module _ (n N : ℕ) (t out : List ℕ) where
       (true-or-false (sizesOk n N t))
     where
       few : sizesOk n N t ≡ true → length (file n (view N t)) < 9223372036854775808
-      few s = rw (← write-size s _ refl) (omega (arith, write-few s (countBelow N (live (view N t))) refl))
+      few s =
+          let k = write-few s _ refl in
+          let r : 6 + 2 * (n + 1) ≤ 14 = omega arith in
+          rw (← write-size s _ refl _ refl) (omega (arith, mul-le-mul (k .1) r))
 
 -- ---- the promises
 
 pub read-kept : {n N : ℕ} {t b : List ℕ} {r : Answer} {t′ : List ℕ} → (r ≡ readAnswer n N t b) × (t′ ≡ readTable n N t b) → FileRead n N t b r t′
 read-kept p = record { answer = answers-of (p .0); table = p .1 }
 
-pub write-kept : {n N : ℕ} {t out : List ℕ} {r : Answer} {out′ : List ℕ} → (r ≡ writeAnswer n N t out) × (out′ ≡ writeOut n N t out) → FileWritten n N t out r out′
+pub write-kept : {n N : ℕ} {t out : List ℕ} {r : Answer} {out′ : List ℕ} → (r ≡ writeAnswer n N t out) × (out′ ≡ writeOut n N t out)
+    → FileWritten n N t out r out′
 write-kept p = record { answer = answers-of (p .0); output = p .1 }

@@ -8,23 +8,21 @@ use mathlib.Core.Option.{Option, none, some, Option·getD}
 use mathlib.Core.List.{List}
 use native.Mathlib.Nat.{mul-le-mul-left, mul-le-mul-right}
 use native.Mathlib.Omega.{arith}
-use lib.ListN.{length}
-use lib.Dec.{eqb}
-use borrow.Author.Tests.{leb-true}
-use Rattle.base.specs.Test.{_and_}
 use Rattle.base.specs.Below.{countBelow}
 use Rattle.base.specs.First.{someIf, _orElse_}
-use Rattle.base.proofs.TestLaws.{true-or-false, and-left, and-right}
+use Rattle.base.proofs.TestLaws.{true-or-false, and-left}
 use Rattle.base.proofs.BelowLaws.{count-le}
 use Rattle.base.proofs.FirstLaws.{or-else-last}
-use Rattle.model.specs.Map.{Map, view}
+use Rattle.model.specs.Map.{maxSlots}
 use Rattle.model.specs.Scheme.{inForm, schemeOf, added, deleted}
 use Rattle.model.specs.Conditions.{schemeFault}
 use Rattle.model.specs.Edit.{orbitSize, addedDarts, deletedDarts}
-use Rattle.model.specs.Calls.{sizesOk, bytesFault, fitFault, checkScheme, orbitOf, editFault, editAnswer}
+use Rattle.model.specs.Site.{Site}
+use Rattle.model.specs.Calls.{bytesFault, checkScheme, fitFault, siteFault, siteDone, siteOf, storedOk, editFaultAt, editFault, editAnswer}
 use Rattle.model.specs.declared.Scheme.{Scheme}
 use Rattle.model.specs.declared.Answer.{Answer}
-use Rattle.model.specs.declared.Answer.the-variants.{Done, Edited, BadCall, BadForm}
+use Rattle.model.specs.declared.Answer.the-variants.{Done, BadCall, BadForm}
+use Rattle.model.proofs.SizeLaws.{sizes-iff}
 use Rattle.model.proofs.SchemeLaws.{shaped}
 use Rattle.conditions.proofs.SmallLaws.{SmallFault, hookSmall, incidenceSmall, cycleSmall, fault-small}
 use Rattle.word.specs.Word.{Small}
@@ -73,31 +71,32 @@ unfolding checkScheme
 scheme-small b = subst (λ (o : Option Answer). Small (Option·getD o Done)) (or-else-last (bytesFault b)) (bytes-small b none Done (λ e. tt))
 
 -- the counts of an edit
-counts-small : (m : Map) (S : Scheme) (O : ℕ → Bool) → m .slots ≤ 1024 → S .nodes ≤ 16 → Small (Edited (orbitSize m S O) (addedDarts m S O) (deletedDarts m S O))
-unfolding orbitSize addedDarts deletedDarts
-counts-small m S O few nodes =
-    let size : countBelow (m .slots) O ≤ 1024 = omega (arith, count-le (m .slots) O) in
-    let times : (p : ℕ → Bool) → countBelow (m .slots) O * countBelow (S .nodes) p < 2097152 =
+counts-small : (E : Site) → E .map .slots ≤ maxSlots → E .scheme .nodes ≤ 16 → Small (siteDone E)
+unfolding siteDone orbitSize addedDarts deletedDarts
+counts-small E few nodes =
+    let S = E .scheme in
+    let size : countBelow (E .map .slots) (E .orbit) ≤ maxSlots = omega (arith, count-le (E .map .slots) (E .orbit)) in
+    let times : (p : ℕ → Bool) → countBelow (E .map .slots) (E .orbit) * countBelow (S .nodes) p < 2097152 =
     λ p. product _ _ size (omega (arith, count-le (S .nodes) p)) in
     (omega arith, (times (added S), (times (deleted S), tt)))
   where
-    product : (a b : ℕ) → a ≤ 1024 → b ≤ 16 → a * b < 2097152
-    product a b h l = omega (arith, mul-le-mul-right b h, mul-le-mul-left 1024 l)
+    product : (a b : ℕ) → a ≤ maxSlots → b ≤ 16 → a * b < 2097152
+    product a b h l = omega (arith, mul-le-mul-right b h, mul-le-mul-left maxSlots l)
 
 one : (o : Option Answer) (done : Answer) → Small (Option·getD (someIf (not false) BadCall orElse o) done)
 unfolding someIf _orElse_
 one o done = tt
 
 module _ (n N : ℕ) (t store b : List ℕ) (d : ℕ) where
-  past-sizes : (o : Option Answer) (done : Answer) → (N ≤ 1024 → Small (Option·getD o done))
-      → Small (Option·getD (someIf (not (sizesOk n N t and eqb (length store) (16 * N))) BadCall orElse o) done)
+  past-sizes : (o : Option Answer) (done : Answer) → (N ≤ maxSlots → Small (Option·getD o done))
+      → Small (Option·getD (someIf (not (storedOk n N t store)) BadCall orElse o) done)
   past-sizes o done r = ⊎-elim
-      (λ e. small-or _ BadCall o done tt (r (leb-true N 1024 (and-right _ _ (and-left _ _ (and-left _ _ e))))))
+      (λ e. small-or _ BadCall o done tt (r (sizes-iff n N t .0 (and-left _ _ e) .few)))
       (λ e. subst (λ (s : Bool). Small (Option·getD (someIf (not s) BadCall orElse o) done)) (sym e) (one o done))
-      (true-or-false (sizesOk n N t and eqb (length store) (16 * N)))
+      (true-or-false (storedOk n N t store))
 
   pub edit-small : Small (editAnswer n N t store b d)
-  unfolding editAnswer editFault fitFault
+  unfolding editAnswer editFault editFaultAt siteFault fitFault
   edit-small = past-sizes _ _ (λ few. bytes-small b _ _ (λ form.
       small-or _ _ _ _ tt (small-or _ _ _ _ tt (small-or _ _ _ _ tt (small-or _ _ _ _ tt
-      (small-last _ _ _ tt (counts-small (view N t) (schemeOf b) (orbitOf N t b d) few (shaped b form .nodesFew))))))))
+      (small-last _ _ _ tt (counts-small (siteOf N t b d) few (shaped b form .nodesFew))))))))

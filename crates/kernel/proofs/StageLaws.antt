@@ -3,7 +3,7 @@
 use Prim.Native.Nat.{ℕ, suc, _*_, _-_, _≤_, _<_}
 use mathlib.Core.Path.{_≡_, refl, sym, ap, _∙_, subst}
 use mathlib.Core.Logic.{_⊎_, ⊎-elim}
-use mathlib.Core.Bool.{Bool, true, false, not}
+use mathlib.Core.Bool.{true, false, not}
 use mathlib.Core.Option.{Option, none, some, Option·getD}
 use mathlib.Core.List.{List, [], _∷_}
 use native.Mathlib.Omega.{arith}
@@ -17,7 +17,6 @@ use Rattle.base.specs.First.{someIf, _orElse_, there}
 use Rattle.base.proofs.TestLaws.{and-of, and-no-left, and-no-right}
 use Rattle.base.proofs.BelowLaws.{count-same, count-not}
 use Rattle.base.proofs.ListLaws.{length-list}
-use Rattle.base.proofs.FirstLaws.{when-none, or-else-none}
 use Rattle.model.specs.Answer.{number}
 use Rattle.model.specs.Map.{view, live, unused}
 use Rattle.model.specs.WellFormed.{wellFormed}
@@ -25,21 +24,21 @@ use Rattle.model.specs.Scheme.{left, right, inForm, wordsOf, schemeOf}
 use Rattle.model.specs.Conditions.{schemeFault}
 use Rattle.model.specs.Twice.{twiceOf}
 use Rattle.model.specs.Accepted.{Accepted}
-use Rattle.model.specs.Calls.{zeros, sizesOk, bytesFault, orbitOf, editFault, editAnswer, editTable, editStore}
+use Rattle.model.specs.Site.{Site, siteAt, Sound}
+use Rattle.model.specs.Calls.{zeros, sizesOk, bytesFault, siteFault, storedOk, editFaultAt, editFault, editAnswer, editTable, editStore}
 use Rattle.model.specs.declared.Scheme.{Scheme}
 use Rattle.model.specs.declared.Answer.{Answer}
 use Rattle.model.specs.declared.Answer.the-variants.{Done, BadCall, BadForm, OtherDimension, BadTable, NoDart}
 use Rattle.model.proofs.AnswerLaws.{answers-of}
 use Rattle.model.proofs.WellFormedLaws.{wellFormed-iff}
 use Rattle.model.proofs.SchemeLaws.{shaped}
-use Rattle.model.proofs.AcceptedLaws.{accepted}
+use Rattle.model.proofs.CallLaws.{bytes-accepted}
 use Rattle.scheme.specs.Reading.{reading}
 use Rattle.scheme.specs.declared.Reading.{Reading}
 use Rattle.conditions.specs.Verdict.{Judging}
-use Rattle.edit.specs.Apply.{At, Applied, rewritten}
-use Rattle.table.specs.Words.{Sized}
+use Rattle.edit.specs.Apply.{Settled, Applied}
 use Rattle.demands.specs.Promises.{MapEdited}
-use Rattle.kernel.specs.Stages.{siteFault, siteDone, siteTable, AppliedAt, Staged}
+use Rattle.kernel.specs.Stages.{AppliedAt, Staged}
 use Rattle.demands.proofs.RefusalLaws.{bytes-within}
 
 -- ---- the scheme's bytes
@@ -73,8 +72,8 @@ module _ (b : List ℕ) (r : Reading) (e : r ≡ reading b) where
     right-twice = rw e refl
 
     -- what the conditions ask of a scheme that was read
-    abbrev pub judge-asks : Judging (r .scheme .n) (r .scheme .places) (r .scheme .nodes) (r .scheme .orbit) (r .scheme .kinds) (r .scheme .lwords) (r .scheme .ltargets)
-        (r .scheme .rtargets) (r .scheme .lcount) (r .scheme .larcs) (r .ltwice) (r .rtwice)
+    abbrev pub judge-asks : Judging (r .scheme .n) (r .scheme .places) (r .scheme .nodes) (r .scheme .orbit) (r .scheme .kinds)
+        (r .scheme .lwords) (r .scheme .ltargets) (r .scheme .rtargets) (r .scheme .lcount) (r .scheme .larcs) (r .ltwice) (r .rtwice)
     judge-asks = record {
       scheme = r .scheme;
       shaped = rw read-scheme (shaped b q);
@@ -118,7 +117,9 @@ module _ (b : List ℕ) (r : Answer) (j : r ≡ judged b) where
     where
       go : (o : Option Answer) → bytesFault b ≡ o → bytesFault b ≡ none
       go none q = q
-      go (some a) q = let zero : number a ≡ 0 = ap number (ap (λ (o : Option Answer). Option·getD o Done) (sym q) ∙ sym j ∙ e) in absurd (omega (arith, bytes-within b .least a q))
+      go (some a) q =
+          let zero : number a ≡ 0 = ap number (ap (λ (o : Option Answer). Option·getD o Done) (sym q) ∙ sym j ∙ e) in
+          absurd (omega (arith, bytes-within b .least a q))
 
   pub its-fault : (r ≡ Done → ⊥) → bytesFault b ≡ some r
   unfolding judged
@@ -130,52 +131,48 @@ module _ (b : List ℕ) (r : Answer) (j : r ≡ judged b) where
 
 -- ---- the dart
 
-module _ (n N : ℕ) (t : List ℕ) (S : Scheme) (d : ℕ) where
-  pub other-dimension : (x : ℕ) → x ≡ S .n → (x ≡ n → ⊥) → AppliedAt n N t S d OtherDimension t
-  unfolding siteFault someIf _orElse_ there
-  other-dimension x e h =
-      let q : eqb (S .n) n ≡ false = ne-eqb (S .n) n (λ z. h (e ∙ z)) in
-      record { answer = rw q refl; table = rw q refl }
+-- an edit whose first fault is a leaves the table as it was
+pub refused : {fault : Option Answer} {E : Site} {t : List ℕ} {a : Answer} → fault ≡ some a → Settled fault E t a t
+unfolding there
+refused e = record { answer = rw e refl; table = rw e refl }
 
-  module _ (same : S .n ≡ n) where
-    pub bad-table : wellFormed n (view N t) ≡ false → AppliedAt n N t S d BadTable t
-    unfolding siteFault someIf _orElse_ there
-    bad-table w = let q = eq-eqb (S .n) n same in record { answer = rw (q, w) refl; table = rw (q, w) refl }
+module _ {n : ℕ} {E : Site} {t : List ℕ} where
+  pub other-dimension : (x : ℕ) → x ≡ E .scheme .n → (x ≡ n → ⊥) → AppliedAt n E t OtherDimension t
+  unfolding siteFault someIf _orElse_
+  other-dimension x e h = let q = ne-eqb (E .scheme .n) n (λ z. h (e ∙ z)) in refused (rw q refl)
 
-    module _ (w : wellFormed n (view N t) ≡ true) where
-      pub dart-out : N ≤ d → AppliedAt n N t S d NoDart t
-      unfolding siteFault someIf _orElse_ there _and_
-      dart-out h =
-          let q = eq-eqb (S .n) n same in
-          let l = le-ltb d N h in
-          record { answer = rw (q, w, l) refl; table = rw (q, w, l) refl }
+  module _ (same : E .scheme .n ≡ n) where
+    pub bad-table : wellFormed n (E .map) ≡ false → AppliedAt n E t BadTable t
+    unfolding siteFault someIf _orElse_
+    bad-table w = refused (rw (eq-eqb (E .scheme .n) n same, w) refl)
 
-      module _ (slot : d < N) where
-        pub dart-dead : (s : ℕ) → s ≡ view N t .state d → (s ≡ 1 → ⊥) → AppliedAt n N t S d NoDart t
-        unfolding siteFault someIf _orElse_ there _and_
+    module _ (w : wellFormed n (E .map) ≡ true) where
+      pub dart-out : E .map .slots ≤ E .dart → AppliedAt n E t NoDart t
+      unfolding siteFault someIf _orElse_ _and_
+      dart-out h = refused (rw (eq-eqb (E .scheme .n) n same, w, le-ltb (E .dart) (E .map .slots) h) refl)
+
+      module _ (slot : E .dart < E .map .slots) where
+        pub dart-dead : (s : ℕ) → s ≡ E .map .state (E .dart) → (s ≡ 1 → ⊥) → AppliedAt n E t NoDart t
+        unfolding siteFault someIf _orElse_ _and_
         dart-dead s e h =
-            let q = eq-eqb (S .n) n same in
-            let l = lt-ltb d N slot in
-            let z : live (view N t) d ≡ false = ne-eqb (view N t .state d) 1 (λ y. h (e ∙ y)) in
-            record { answer = rw (q, w, l, z) refl; table = rw (q, w, l, z) refl }
+            let z : live (E .map) (E .dart) ≡ false = ne-eqb (E .map .state (E .dart)) 1 (λ y. h (e ∙ y)) in
+            refused (rw (eq-eqb (E .scheme .n) n same, w, lt-ltb (E .dart) (E .map .slots) slot, z) refl)
 
-        module _ (alive : view N t .state d ≡ 1) where
-          pub at-dart : Accepted S → Sized N t → At N t S d
-          at-dart a s = record {
-            accepted = a;
-            sized = s;
-            well = wellFormed-iff (S .n) (view N t) .0 (ap (λ (k : ℕ). wellFormed k (view N t)) same ∙ w);
-            slot = slot;
-            alive = alive;
-          }
+        module _ (alive : E .map .state (E .dart) ≡ 1) where
+          pub applied : {r : Answer} {t′ : List ℕ} → Applied E t r t′ → AppliedAt n E t r t′
+          unfolding siteFault someIf _orElse_
+          applied {r} {t′} a =
+              let z = and-of (lt-ltb (E .dart) (E .map .slots) slot) (eq-eqb (E .map .state (E .dart)) 1 alive) in
+              rw (eq-eqb (E .scheme .n) n same, w, z) a
 
-          pub applied : (r : Answer) (t′ : List ℕ) → Applied N t S d r t′ → AppliedAt n N t S d r t′
-          unfolding siteFault siteDone siteTable someIf _orElse_ _and_ rewritten
-          applied r t′ a =
-              let q = eq-eqb (S .n) n same in
-              let l = lt-ltb d N slot in
-              let z : live (view N t) d ≡ true = eq-eqb (view N t .state d) 1 alive in
-              record { answer = a .answer ∙ rw (q, w, l, z) refl; table = a .table ∙ rw (q, w, l, z) refl }
+pub sound : {n : ℕ} {E : Site} → E .scheme .n ≡ n → wellFormed n (E .map) ≡ true → E .dart < E .map .slots → E .map .state (E .dart) ≡ 1
+    → Accepted (E .scheme) → Sound E
+sound {n} {E} same w slot alive a = record {
+  accepted = a;
+  well = wellFormed-iff (E .scheme .n) (E .map) .0 (ap (λ (k : ℕ). wellFormed k (E .map)) same ∙ w);
+  slot = slot;
+  alive = alive;
+}
 
 -- in a well-formed table the slots that are not live are unused
 pub unused-left : (n N : ℕ) (t : List ℕ) (k : ℕ) → wellFormed n (view N t) ≡ true → k ≡ countBelow N (live (view N t))
@@ -183,7 +180,8 @@ pub unused-left : (n N : ℕ) (t : List ℕ) (k : ℕ) → wellFormed n (view N 
 unused-left n N t k w e =
     let m = view N t in
     let all = count-not N (live m) in
-    let rest : countBelow N (λ x. not (live m x)) ≡ countBelow N (unused m) = count-same N _ (unused m) (λ x h. either (m .state x) (wellFormed-iff n m .0 w .states x h)) in
+    let rest : countBelow N (λ x. not (live m x)) ≡ countBelow N (unused m) =
+    count-same N _ (unused m) (λ x h. either (m .state x) (wellFormed-iff n m .0 w .states x h)) in
     (omega arith, omega arith)
   where
     either : (s : ℕ) → (s ≡ 0) ⊎ (s ≡ 1) → not (eqb s 1) ≡ eqb s 0
@@ -192,30 +190,24 @@ unused-left n N t k w e =
 -- ---- all stages
 
 module _ (n N : ℕ) (t b : List ℕ) (d : ℕ) where
-  pub stage-refused : (a : Answer) → bytesFault b ≡ some a → Staged n N t b d a t
-  unfolding _orElse_ there
-  stage-refused a e = record { answer = rw e refl; table = rw e refl }
-
-  pub stage-on : (S : Scheme) (r : Answer) (t′ : List ℕ) → bytesFault b ≡ none → S ≡ schemeOf b → AppliedAt n N t S d r t′ → Staged n N t b d r t′
+  pub stage-refused : {a : Answer} → bytesFault b ≡ some a → Staged n N t b d a t
   unfolding _orElse_
-  stage-on S r t′ e s a = let z = subst (λ (x : Scheme). AppliedAt n N t x d r t′) s a in record { answer = z .answer ∙ rw e refl; table = z .table ∙ rw e refl }
+  stage-refused e = refused (rw e refl)
+
+  pub stage-on : {S : Scheme} {r : Answer} {t′ : List ℕ} → bytesFault b ≡ none → S ≡ schemeOf b → AppliedAt n (siteAt (view N t) S d) t r t′
+      → Staged n N t b d r t′
+  unfolding _orElse_
+  stage-on {S} {r} {t′} e s a = rw e (subst (λ (x : Scheme). AppliedAt n (siteAt (view N t) x d) t r t′) s a)
 
 -- bytes with no fault are an accepted scheme's
 pub no-fault-accepted : (b : List ℕ) (S : Scheme) → bytesFault b ≡ none → S ≡ schemeOf b → Accepted S
-unfolding bytesFault
-no-fault-accepted b S e s =
-    let r = or-else-none _ _ e in
-    let form : inForm b ≡ true = not-false (inForm b) (when-none _ BadForm (r .0)) in
-    subst Accepted (sym s) (accepted (schemeOf b) (shaped b form) (r .1))
+no-fault-accepted b S e s = subst Accepted (sym s) (bytes-accepted b e)
 
 -- ---- the call
 
 module _ (n N : ℕ) (t store b : List ℕ) (d : ℕ) where
-  abbrev sized : Bool
-  sized = sizesOk n N t and eqb (length store) (16 * N)
-
-  unsized : sized ≡ false → MapEdited n N t store b d BadCall t store
-  unfolding editAnswer editTable editStore editFault someIf _orElse_ there
+  unsized : storedOk n N t store ≡ false → MapEdited n N t store b d BadCall t store
+  unfolding editAnswer editTable editStore editFault editFaultAt someIf _orElse_ there
   unsized e = record { answer = answers-of (rw e refl); table = rw e refl; cleared = rw e refl }
 
   pub edit-bad-sizes : sizesOk n N t ≡ false → MapEdited n N t store b d BadCall t store
@@ -226,14 +218,15 @@ module _ (n N : ℕ) (t store b : List ℕ) (d : ℕ) where
 
   pub edit-staged : sizesOk n N t ≡ true → length store ≡ 16 * N → (r : Answer) (t′ store′ : List ℕ) → Staged n N t b d r t′ → store′ ≡ zeros store
       → MapEdited n N t store b d r t′ store′
-  unfolding editAnswer editTable editStore editFault orbitOf siteFault siteDone siteTable someIf _orElse_ there
+  unfolding editAnswer editTable editStore editFault editFaultAt someIf _orElse_
   edit-staged e l r t′ store′ s z =
-      let q : sized ≡ true = and-of e (eq-eqb (length store) (16 * N) l) in
+      let q : storedOk n N t store ≡ true = and-of e (eq-eqb (length store) (16 * N) l) in
       record { answer = answers-of (s .answer ∙ rw q refl); table = s .table ∙ rw q refl; cleared = z ∙ rw q refl }
 
 -- 0 is none of the numbers 1 to 14, those of the answers that are not done
 pub not-zero : OneOf (1 ∷ 2 ∷ 3 ∷ 4 ∷ 5 ∷ 6 ∷ 7 ∷ 8 ∷ 9 ∷ 10 ∷ 11 ∷ 12 ∷ 13 ∷ 14 ∷ []) 0 → ⊥
-not-zero = ⊎-elim no (⊎-elim no (⊎-elim no (⊎-elim no (⊎-elim no (⊎-elim no (⊎-elim no (⊎-elim no (⊎-elim no (⊎-elim no (⊎-elim no (⊎-elim no (⊎-elim no no))))))))))))
+not-zero = ⊎-elim no (⊎-elim no (⊎-elim no (⊎-elim no (⊎-elim no (⊎-elim no (⊎-elim no
+    (⊎-elim no (⊎-elim no (⊎-elim no (⊎-elim no (⊎-elim no (⊎-elim no no))))))))))))
   where
     no : {k : ℕ} → _≡_ {A = ℕ} 0 (suc k) → ⊥
     no e = omega arith

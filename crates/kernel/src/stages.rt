@@ -8,6 +8,8 @@ ghost use mathlib.Core.Path.{_≡_};
 ghost use mathlib.Core.Logic.{_⊎_};
 ghost use Prim.Native.Nat.{_*_};
 ghost use lib.ListN.{length};
+ghost use Rattle.model.specs.Map.{view};
+ghost use Rattle.model.specs.Site.{siteAt};
 ghost use Rattle.model.specs.Accepted.{Accepted};
 ghost use Rattle.table.specs.Words.{Sized};
 ghost use Rattle.conditions.specs.Tree.{TreeOf};
@@ -34,7 +36,7 @@ fn apply_at(
     requires { ⌜ TreeOf s t ⌝ }
     requires { ⌜ Sized slots (now table) ⌝ }
     requires { ⌜ length (now store) ≡ 16 * slots ⌝ }
-    ensures { λ r. ⌜ AppliedAt n slots (now (table .entry)) s dart r (now (table .exit)) ⌝ }
+    ensures { λ r. ⌜ AppliedAt n (siteAt (view slots (now (table .entry))) s dart) (now (table .entry)) r (now (table .exit)) ⌝ }
 {
     if wide(s.n) != n {
         return Answer::OtherDimension;

@@ -11,7 +11,7 @@ use Rattle.base.specs.Below.{countBelow}
 use Rattle.base.specs.First.{first, someIf}
 use Rattle.base.proofs.TestLaws.{and-same, cond-same}
 use Rattle.base.proofs.FirstLaws.{first-same}
-use Rattle.model.specs.Map.{Map}
+use Rattle.model.specs.Map.{Map, State}
 use Rattle.model.specs.WellFormed.{WellFormed}
 use Rattle.model.specs.Scheme.{left, right, orbitDim, has, deleted, added}
 use Rattle.model.specs.Conditions.{Arc, absent, explicit, implicit, arcAt}
@@ -20,7 +20,7 @@ use Rattle.model.specs.Edit.{Pair, orbitSize, addedDarts, deletedDarts, 
 use Rattle.model.specs.Edit.{newLink, unnamedLink, newTag, newWord, edited}
 use Rattle.model.specs.Alike.{Alike}
 use Rattle.model.proofs.ArcLaws.{explicit-end, implicit-from}
-use Rattle.model.proofs.EditLaws.{Ready, kinds, pair-at, left-alive, state-other}
+use Rattle.model.proofs.EditLaws.{Ready, kinds, pair-at, left-alive, field-other}
 use Rattle.model.proofs.AlikeLaws.{same-state, same-free}
 use Rattle.model.proofs.AlikeMatch.{moved, orbit-link-same, same-image}
 
@@ -70,7 +70,7 @@ module _ (E : Site) (m′ : Map) (a : Alike (E .map) m′) (w : WellFormed (E .s
   -- ---- the dart of a pair, the pair of a slot
 
   left-of : (s : ℕ) → s < S .nodes → added S s ≡ false → has S left s ≡ true
-  left-of s h n = ⊎-elim (λ l. l) (λ e. absurd (true≢false (sym e ∙ n))) (kinds E ready s h)
+  left-of s h n = ⊎-elim (λ l. l) (λ e. absurd (true≢false (sym e ∙ n))) (kinds ready s h)
 
   pub same-dart : (u s : ℕ) → O u ≡ true → s < S .nodes → dartOf E u s ≡ dartOf E′ u s
   unfolding dartOf freeSlot rank
@@ -96,11 +96,11 @@ module _ (E : Site) (m′ : Map) (a : Alike (E .map) m′) (w : WellFormed (E .s
 
     -- where no pair has the slot, it was live before
     stood-live : edited E .state x ≡ 1 → pairOf E x ≡ none → m .state x ≡ 1
-    stood-live l n = sym (state-other E ready x n) ∙ l
+    stood-live l n = sym (field-other ready State x n) ∙ l
 
     -- where a pair that is not added has it, too
     pair-live : (u s : ℕ) → O u ≡ true → s < S .nodes → dartOf E u s ≡ x → added S s ≡ false → m .state x ≡ 1
-    pair-live u s e b d n = ap (m .state) (sym d) ∙ left-alive E ready u s e b (left-of s b n)
+    pair-live u s e b d n = ap (m .state) (sym d) ∙ left-alive ready u s e b (left-of s b n)
 
     new-link-same : (i : ℕ) → i ≤ 3 → (u s : ℕ) → O u ≡ true → s < S .nodes → dartOf E u s ≡ x → (c : Arc) → arcAt S right s i ≡ c
         → newLink E u s c (unnamedLink E (added S s) i x) ≡ newLink E′ u s c (unnamedLink E′ (added S s) i x)
@@ -117,7 +117,7 @@ module _ (E : Site) (m′ : Map) (a : Alike (E .map) m′) (w : WellFormed (E .s
     new-link l i k =
         new-word-same E m′ (pairOf E x) _ _ _ _
         (λ n. a .link x h (stood-live l n) i k)
-        (λ p q d. let r = pair-at E ready x p q in new-link-same i k _ _ (r .0) (r .1) (r .2) _ refl)
+        (λ p q d. let r = pair-at ready x p q in new-link-same i k _ _ (r .0) (r .1) (r .2) _ refl)
         ∙ ap (λ (z : Option Pair). newWord E′ z (m′ .link i x) (λ u s. newLink E′ u s (arcAt S right s i) (unnamedLink E′ (added S s) i x))) (same-pair x)
 
     new-tag : edited E .state x ≡ 1 → edited E .tag x ≡ edited E′ .tag x
@@ -126,7 +126,7 @@ module _ (E : Site) (m′ : Map) (a : Alike (E .map) m′) (w : WellFormed (E .s
         new-word-same E m′ (pairOf E x) _ _ _ _
         (λ n. a .tag x h (stood-live l n))
         (λ p q d.
-        let r = pair-at E ready x p q in
+        let r = pair-at ready x p q in
         tag-same E m′ (added S (p .node)) (p .dart) x
         (λ n. a .tag (p .dart) (o .slot _ (r .0)) (o .alive _ (r .0)))
         (λ n. a .tag x h (pair-live _ _ (r .0) (r .1) (r .2) n)))

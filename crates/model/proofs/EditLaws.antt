@@ -12,7 +12,7 @@ use borrow.Author.Tests.{eqb-true, eq-eqb}
 use Rattle.base.specs.Test.{_and_}
 use Rattle.base.specs.Below.{countBelow}
 use Rattle.base.specs.First.{first, someIf}
-use Rattle.model.specs.Map.{unused}
+use Rattle.model.specs.Map.{Field, State, Link, Tag, fieldOf, unused}
 use Rattle.model.specs.Scheme.{left, right, orbitDim, has, added, deleted}
 use Rattle.model.specs.Conditions.{absent, explicit, implicit, arcAt}
 use Rattle.model.specs.Site.{Site}
@@ -35,7 +35,7 @@ pub record Ready (E : Site) : Type 0 where
   pub match : Assignment E (image E)
   pub room : addedDarts E ≤ countBelow (E .map .slots) (unused (E .map))
 
-module _ (E : Site) (r : Ready E) where
+module _ {E : Site} (r : Ready E) where
   open Site E using (map as m, scheme as S, orbit as O)
   open Ready r using (match as A, room)
 
@@ -125,30 +125,18 @@ module _ (E : Site) (r : Ready E) where
   -- ---- the new map
 
   -- a slot that is no pair's dart stays as it stood
-  pub state-other : (x : ℕ) → pairOf E x ≡ none → edited E .state x ≡ m .state x
+  pub field-other : (k : Field) (x : ℕ) → pairOf E x ≡ none → fieldOf (edited E) k x ≡ fieldOf m k x
   unfolding edited newWord
-  state-other x e = rw e refl
-
-  pub link-other : (i x : ℕ) → pairOf E x ≡ none → edited E .link i x ≡ m .link i x
-  unfolding edited newWord
-  link-other i x e = rw e refl
-
-  pub tag-other : (x : ℕ) → pairOf E x ≡ none → edited E .tag x ≡ m .tag x
-  unfolding edited newWord
-  tag-other x e = rw e refl
+  field-other State x e = rw e refl
+  field-other (Link i) x e = rw e refl
+  field-other Tag x e = rw e refl
 
   module _ (u s : ℕ) (e : O u ≡ true) (h : s < S .nodes) where
-    pub state-deleted : deleted S s ≡ true → edited E .state (dartOf E u s) ≡ 0
+    pub field-deleted : (k : Field) → deleted S s ≡ true → fieldOf (edited E) k (dartOf E u s) ≡ 0
     unfolding edited newWord
-    state-deleted d = rw (pair-of u s e h, d) refl
-
-    pub link-deleted : (i : ℕ) → deleted S s ≡ true → edited E .link i (dartOf E u s) ≡ 0
-    unfolding edited newWord
-    link-deleted i d = rw (pair-of u s e h, d) refl
-
-    pub tag-deleted : deleted S s ≡ true → edited E .tag (dartOf E u s) ≡ 0
-    unfolding edited newWord
-    tag-deleted d = rw (pair-of u s e h, d) refl
+    field-deleted State d = rw (pair-of u s e h, d) refl
+    field-deleted (Link i) d = rw (pair-of u s e h, d) refl
+    field-deleted Tag d = rw (pair-of u s e h, d) refl
 
     module _ (k : deleted S s ≡ false) where
       pub state-pair : edited E .state (dartOf E u s) ≡ 1

@@ -8,7 +8,7 @@ use mathlib.Core.Option.{Option, none, some}
 use native.Mathlib.Omega.{arith}
 use lib.Dec.{eqb}
 use borrow.Author.Tests.{eqb-true, ne-eqb}
-use Rattle.model.specs.Map.{Map}
+use Rattle.model.specs.Map.{Map, State, Link}
 use Rattle.model.specs.WellFormed.{WellFormed}
 use Rattle.model.specs.Scheme.{left, right, kind, orbitDim, has, deleted, preserved, added}
 use Rattle.model.specs.Conditions.{Arc, absent, explicit, implicit, arcAt, onCycle, Cycle, four, oneI, oneJ, apart}
@@ -23,7 +23,7 @@ use Rattle.model.proofs.CycleLaws.{cycle-at, cycle-of, not-absent, not-
 use Rattle.model.proofs.AcceptedLaws.{kind-cases}
 use Rattle.model.proofs.MatchLaws.{arc-of}
 use Rattle.model.proofs.EditLaws as L
-use Rattle.model.proofs.EditLaws.{Ready, kinds}
+use Rattle.model.proofs.EditLaws.{Ready}
 use Rattle.model.proofs.RankLaws.{dart-left}
 
 one-not-zero : _≡_ {A = ℕ} 1 0 → ⊥
@@ -66,19 +66,6 @@ module _ (E : Site) (w : WellFormed (E .scheme .n) (E .map)) (ready : Ready E) w
   abbrev new : Map
   new = edited E
 
-  -- the laws of `EditLaws`, for this edit
-  slot-of : (u s : ℕ) → O u ≡ true → s < S .nodes → D u s < m .slots
-  slot-of = L.dart-slot E ready
-
-  injective : (u s v t : ℕ) → O u ≡ true → O v ≡ true → s < S .nodes → t < S .nodes → D u s ≡ D v t → (u ≡ v) × (s ≡ t)
-  injective = L.dart-injective E ready
-
-  alive-of : (u s : ℕ) → O u ≡ true → s < S .nodes → has S left s ≡ true → m .state (D u s) ≡ 1
-  alive-of = L.left-alive E ready
-
-  pair-is : (u s : ℕ) → O u ≡ true → s < S .nodes → pairOf E (D u s) ≡ some (record { dart = u; node = s })
-  pair-is = L.pair-of E ready
-
   -- ---- darts before the edit
 
   -- a live dart is no pair's, or a left pair's
@@ -89,11 +76,11 @@ module _ (E : Site) (w : WellFormed (E .scheme .n) (E .map)) (ready : Ready E) w
       go : (p : Option Pair) → pairOf E y ≡ p → (pairOf E y ≡ none) ⊎ ((v t : ℕ) × (O v ≡ true) × (t < S .nodes) × (has S left t ≡ true) × (y ≡ D v t))
       go none e = inl e
       go (some p) e =
-          let q = L.pair-at E ready y p e in
+          let q = L.pair-at ready y p e in
           inr (⊎-elim
           (λ k. (p .dart, p .node, q .0, q .1, k, sym (q .2)))
-          (λ k. absurd (one-not-zero (sym (ap (m .state) (q .2) ∙ l) ∙ L.free-at E ready (p .dart) (p .node) (q .0) (q .1) k .1)))
-          (kinds E ready (p .node) (q .1)))
+          (λ k. absurd (one-not-zero (sym (ap (m .state) (q .2) ∙ l) ∙ L.free-at ready (p .dart) (p .node) (q .0) (q .1) k .1)))
+          (L.kinds ready (p .node) (q .1)))
 
   -- the links of a left pair's dart, by its left arcs
   old-explicit : (v t i r : ℕ) → O v ≡ true → t < S .nodes → has S left t ≡ true → arcAt S left t i ≡ explicit r
@@ -121,13 +108,13 @@ module _ (E : Site) (w : WellFormed (E .scheme .n) (E .map)) (ready : Ready E) w
   loose-dart : {i x : ℕ} → Loose i x → (x < m .slots) × (m .state x ≡ 1)
   loose-dart (looseOther p h l) = (h, l)
   loose-dart (looseKept u s e h k a q) =
-      (subst (λ (z : ℕ). z < m .slots) (sym q) (slot-of u s e h), ap (m .state) q ∙ alive-of u s e h (preserved-left S s k))
+      (subst (λ (z : ℕ). z < m .slots) (sym q) (L.dart-slot ready u s e h), ap (m .state) q ∙ L.left-alive ready u s e h (preserved-left S s k))
 
   -- no left arc of dimension i leads to a loose end
   loose-not : {i x : ℕ} → Loose i x → (v t : ℕ) → O v ≡ true → t < S .nodes → (arcAt S left t i ≡ absent → ⊥) → x ≡ D v t → ⊥
-  loose-not (looseOther p h l) v t e k a q = some-not-none (pair-is v t e k) (ap (pairOf E) (sym q) ∙ p)
+  loose-not (looseOther p h l) v t e k a q = some-not-none (L.pair-of ready v t e k) (ap (pairOf E) (sym q) ∙ p)
   loose-not {i} (looseKept u s f h k b r) v t e l a q =
-      a (ap (λ (z : ℕ). arcAt S left z i) (sym (injective u s v t f e h l (sym r ∙ q) .1)) ∙ b)
+      a (ap (λ (z : ℕ). arcAt S left z i) (sym (L.dart-injective ready u s v t f e h l (sym r ∙ q) .1)) ∙ b)
 
   -- the link of a loose end leads to one
   loose-link : (i x : ℕ) → i ≤ S .n → Loose i x → Loose i (m .link i x)
@@ -164,32 +151,32 @@ module _ (E : Site) (w : WellFormed (E .scheme .n) (E .map)) (ready : Ready E) w
   live-at x h l = go (pairOf E x) refl
     where
       go : (p : Option Pair) → pairOf E x ≡ p → Live x
-      go none e = liveOther e h (sym (L.state-other E ready x e) ∙ l)
+      go none e = liveOther e h (sym (L.field-other ready State x e) ∙ l)
       go (some p) e =
-          let q = L.pair-at E ready x p e in
+          let q = L.pair-at ready x p e in
           ⊎-elim
-          (λ d. absurd (one-not-zero (sym (ap (new .state) (q .2) ∙ l) ∙ L.state-deleted E ready (p .dart) (p .node) (q .0) (q .1) d)))
+          (λ d. absurd (one-not-zero (sym (ap (new .state) (q .2) ∙ l) ∙ L.field-deleted ready (p .dart) (p .node) (q .0) (q .1) State d)))
           (λ r. livePair (p .dart) (p .node) (q .0) (q .1) (⊎-elim (λ k. or-left _ k) (λ k. or-right _ k) r) (sym (q .2)))
           (kind-cases S (g .shaped) (p .node) (q .1))
 
   new-state : (u s : ℕ) → O u ≡ true → s < S .nodes → has S right s ≡ true → new .state (D u s) ≡ 1
-  new-state u s e h r = L.state-pair E ready u s e h (right-stays S s r)
+  new-state u s e h r = L.state-pair ready u s e h (right-stays S s r)
 
   new-explicit : (u s : ℕ) → O u ≡ true → s < S .nodes → has S right s ≡ true → (i t : ℕ) → arcAt S right s i ≡ explicit t → new .link i (D u s) ≡ D u t
-  new-explicit u s e h r = L.link-explicit E ready u s e h (right-stays S s r)
+  new-explicit u s e h r = L.link-explicit ready u s e h (right-stays S s r)
 
   new-implicit : (u s : ℕ) → O u ≡ true → s < S .nodes → has S right s ≡ true → (i p : ℕ) → arcAt S right s i ≡ implicit p
       → (new .link i (D u s) ≡ D (m .link (orbitDim S p) u) s) × (O (m .link (orbitDim S p) u) ≡ true)
   new-implicit u s e h r i p a =
-      (L.link-implicit E ready u s e h (right-stays S s r) i p a, o .link u p e (implicit-from S right s i p a .0))
+      (L.link-implicit ready u s e h (right-stays S s r) i p a, o .link u p e (implicit-from S right s i p a .0))
 
   new-loose : (i x : ℕ) → i ≤ S .n → Loose i x → (new .link i x ≡ m .link i x) × (new .state x ≡ 1)
   new-loose i x k (looseOther p h l) =
-      (L.link-other E ready i x p, L.state-other E ready x p ∙ l)
+      (L.field-other ready (Link i) x p, L.field-other ready State x p ∙ l)
   new-loose i x k (looseKept u s e h z a q) =
       let b = absent-of S right s i (sym (g .same s i h k z) ∙ absent-from S left s i a) in
       let r = preserved-right S s z in (
-        ap (new .link i) q ∙ L.link-kept E ready u s e h (right-stays S s r) i (preserved-not-added S s z) b ∙ ap (m .link i) (sym q),
+        ap (new .link i) q ∙ L.link-kept ready u s e h (right-stays S s r) i (preserved-not-added S s z) b ∙ ap (m .link i) (sym q),
         ap (new .state) q ∙ new-state u s e h r,
       )
 
@@ -225,14 +212,14 @@ module _ (E : Site) (w : WellFormed (E .scheme .n) (E .map)) (ready : Ready E) w
   step-pair u s i e h r k (explicit t) a =
       let x = explicit-end S right (g .sides right) s i t a in
       let l = new-explicit u s e h r i t a in (
-        subst (λ (v : ℕ). v < m .slots) (sym l) (slot-of u t e (x .0)),
+        subst (λ (v : ℕ). v < m .slots) (sym l) (L.dart-slot ready u t e (x .0)),
         ap (new .state) l ∙ new-state u t e (x .0) (x .1),
         ap (new .link i) l ∙ new-explicit u t e (x .0) (x .1) i s (x .3),
       )
   step-pair u s i e h r k (implicit p) a =
       let l = new-implicit u s e h r i p a in
       let v = m .link (orbitDim S p) u in (
-        subst (λ (z : ℕ). z < m .slots) (sym (l .0)) (slot-of v s (l .1) h),
+        subst (λ (z : ℕ). z < m .slots) (sym (l .0)) (L.dart-slot ready v s (l .1) h),
         ap (new .state) (l .0) ∙ new-state v s (l .1) h r,
         ap (new .link i) (l .0) ∙ new-implicit v s (l .1) h r i p a .0 ∙ ap (λ (z : ℕ). D z s) (orbit-back u p e (implicit-from S right s i p a .0)),
       )
@@ -244,14 +231,14 @@ module _ (E : Site) (w : WellFormed (E .scheme .n) (E .map)) (ready : Ready E) w
   -- ---- with n = 2, α3 is a loop
 
   flat-of : (x : ℕ) → S .n ≡ 2 → Live x → new .link 3 x ≡ x
-  flat-of x n (liveOther p h l) = L.link-other E ready 3 x p ∙ w .flat n x h l
+  flat-of x n (liveOther p h l) = L.field-other ready (Link 3) x p ∙ w .flat n x h l
   flat-of x n (livePair u s e h r q) =
       let a = no-arc S right (g .sides right) s 3 h (omega arith) (omega arith) in
       let k = right-stays S s r in
       ap (new .link 3) q ∙ ⊎-elim
-      (λ z. L.link-kept E ready u s e h k 3 (preserved-not-added S s z) a
-      ∙ w .flat n (D u s) (slot-of u s e h) (alive-of u s e h (preserved-left S s z)))
-      (λ z. L.link-own E ready u s e h k 3 z a)
+      (λ z. L.link-kept ready u s e h k 3 (preserved-not-added S s z) a
+      ∙ w .flat n (D u s) (L.dart-slot ready u s e h) (L.left-alive ready u s e h (preserved-left S s z)))
+      (λ z. L.link-own ready u s e h k 3 z a)
       (or-cases _ _ r) ∙ sym q
 
   -- ---- squares
@@ -316,7 +303,7 @@ module _ (E : Site) (w : WellFormed (E .scheme .n) (E .map)) (ready : Ready E) w
     plain-dart : {x : ℕ} → Plain x → (x < m .slots) × (m .state x ≡ 1)
     plain-dart (plainOther p h l) = (h, l)
     plain-dart (plainKept u s e h z c q) =
-        (subst (λ (v : ℕ). v < m .slots) (sym q) (slot-of u s e h), ap (m .state) q ∙ alive-of u s e h (preserved-left S s z))
+        (subst (λ (v : ℕ). v < m .slots) (sym q) (L.dart-slot ready u s e h), ap (m .state) q ∙ L.left-alive ready u s e h (preserved-left S s z))
 
     abbrev One : ℕ → Type 0
     One k = (k ≡ i) ⊎ (k ≡ j)
@@ -396,11 +383,11 @@ module _ (E : Site) (w : WellFormed (E .scheme .n) (E .map)) (ready : Ready E) w
   state-of x h = go (pairOf E x) refl
     where
       go : (p : Option Pair) → pairOf E x ≡ p → (new .state x ≡ 0) ⊎ (new .state x ≡ 1)
-      go none e = let same = L.state-other E ready x e in ⊎-elim (λ z. inl (same ∙ z)) (λ z. inr (same ∙ z)) (w .states x h)
+      go none e = let same = L.field-other ready State x e in ⊎-elim (λ z. inl (same ∙ z)) (λ z. inr (same ∙ z)) (w .states x h)
       go (some p) e =
-          let q = L.pair-at E ready x p e in
+          let q = L.pair-at ready x p e in
           ⊎-elim
-          (λ d. inl (ap (new .state) (sym (q .2)) ∙ L.state-deleted E ready (p .dart) (p .node) (q .0) (q .1) d))
+          (λ d. inl (ap (new .state) (sym (q .2)) ∙ L.field-deleted ready (p .dart) (p .node) (q .0) (q .1) State d))
           (λ d. inr (ap (new .state) (sym (q .2)) ∙ new-state (p .dart) (p .node) (q .0) (q .1) (⊎-elim (λ k. or-left _ k) (λ k. or-right _ k) d)))
           (kind-cases S (g .shaped) (p .node) (q .1))
 

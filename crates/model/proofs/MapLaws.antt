@@ -8,7 +8,8 @@ use native.Mathlib.Omega.{arith}
 use lib.ListN.{length, getD, replicate, length-set}
 use lib.Seq.{getD-set-same, getD-set-other, ext-getD}
 use borrow.Author.Tests.{le-leb, lt-leb}
-use Rattle.model.specs.Map.{Map, Field, State, Link, Tag, fieldOf, dimension, recordSize, column, recordOf, tableSize, fieldAt, put, tableOf}
+use Rattle.model.specs.Map.{Map, Field, State, Link, Tag, fieldOf, dimension, recordSize, column, recordOf, tableSize, fieldAt, put, view}
+use Rattle.model.specs.Map.{tableOf}
 use Rattle.base.proofs.BelowLaws.{le-or-lt}
 use Rattle.base.proofs.ListLaws.{length-joined, getD-joined}
 
@@ -119,6 +120,11 @@ module _ (m : Map) (x : ℕ) (h : x < m .slots) where
   field-words f l = field-at (tableOf m) f x l ∙ in-table f l
 
 -- ---- the words of a view are the table
+
+pub field-view : (N : ℕ) (t : List ℕ) (f : Field) (x : ℕ) → fieldAt t f x ≡ fieldOf (view N t) f x
+field-view N t State x = refl
+field-view N t (Link i) x = refl
+field-view N t Tag x = refl
 
 -- a table that has the words of m is the table of m
 pub words-are : (m : Map) (t : List ℕ) → length t ≡ tableSize (m .slots)

@@ -15,7 +15,7 @@ use Rattle.model.proofs.RankLaws.{dart-left}
 use Rattle.model.proofs.EditLaws as L
 use Rattle.model.proofs.EditLaws.{Ready}
 
-module _ (E : Site) (ready : Ready E) where
+module _ {E : Site} (ready : Ready E) where
   open Site E using (map as m, scheme as S, orbit as O)
   open Ready ready using (accepted as g, match as A)
 
@@ -43,27 +43,17 @@ module _ (E : Site) (ready : Ready E) where
   rewriting = record {
     slots = refl;
     assigned = assignment;
-    slot = λ u s e h a. L.free-at E ready u s e h a .0;
-    wasUnused = λ u s e h a. L.free-at E ready u s e h a .1;
-    inOrder = λ u s e h a. L.free-at E ready u s e h a .2;
-    alive = λ u s e h r. L.state-pair E ready u s e h (right-stays S s r);
-    explicitLink = λ u s i t e h r a. L.link-explicit E ready u s e h (right-stays S s r) i t a;
-    implicitLink = λ u s i p e h r a. L.link-implicit E ready u s e h (right-stays S s r) i p a;
-    newTag = λ u s e h a. L.tag-new E ready u s e h (right-stays S s (added-right S s a)) a;
-    ownLink = λ u s e h a n. L.link-own E ready u s e h (right-stays S s (added-right S s a)) 3 a
+    slot = λ u s e h a. L.free-at ready u s e h a .0;
+    wasUnused = λ u s e h a. L.free-at ready u s e h a .1;
+    inOrder = λ u s e h a. L.free-at ready u s e h a .2;
+    alive = λ u s e h r. L.state-pair ready u s e h (right-stays S s r);
+    explicitLink = λ u s i t e h r a. L.link-explicit ready u s e h (right-stays S s r) i t a;
+    implicitLink = λ u s i p e h r a. L.link-implicit ready u s e h (right-stays S s r) i p a;
+    newTag = λ u s e h a. L.tag-new ready u s e h (right-stays S s (added-right S s a)) a;
+    ownLink = λ u s e h a n. L.link-own ready u s e h (right-stays S s (added-right S s a)) 3 a
         (no-arc S right (g .sides right) s 3 h (omega arith) (omega arith));
-    keptTag = λ u s e h k. L.tag-kept E ready u s e h (right-stays S s (preserved-right S s k)) (preserved-not-added S s k);
-    keptLink = λ u s i e h k a. L.link-kept E ready u s e h (right-stays S s (preserved-right S s k)) i (preserved-not-added S s k) a;
-    gone = λ u s e h d. record {
-      state = L.state-deleted E ready u s e h d;
-      link = λ i l. L.link-deleted E ready u s e h i d;
-      tag = L.tag-deleted E ready u s e h d;
-    };
-    others = λ x no.
-        let none-of = L.pair-none E ready x no in
-        record {
-          state = L.state-other E ready x none-of;
-          link = λ i l. L.link-other E ready i x none-of;
-          tag = L.tag-other E ready x none-of;
-        };
+    keptTag = λ u s e h k. L.tag-kept ready u s e h (right-stays S s (preserved-right S s k)) (preserved-not-added S s k);
+    keptLink = λ u s i e h k a. L.link-kept ready u s e h (right-stays S s (preserved-right S s k)) i (preserved-not-added S s k) a;
+    gone = λ u s e h d k l. L.field-deleted ready u s e h k d;
+    others = λ x no k l. L.field-other ready k x (L.pair-none ready x no);
   }

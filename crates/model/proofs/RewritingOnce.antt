@@ -11,7 +11,7 @@ use Rattle.base.specs.Test.{_and_}
 use Rattle.base.specs.Below.{anyBelow}
 use Rattle.base.proofs.TestLaws.{and-left, and-right, and-of, or-cases, true-or-false}
 use Rattle.base.proofs.BelowLaws.{any-at, any-of, count-injective, le-or-lt}
-use Rattle.model.specs.Map.{Map, Field, State, Link, Tag, fieldOf, dimension, unused, tableSize, tableOf}
+use Rattle.model.specs.Map.{Map, State, Link, Tag, fieldOf, unused, tableSize, tableOf}
 use Rattle.model.specs.Scheme.{right, orbitDim, has, deleted, added}
 use Rattle.model.specs.Conditions.{Arc, absent, explicit, implicit, arcAt}
 use Rattle.model.specs.Accepted.{Accepted}
@@ -87,49 +87,28 @@ module _ (E : Site) (a : Accepted (E .scheme)) (o : GoodOrbit E) {m′ m″ : Ma
       d = dart-once u s e h
 
       zeros : deleted S s ≡ true → SameRecord m′ m″ (f u s)
-      zeros z =
-          let x = r .gone u s e h z in
-          let y = q .gone u s e h z in
-          record {
-            state = ap (m″ .state) d ∙ y .state ∙ sym (x .state);
-            link = λ i l. ap (m″ .link i) d ∙ y .link i l ∙ sym (x .link i l);
-            tag = ap (m″ .tag) d ∙ y .tag ∙ sym (x .tag);
-          }
+      zeros z k l = ap (fieldOf m″ k) d ∙ q .gone u s e h z k l ∙ sym (r .gone u s e h z k l)
 
       right-pair : has S right s ≡ true → SameRecord m′ m″ (f u s)
-      right-pair k = record {
-        state = ap (m″ .state) d ∙ q .alive u s e h k ∙ sym (r .alive u s e h k);
-        link = λ i l. ap (m″ .link i) d ∙ link-once u s i e h k l (arcAt S right s i) refl;
-        tag = ap (m″ .tag) d ∙ tag-once u s e h k;
-      }
+      right-pair z State l = ap (m″ .state) d ∙ q .alive u s e h z ∙ sym (r .alive u s e h z)
+      right-pair z (Link i) l = ap (m″ .link i) d ∙ link-once u s i e h z l (arcAt S right s i) refl
+      right-pair z Tag l = ap (m″ .tag) d ∙ tag-once u s e h z
 
   -- so is the record of every slot
   pub record-once : (x : ℕ) → SameRecord m′ m″ x
   record-once x = ⊎-elim
       (λ p. subst (SameRecord m′ m″) (p .4) (pair-once (p .0) (p .1) (p .2) (p .3)))
-      (λ no.
-      let s = r .others x no in
-      let t = q .others x (λ u s e h z. no u s e h (dart-once u s e h ∙ z)) in
-      record {
-        state = t .state ∙ sym (s .state);
-        link = λ i l. t .link i l ∙ sym (s .link i l);
-        tag = t .tag ∙ sym (s .tag);
-      })
+      (λ no k l. q .others x (λ u s e h z. no u s e h (dart-once u s e h ∙ z)) k l ∙ sym (r .others x no k l))
       (pair-or-none (m .slots) (S .nodes) O f x (o .slot))
 
   -- two rewritings are the same table
   pub rewriting-once : tableOf m′ ≡ tableOf m″
   rewriting-once = words-are m″ (tableOf m′) (length-words m′ ∙ ap tableSize same-slots)
-      (λ f x l b. field-words m′ x (omega (arith, same-slots)) f l ∙ each f x l)
+      (λ f x l b. field-words m′ x (omega (arith, same-slots)) f l ∙ sym (record-once x f l))
     where
       same-slots : m′ .slots ≡ m″ .slots
       same-slots = r .slots ∙ sym (q .slots)
 
-      each : (f : Field) (x : ℕ) → dimension f ≤ 3 → fieldOf m′ f x ≡ fieldOf m″ f x
-      each State x l = sym (record-once x .state)
-      each (Link i) x l = sym (record-once x .link i l)
-      each Tag x l = sym (record-once x .tag)
-
 -- every rewriting is the computed edit
-pub edit-once : (E : Site) (r : Ready E) {m′ : Map} {f : ℕ → ℕ → ℕ} → Rewriting E m′ f → tableOf m′ ≡ tableOf (edited E)
-edit-once E r q = rewriting-once E (r .accepted) (r .good) q (rewriting E r)
+pub edit-once : {E : Site} → Ready E → {m′ : Map} {f : ℕ → ℕ → ℕ} → Rewriting E m′ f → tableOf m′ ≡ tableOf (edited E)
+edit-once r q = rewriting-once _ (r .accepted) (r .good) q (rewriting r)

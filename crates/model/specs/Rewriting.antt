@@ -5,23 +5,19 @@ use Prim.Native.Nat.{ℕ, _+_, _*_, _≤_, _<_}
 use mathlib.Core.Path.{_≡_}
 use mathlib.Core.Bool.{true}
 use Rattle.base.specs.Below.{countBelow}
-use Rattle.model.specs.Map.{Map, unused}
+use Rattle.model.specs.Map.{Map, Field, fieldOf, dimension, unused}
 use Rattle.model.specs.Scheme.{right, orbitDim, has, deleted, preserved, added}
 use Rattle.model.specs.Conditions.{absent, explicit, implicit, arcAt}
 use Rattle.model.specs.Site.{Site}
 use Rattle.model.specs.Match.{Assignment}
 
--- the six words of slot x in m′ are those in m
-pub record SameRecord (m m′ : Map) (x : ℕ) : Type 0 where
-  pub state : m′ .state x ≡ m .state x
-  pub link : (i : ℕ) → i ≤ 3 → m′ .link i x ≡ m .link i x
-  pub tag : m′ .tag x ≡ m .tag x
+-- the words of slot x in m′ are those in m
+abbrev pub SameRecord : Map → Map → ℕ → Type 0
+SameRecord m m′ x = (k : Field) → dimension k ≤ 3 → fieldOf m′ k x ≡ fieldOf m k x
 
--- the six words of slot x are zero
-pub record ZeroRecord (m : Map) (x : ℕ) : Type 0 where
-  pub state : m .state x ≡ 0
-  pub link : (i : ℕ) → i ≤ 3 → m .link i x ≡ 0
-  pub tag : m .tag x ≡ 0
+-- the words of slot x are zero
+abbrev pub ZeroRecord : Map → ℕ → Type 0
+ZeroRecord m x = (k : Field) → dimension k ≤ 3 → fieldOf m k x ≡ 0
 
 module _ (E : Site) where
   open Site E using (map as m, scheme as S, orbit as O)

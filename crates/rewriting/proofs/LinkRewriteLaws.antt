@@ -18,7 +18,7 @@ use Rattle.model.specs.Scheme.{right, deleted, added}
 use Rattle.model.specs.Conditions.{Arc, absent, explicit, implicit, arcAt}
 use Rattle.model.specs.Site.{Site, Sound}
 use Rattle.model.specs.Edit.{Pair, dartOf, pairOf, edited}
-use Rattle.model.proofs.MapLaws.{state-not-link, tag-not-link, words-are}
+use Rattle.model.proofs.MapLaws.{state-not-link, tag-not-link, field-view, words-are}
 use Rattle.model.proofs.AcceptedLaws.{small}
 use Rattle.model.proofs.ArcLaws.{explicit-end, implicit-from, absent-from}
 use Rattle.model.proofs.RankLaws.{left-not-added}
@@ -93,9 +93,9 @@ module _ {slots : ℕ} {table store : List ℕ} {size : ℕ} {kinds codes : List
   different : Different slots store size cols c
   different = record {
     slot = λ v r hv hr. subst (λ (x : ℕ). x < slots) (sym (dart-is v r (node hv) hr))
-        (L.dart-slot E ready (P r) v (place-in r hr) (node hv));
+        (L.dart-slot ready (P r) v (place-in r hr) (node hv));
     once = λ v q w r hv hq hw hr e.
-        let d = L.dart-injective E ready (P q) v (P r) w (place-in q hq) (place-in r hr) (node hv) (node hw)
+        let d = L.dart-injective ready (P q) v (P r) w (place-in q hq) (place-in r hr) (node hv) (node hw)
         (sym (dart-is v q (node hv) hq) ∙ e ∙ dart-is w r (node hw) hr) in
         (d .1, place-once q r hq hr (d .0));
   }
@@ -161,7 +161,7 @@ module _ {slots : ℕ} {table store : List ℕ} {size : ℕ} {kinds codes : List
 
   -- the pair of a dart is found
   not-none : (u v : ℕ) → O u ≡ true → v < S .nodes → pairOf E (D u v) ≡ none → ⊥
-  not-none u v e h n = some-not-none (L.pair-of E ready u v e h) n
+  not-none u v e h n = some-not-none (L.pair-of ready u v e h) n
 
   -- a slot that is no pair's dart
   untouched : (x : ℕ) → pairOf E x ≡ none → (f : Field) → fieldAt after f x ≡ fieldAt (R .before) f x
@@ -186,7 +186,7 @@ module _ {slots : ℕ} {table store : List ℕ} {size : ℕ} {kinds codes : List
     -- its words before the links are written
     old : added S v ≡ false → (f : Field) → fieldAt table f (D (P r) v) ≡ fieldAt (R .before) f (D (P r) v)
     old n f = R .given .other (D (P r) v) f (λ a.
-        let q = L.dart-injective E ready (a .dart) (a .node) (P r) v (a .inOrbit) (place-in r hr) (a .below) hv (a .same) in
+        let q = L.dart-injective ready (a .dart) (a .node) (P r) v (a .inOrbit) (place-in r hr) (a .below) hv (a .same) in
         true≢false (sym (a .isAdded) ∙ ap (added S) (q .1) ∙ n))
 
     module _ (k : deleted S v ≡ false) where
@@ -209,25 +209,25 @@ module _ {slots : ℕ} {table store : List ℕ} {size : ℕ} {kinds codes : List
       state-stays =
           unlinked State (λ i. state-not-link)
           ∙ ⊎-elim
-          (λ l. old (left-not-added S v l) State ∙ L.left-alive E ready (P r) v (place-in r hr) hv l)
+          (λ l. old (left-not-added S v l) State ∙ L.left-alive ready (P r) v (place-in r hr) hv l)
           (λ a. R .given .fresh (P r) v State (place-in r hr) hv a)
-          (L.kinds E ready v hv)
-          ∙ sym (L.state-pair E ready (P r) v (place-in r hr) hv k)
+          (L.kinds ready v hv)
+          ∙ sym (L.state-pair ready (P r) v (place-in r hr) hv k)
 
       tag-stays : fieldAt after Tag (D (P r) v) ≡ new .tag (D (P r) v)
       tag-stays =
           unlinked Tag (λ i. tag-not-link)
           ∙ ⊎-elim
           (λ l. old (left-not-added S v l) Tag
-          ∙ sym (L.tag-kept E ready (P r) v (place-in r hr) hv k (left-not-added S v l)))
-          (λ a. R .given .fresh (P r) v Tag (place-in r hr) hv a ∙ sym (L.tag-new E ready (P r) v (place-in r hr) hv k a))
-          (L.kinds E ready v hv)
+          ∙ sym (L.tag-kept ready (P r) v (place-in r hr) hv k (left-not-added S v l)))
+          (λ a. R .given .fresh (P r) v Tag (place-in r hr) hv a ∙ sym (L.tag-new ready (P r) v (place-in r hr) hv k a))
+          (L.kinds ready v hv)
 
       -- where the right side names no i-arc: a preserved dart keeps the link, and of an added one it is α3 with n = 2, which is the dart itself
       link-absent : (i : ℕ) → i ≤ 3 → arcAt S right v i ≡ absent → fieldAt table (Link i) (D (P r) v) ≡ new .link i (D (P r) v)
       link-absent i l a = ⊎-elim
           (λ z. old (left-not-added S v z) (Link i)
-          ∙ sym (L.link-kept E ready (P r) v (place-in r hr) hv k i (left-not-added S v z) a))
+          ∙ sym (L.link-kept ready (P r) v (place-in r hr) hv k i (left-not-added S v z) a))
           (λ z. ⊎-elim
           (λ w.
           let some-arc = accepted .allRight v i hv (leb-true i (S .n) w) z in
@@ -236,9 +236,9 @@ module _ {slots : ℕ} {table store : List ℕ} {size : ℕ} {kinds codes : List
           (λ w.
           let third : i ≡ 3 = third-is i l (leb-false i (S .n) w) in
           ap (λ (j : ℕ). fieldAt table (Link j) (D (P r) v)) third ∙ R .given .fresh (P r) v (Link 3) (place-in r hr) hv z
-          ∙ sym (L.link-own E ready (P r) v (place-in r hr) hv k i z a))
+          ∙ sym (L.link-own ready (P r) v (place-in r hr) hv k i z a))
           (true-or-false (leb i (S .n))))
-          (L.kinds E ready v hv)
+          (L.kinds ready v hv)
         where
           third-is : (i : ℕ) → i ≤ 3 → S .n < i → i ≡ 3
           third-is i l g = ⊎-elim (λ e. omega arith) (λ e. omega arith) (accepted .shaped .dimension)
@@ -253,7 +253,7 @@ module _ {slots : ℕ} {table store : List ℕ} {size : ℕ} {kinds codes : List
           let few = accepted .shaped .nodesFew in
           relinked-node slots store size cols codes c different v i r (counted hv) (omega arith) hr t
           (code-is v i hv (omega arith) ∙ ap arcCode a) table (R .sized .long) (omega arith)
-          ∙ dart-is t r b hr ∙ sym (L.link-explicit E ready (P r) v (place-in r hr) hv k i t a)
+          ∙ dart-is t r b hr ∙ sym (L.link-explicit ready (P r) v (place-in r hr) hv k i t a)
       link-linked i l (implicit p) a =
           let b = implicit-from S right v i p a .0 in
           let few = accepted .shaped .placesFew in
@@ -263,7 +263,7 @@ module _ {slots : ℕ} {table store : List ℕ} {size : ℕ} {kinds codes : List
           relinked-position slots store size cols codes c different v i r (counted hv) (omega arith) hr (16 + p)
           (code-is v i hv (omega arith) ∙ ap arcCode a) table (R .sized .long) (omega arith) (omega arith)
           ∙ ap (λ (q : ℕ). dart v (next slots store r q)) same ∙ dart-is v (next slots store r p) hv (w .0) ∙ ap (λ (u : ℕ). D u v) (w .1)
-          ∙ sym (L.link-implicit E ready (P r) v (place-in r hr) hv k i p a)
+          ∙ sym (L.link-implicit ready (P r) v (place-in r hr) hv k i p a)
 
       field-stays : (f : Field) → dimension f ≤ 3 → fieldAt after f (D (P r) v) ≡ fieldOf new f (D (P r) v)
       field-stays State l = state-stays
@@ -284,7 +284,7 @@ module _ {slots : ℕ} {table store : List ℕ} {size : ℕ} {kinds codes : List
       go : (p : Option Pair) → pairOf E x ≡ p → Role x
       go none e = noPair e
       go (some p) e =
-          let q = L.pair-at E ready x p e in
+          let q = L.pair-at ready x p e in
           let w = place-of (p .dart) (q .0) in
           let same = ap (λ (u : ℕ). D u (p .node)) (w .2) ∙ q .2 in
           ⊎-elim
@@ -292,20 +292,10 @@ module _ {slots : ℕ} {table store : List ℕ} {size : ℕ} {kinds codes : List
           (λ k. rightPair (p .node) (w .0) (q .1) (w .1) k same)
           (true-or-false (deleted S (p .node)))
 
-  other-is : (f : Field) (x : ℕ) → pairOf E x ≡ none → fieldOf new f x ≡ fieldAt (R .before) f x
-  other-is State x e = L.state-other E ready x e
-  other-is (Link i) x e = L.link-other E ready i x e
-  other-is Tag x e = L.tag-other E ready x e
-
-  deleted-is : (f : Field) (u v : ℕ) → O u ≡ true → v < S .nodes → deleted S v ≡ true → fieldOf new f (D u v) ≡ 0
-  deleted-is State u v e h k = L.state-deleted E ready u v e h k
-  deleted-is (Link i) u v e h k = L.link-deleted E ready u v e h i k
-  deleted-is Tag u v e h k = L.tag-deleted E ready u v e h k
-
   field-is : (f : Field) (x : ℕ) → dimension f ≤ 3 → Role x → fieldAt after f x ≡ fieldOf new f x
-  field-is f x l (noPair e) = untouched x e f ∙ sym (other-is f x e)
+  field-is f x l (noPair e) = untouched x e f ∙ field-view slots (R .before) f x ∙ sym (L.field-other ready f x e)
   field-is f x l (deletedPair v r hv hr k e) = subst (λ (y : ℕ). fieldAt after f y ≡ fieldOf new f y) e
-      (gone v r hv hr k f ∙ sym (deleted-is f (P r) v (place-in r hr) hv k))
+      (gone v r hv hr k f ∙ sym (L.field-deleted ready (P r) v (place-in r hr) hv f k))
   field-is f x l (rightPair v r hv hr k e) = subst (λ (y : ℕ). fieldAt after f y ≡ fieldOf new f y) e (field-stays v r hv hr k f l)
 
   edited-words : after ≡ tableOf new

@@ -5,8 +5,8 @@ ghost use lib.ListN.{getD, set};
 ghost use Rattle.model.specs.Map.{State, Link, Tag, recordSize, tableSize, put, view};
 ghost use Rattle.table.specs.Words.{Sized, blanked};
 
-// The words of a record: the state, the link of dimension 0 with the others behind it, and the tag.
-const RECORD: usize = 6;
+// How many words a record has, and which of them are the state, the link of dimension 0 with the others behind it, and the tag.
+pub const RECORD: usize = 6;
 
 const STATE: usize = 0;
 

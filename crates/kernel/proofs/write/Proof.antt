@@ -1,6 +1,5 @@
 -- `kernel::write` meets its contract.
 -- Assumes nothing.
-use Prim.Native.Nat.{_+_, _*_, _≤_}
 use mathlib.Core.Path.{_≡_, sym, _∙_}
 use mathlib.Core.Bool.{true}
 use native.Mathlib.Omega.{arith}
@@ -24,9 +23,6 @@ surveyed : (c : tie.After-found) → let a = c .before .before .before .before .
     (wellFormed (a .n) m ≡ true) × (c .found .given .0 .0 ≡ countBelow (a .slots) (live m))
 surveyed c = survey-live _ _ _ (c .before .before .survey .ensures) _ (c .found .given .1)
 
-few : (c : tie.After-found) → c .found .given .0 .0 * (6 + 2 * (c .before .before .before .before .before .before .before .args .n + 1)) ≤ 1024 * 14
-few c = let a = c .before .before .before .before .before .before .before .args in write-few (a .n) (a .slots) (now (a .table)) (now (a .out)) (sized (c .before .before .before)) _ (surveyed c .1)
-
 sizes-requires : tie.Need-sizes-requires
 sizes-requires c κs = search needs
 
@@ -39,36 +35,35 @@ survey-requires c κs = let a = c .before .before .before .before .args in sizes
 enum-known-found : tie.Need-enum-known-found
 enum-known-found c = search needs
 
-add-size : tie.Need-add-size
-add-size c = search needs
-
-mul-size : tie.Need-mul-size
-mul-size c = search needs
-
-add-size-2 : tie.Need-add-size-2
-add-size-2 c = search needs
-
-mul-size-2 : tie.Need-mul-size-2
-mul-size-2 c = omega (arith, few (c .before))
-
-add-size-3 : tie.Need-add-size-3
-add-size-3 c = omega (arith, few (c .before))
+size-requires : tie.Need-size-requires
+size-requires c κs =
+    let a = c .before .before .before .before .before .before .before .before .args in
+    write-few (a .n) (a .slots) (now (a .table)) (now (a .out)) (sized (c .before .before .before .before)) _ (surveyed (c .before) .1)
 
 returns-2 : tie.Need-returns-2
 returns-2 c =
-    let f = surveyed (c .before .before) in
-    write-kept (write-12 _ _ _ _ (sized (c .before .before .before .before .before)) _ (f .1) (f .0) (omega (arith, c .if2 .taken)))
+    let f = surveyed (c .before .before .before) in
+    write-kept (write-12 _ _ _ _ (sized (c .before .before .before .before .before .before)) _ (f .1) _ (c .before .size .ensures .0) (f .0) (c .if2 .taken))
 
 write-requires : tie.Need-write-requires
 write-requires c κs =
-    let a = c .before .before .before .before .before .before .before .before .before .before .args in
-    let s = sized (c .before .before .before .before .before .before) in
-    let l = surveyed (c .before .before .before) .1 in
-    let r = sizes-read (a .n) (a .slots) (now (a .table)) s in
-    (r .0, (r .1, (write-live (a .n) (a .slots) (now (a .table)) (now (a .out)) s _ l, write-fits (a .n) (a .slots) (now (a .table)) (now (a .out)) s _ l (omega (arith, c .before .if2 .left)))))
+    let f = c .before .before .before .before in
+    let a = f .before .before .before .before .before .before .before .args in
+    let s = sized (f .before .before .before) in
+    let l = surveyed f .1 in
+    let r = sizes-read (a .n) (a .slots) (now (a .table)) s in (
+      r .0,
+      (
+        r .1,
+        (
+          write-live (a .n) (a .slots) (now (a .table)) (now (a .out)) s _ l,
+          write-fits (a .n) (a .slots) (now (a .table)) (now (a .out)) s _ l _ (c .before .before .size .ensures .0) (c .before .if2 .left),
+        ),
+      ),
+    )
 
-cast-t21 : tie.Need-cast-t21
-cast-t21 c = omega (arith, few (c .before .before .before .before .before .before))
+cast-t17 : tie.Need-cast-t17
+cast-t17 c = omega (arith, c .before .before .before .before .before .size .ensures .1)
 
 enum-told : tie.Need-enum-told
 enum-told c = search needs
@@ -78,11 +73,15 @@ same-length c = search needs
 
 returns-3 : tie.Need-returns-3
 returns-3 c =
-    let f = surveyed (c .before .before .before .before .before .before) in
-    write-kept (write-0 _ _ _ _ (sized (c .before .before .before .before .before .before .before .before .before)) _ (f .1) (f .0) _ (c .before .before .before .before .if2 .left) (c .before .before .write .ensures))
+    let b = c .before .before .before .before in
+    let f = b .before .before .before in
+    let g = surveyed f in
+    write-kept (write-0 _ _ _ _ (sized (f .before .before .before)) _ (g .1) _ (b .before .size .ensures .0) (g .0) _
+    (b .if2 .left) (c .before .before .write .ensures))
 
 returns-4 : tie.Need-returns-4
-returns-4 c = write-kept (write-7 _ _ _ _ (sized (c .before .before .before)) (survey-broken _ _ _ (c .before .before .survey .ensures) (c .enum-told .given .1)))
+returns-4 c = write-kept (write-7 _ _ _ _ (sized (c .before .before .before))
+    (survey-broken _ _ _ (c .before .before .survey .ensures) (c .enum-told .given .1)))
 
 pub write-spec : {M : Type 1} → statement M
 write-spec =
@@ -92,14 +91,10 @@ write-spec =
     returns
     survey-requires
     enum-known-found
-    add-size
-    mul-size
-    add-size-2
-    mul-size-2
-    add-size-3
+    size-requires
     returns-2
     write-requires
-    cast-t21
+    cast-t17
     enum-told
     same-length
     returns-3

@@ -1,11 +1,12 @@
 -- `bench::session::session` meets its contract: the map is refused, or its lines and the last one are printed.
 -- Assumes nothing.
-use Prim.Native.Nat.{ℕ, _*_, _≤_, _<_}
+use Prim.Native.Nat.{ℕ, _≤_, _<_}
 use mathlib.Core.Path.{_≡_, sym, ap, _∙_}
 use native.Mathlib.Omega.{arith}
 use lib.ListN.{length, getD, length-replicate}
 use borrow.Author.Needs.{needs}
 use denote.Ref.{now}
+use Rattle.model.specs.Map.{tableSize}
 use Rattle.model.specs.Answer.{number}
 use Rattle.lines.specs.Lines.{refusedLine}
 use Rattle.model.specs.declared.Answer.{Answer}
@@ -23,13 +24,14 @@ asked s n e = let p = s .pre .1 .0 in asked-of _ _ (s .pre .0) (p .0) n _ e (p .
 few : (a : Answer) (k : ℕ) → k ≡ number a → k < 100
 few a k e = omega (arith, e, number-few a)
 
-sized : (e : tie.After-edits) → Sized (e .before .before .before .before .before .before .before .before .before .before .before .before .before .before .before .before .args .slots) (e .edits .last .1 .1 .1 .1 .0)
+sized : (e : tie.After-edits) → let l = e .before .before .before .before .before .before .before .before in
+    Sized (l .before .before .before .before .before .before .before .before .args .slots) (e .edits .last .1 .1 .1 .1 .0)
 sized e =
     let l = e .before .before .before .before .before .before .before .before in
     let s = l .before .before .before .before .before .before .before .before in
     record {
       few = s .pre .1 .0 .2;
-      long = e .edits .kept .1 .1 .1 .1 .0 ∙ l .load .kept .1 .1 .1 .1 .0 ∙ ap length (s .pre .1 .1 .0 .0) ∙ length-replicate (6 * s .args .slots) 0;
+      long = e .edits .kept .1 .1 .1 .1 .0 ∙ l .load .kept .1 .1 .1 .1 .0 ∙ ap length (s .pre .1 .1 .0 .0) ∙ length-replicate (tableSize (s .args .slots)) 0;
     }
 
 shared-slice-read-wide : tie.Need-shared-slice-read-wide
@@ -39,7 +41,9 @@ wide-requires : tie.Need-wide-requires
 wide-requires c κs = search needs
 
 load-requires : tie.Need-load-requires
-load-requires c κs = let s = c .before .before .before .before .before .before .before in (s .pre .0, (asked s _ (c .before .wide .ensures), s .pre .1 .1 .0 .0))
+load-requires c κs =
+    let s = c .before .before .before .before .before .before .before in
+    (s .pre .0, (asked s _ (c .before .wide .ensures), s .pre .1 .1 .0 .0))
 
 number-requires : tie.Need-number-requires
 number-requires c κs = search needs
@@ -47,7 +51,8 @@ number-requires c κs = search needs
 refused-line-requires : tie.Need-refused-line-requires
 refused-line-requires c κs =
     let s = c .before .before .before .before .before .before .before .before .before .before .before .before .before in
-    refused-room (now (s .args .input)) (now (s .args .out)) _ (few (c .before .before .before .before .before .load .result) _ (c .before .before .number .ensures)) (s .pre .1 .1 .1)
+    refused-room (now (s .args .input)) (now (s .args .out)) _
+    (few (c .before .before .before .before .before .load .result) _ (c .before .before .number .ensures)) (s .pre .1 .1 .1)
 
 same-length : tie.Need-same-length
 same-length c = search needs
@@ -62,13 +67,19 @@ returns c =
     let s = l .before .before .before .before .before .before .before .before in
     let e = k .number .ensures ∙ ap number (l .load .ensures .0) in
     wrote-refused _ _ _ _ _ (few (l .load .result) _ (k .number .ensures))
-    (printed-refused _ _ (s .pre .0) (s .pre .1 .0 .0) (λ z. c .before .before .before .before .if1 .taken (e ∙ z)) ∙ ap refusedLine (sym e)) (c .before .before .refused-line .ensures)
+    (printed-refused _ _ (s .pre .0) (s .pre .1 .0 .0) (λ z. c .before .before .before .before .if1 .taken (e ∙ z)) ∙ ap refusedLine (sym e))
+    (c .before .before .refused-line .ensures)
 
 edits-requires : tie.Need-edits-requires
 edits-requires c κs =
     let l = c .before .before .before .before .before .before .before in
-    let s = l .before .before .before .before .before .before .before .before in
-    (s .pre .0, (asked s _ (c .before .before .before .before .before .before .before .before .before .wide .ensures), (record { table = l .load .ensures .1; store = s .pre .1 .1 .0 .1 }, edits-room _ _ (now (s .args .out)) (s .pre .0) (s .pre .1 .1 .1))))
+    let s = l .before .before .before .before .before .before .before .before in (
+      s .pre .0,
+      (
+        asked s _ (c .before .before .before .before .before .before .before .before .before .wide .ensures),
+        (record { table = l .load .ensures .1; store = s .pre .1 .1 .0 .1 }, edits-room _ _ (now (s .args .out)) (s .pre .0) (s .pre .1 .1 .1)),
+      ),
+    )
 
 tally-requires : tie.Need-tally-requires
 tally-requires c κs = sized (c .before .before .before .before .before .before .before)

@@ -6,6 +6,7 @@ use native.Mathlib.Omega.{arith}
 use lib.ListN.{length}
 use denote.Ref.{now}
 use borrow.Author.Needs.{needs}
+use Rattle.model.specs.Map.{State}
 use Rattle.table.specs.Words.{Sized}
 use Rattle.table.proofs.WordLaws.{put-sized}
 use Rattle.file.specs.Form.{slotOf}
@@ -29,14 +30,15 @@ cast-x c = search needs
 room : (a : tie.Start) → 9 + 6 * a .args .darts + 2 * ((a .args .n + 1) * a .args .k) + 2 * (a .args .n + 1) ≤ length (now (a .args .b))
 room a = links-room _ _ _ (a .pre .1 .1 .0) _ _ (a .pre .1 .1 .1 .0) (a .pre .1 .1 .1 .1)
 
-slot : (c : tie.After-two) → let a = c .before .before .before .args in (c .two .result .value ≡ slotOf (now (a .b)) (a .k)) × (c .two .result .value < a .slots)
+slot : (c : tie.After-two) → let a = c .before .before .before .args in
+    (c .two .result .value ≡ slotOf (now (a .b)) (a .k)) × (c .two .result .value < a .slots)
 slot c = let a = c .before .before .before .pre in slot-below _ _ _ (a .1 .1 .0) _ _ (a .1 .1 .1 .0) (a .1 .1 .1 .1) _ (c .two .ensures .value)
 
-sized : (c : tie.After-put) → Sized (c .before .before .before .before .before .before .args .slots) (c .put .last .1 .0)
-sized c = rw (c .put .ensures) (put-sized _ _ 0 1 _ (c .before .before .before .before .before .before .pre .1 .0))
+sized : (c : tie.After-put-state) → Sized (c .before .before .before .before .before .before .args .slots) (c .put-state .last .1 .0)
+sized c = rw (c .put-state .ensures) (put-sized _ State _ 1 _ (c .before .before .before .before .before .before .pre .1 .0))
 
-put-requires : tie.Need-put-requires
-put-requires c κs = (c .before .before .before .before .before .pre .1 .0, (slot (c .before .before) .1, omega arith))
+put-state-requires : tie.Need-put-state-requires
+put-state-requires c κs = (c .before .before .before .before .before .pre .1 .0, slot (c .before .before) .1)
 
 mul-t13-2 : tie.Need-mul-t13-2
 mul-t13-2 c = search needs
@@ -57,7 +59,9 @@ add-t22 : tie.Need-add-t22
 add-t22 c = omega (arith, room (c .before .before .before .before .before .before .before .before))
 
 links-requires : tie.Need-links-requires
-links-requires c κs = let a = c .before .before .before .before .before .before .before .before .before in (a .pre .0, (sized (c .before .before .before), (slot (c .before .before .before .before .before .before) .1, room a)))
+links-requires c κs =
+    let a = c .before .before .before .before .before .before .before .before .before in
+    (a .pre .0, (sized (c .before .before .before), (slot (c .before .before .before .before .before .before) .1, room a)))
 
 mul-t22 : tie.Need-mul-t22
 mul-t22 c = search needs
@@ -74,10 +78,12 @@ add-t20 c = search needs
 four-requires : tie.Need-four-requires
 four-requires c κs = search needs
 
-put-requires-2 : tie.Need-put-requires-2
-put-requires-2 c κs =
-    let l = c .before .before .before .before in
-    (rw (l .links .ensures) (links-sized _ _ _ _ 4 (sized (l .before .before .before .before))), (slot (l .before .before .before .before .before .before .before) .1, omega arith))
+put-tag-requires : tie.Need-put-tag-requires
+put-tag-requires c κs =
+    let l = c .before .before .before .before in (
+      rw (l .links .ensures) (links-sized _ _ _ _ 4 (sized (l .before .before .before .before))),
+      slot (l .before .before .before .before .before .before .before) .1,
+    )
 
 same-length : tie.Need-same-length
 same-length c = search needs
@@ -89,7 +95,8 @@ returns c =
     let l = four .before .before .before in
     let p = l .before .before .before .before in
     let e = p .before .before .before .before .before .before .pre .1 .1 .1 .0 in
-    entered _ _ _ _ _ _ _ _ _ _ _ (slot (p .before .before .before) .0) (rw (← e) refl) (four .four .ensures .value) (rw (← e) refl) (p .put .ensures) (l .links .ensures) (c .before .before .put2 .ensures)
+    entered _ _ _ _ _ _ _ _ _ _ _ (slot (p .before .before .before) .0) (rw (← e) refl) (four .four .ensures .value) (rw (← e) refl)
+    (p .put-state .ensures) (l .links .ensures) (c .before .before .put-tag .ensures)
 
 pub enter-spec : {M : Type 1} → statement M
 enter-spec =
@@ -99,7 +106,7 @@ enter-spec =
     add-t14
     two-requires
     cast-x
-    put-requires
+    put-state-requires
     mul-t13-2
     add-t14-2
     add-t19
@@ -112,6 +119,6 @@ enter-spec =
     mul-t21-2
     add-t20
     four-requires
-    put-requires-2
+    put-tag-requires
     same-length
     returns)

@@ -8,8 +8,8 @@ use Rattle.file.proofs.records.link.Tie as tie
 two-requires : tie.Need-two-requires
 two-requires c κs = search needs
 
-put-requires : tie.Need-put-requires
-put-requires c κs = search needs
+put-link-requires : tie.Need-put-link-requires
+put-link-requires c κs = search needs
 
 same-length : tie.Need-same-length
 same-length c = search needs
@@ -18,7 +18,7 @@ returns : tie.Need-returns
 returns c =
     let p = c .before .before .before in
     let number = p .before .before .two .ensures in
-    (put-number _ _ _ _ (p .put .ensures) (number .value), number .next)
+    (put-number _ _ _ _ (p .put-link .ensures) (number .value), number .next)
 
 pub link-spec : {M : Type 1} → statement M
-link-spec = tie.close (tie.spec two-requires put-requires same-length returns)
+link-spec = tie.close (tie.spec two-requires put-link-requires same-length returns)

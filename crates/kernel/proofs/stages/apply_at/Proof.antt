@@ -5,34 +5,40 @@ use mathlib.Core.Path.{_≡_, sym, _∙_}
 use mathlib.Core.Bool.{true}
 use denote.Ref.{now}
 use Rattle.base.specs.Below.{countBelow}
-use Rattle.model.specs.Map.{view, live, unused}
+use Rattle.model.specs.Map.{Map, view, live, unused}
 use Rattle.model.specs.WellFormed.{wellFormed}
 use Rattle.table.proofs.SurveyLaws.{survey-live, survey-broken}
-use Rattle.kernel.proofs.StageLaws.{other-dimension, bad-table, dart-out, dart-dead, at-dart, applied, unused-left}
+use Rattle.kernel.proofs.StageLaws.{other-dimension, bad-table, dart-out, dart-dead, sound, applied, unused-left}
 use borrow.Author.Needs.{needs}
 use Rattle.kernel.proofs.stages.apply_at.Statement.{statement}
 use Rattle.kernel.proofs.stages.apply_at.Tie as tie
 
 -- past the tests of n and of the table
-same : (k : tie.After-known-told) → let a = k .before .before .before .before .before .before .before .before .before .args in a .s .n ≡ a .n
+abbrev start : tie.After-known-told → tie.Start
+start k = k .before .before .before .before .before .before .before .before .before
+
+same : (k : tie.After-known-told) → start k .args .s .n ≡ start k .args .n
 same k = let e = k .before .before .before .before .before in sym (e .before .wide .ensures) ∙ e .if1 .left
 
-lives : (k : tie.After-known-told) → let a = k .before .before .before .before .before .before .before .before .before .args in
-    (wellFormed (a .n) (view (a .slots) (now (a .table))) ≡ true) × (k .before .found .given .0 .0 ≡ countBelow (a .slots) (live (view (a .slots) (now (a .table)))))
+abbrev map : tie.After-known-told → Map
+map k = view (start k .args .slots) (now (start k .args .table))
+
+lives : (k : tie.After-known-told)
+    → (wellFormed (start k .args .n) (map k) ≡ true) × (k .before .found .given .0 .0 ≡ countBelow (start k .args .slots) (live (map k)))
 lives k = survey-live _ _ _ (k .before .before .before .survey .ensures) _ (k .before .found .given .1)
 
-free : (k : tie.After-known-told) → let a = k .before .before .before .before .before .before .before .before .before .args in
-    (k .before .found .given .0 .0 ≤ a .slots) × (a .slots - k .before .found .given .0 .0 ≡ countBelow (a .slots) (unused (view (a .slots) (now (a .table)))))
-free k = let a = k .before .before .before .before .before .before .before .before .before .args in unused-left (a .n) (a .slots) (now (a .table)) _ (lives k .0) (lives k .1)
+free : (k : tie.After-known-told) → (k .before .found .given .0 .0 ≤ start k .args .slots)
+    × (start k .args .slots - k .before .found .given .0 .0 ≡ countBelow (start k .args .slots) (unused (map k)))
+free k = let a = start k .args in unused-left (a .n) (a .slots) (now (a .table)) _ (lives k .0) (lives k .1)
 
-well : (k : tie.After-known-told) → let a = k .before .before .before .before .before .before .before .before .before .args in wellFormed (a .n) (view (a .slots) (now (a .table))) ≡ true
+well : (k : tie.After-known-told) → wellFormed (start k .args .n) (map k) ≡ true
 well k = lives k .0
 
 wide-requires : tie.Need-wide-requires
 wide-requires c κs = search needs
 
 returns : tie.Need-returns
-returns c = other-dimension _ _ _ _ _ _ (c .before .wide .ensures) (c .if1 .taken)
+returns c = other-dimension _ (c .before .wide .ensures) (c .if1 .taken)
 
 survey-requires : tie.Need-survey-requires
 survey-requires c κs = search needs
@@ -50,13 +56,13 @@ returns-2 : tie.Need-returns-2
 returns-2 c =
     let f = c .before .before in
     let e = f .before .before in
-    bad-table _ _ _ _ _ (sym (e .before .wide .ensures) ∙ e .if1 .left) (survey-broken _ _ _ (f .survey .ensures) (c .enum-told .given .1))
+    bad-table (sym (e .before .wide .ensures) ∙ e .if1 .left) (survey-broken _ _ _ (f .survey .ensures) (c .enum-told .given .1))
 
 same-length-2 : tie.Need-same-length-2
 same-length-2 c = search needs
 
 returns-3 : tie.Need-returns-3
-returns-3 c = dart-out _ _ _ _ _ (same (c .before)) (well (c .before)) (c .if2 .taken)
+returns-3 c = dart-out (same (c .before)) (well (c .before)) (c .if2 .taken)
 
 state-requires : tie.Need-state-requires
 state-requires c κs = search needs
@@ -67,7 +73,7 @@ same-length-3 c = search needs
 returns-4 : tie.Need-returns-4
 returns-4 c =
     let e = c .before .before .before in
-    dart-dead _ _ _ _ _ (same (e .before)) (well (e .before)) (e .if2 .left) _ (c .before .state .ensures) (c .if3 .taken)
+    dart-dead (same (e .before)) (well (e .before)) (e .if2 .left) _ (c .before .state .ensures) (c .if3 .taken)
 
 sub-apply : tie.Need-sub-apply
 sub-apply c = free (c .before .before .before .before .before .before) .0
@@ -77,8 +83,9 @@ apply-requires c κs =
     let d = c .before .before in
     let e = d .before .before .before in
     let k = e .before in
-    let p = k .before .before .before .before .before .before .before .before .before .pre in
-    (at-dart _ _ _ _ _ (same k) (well k) (e .if2 .left) (sym (d .before .state .ensures) ∙ d .if3 .left) (p .1 .0) (p .1 .1 .1 .0), (p .1 .1 .0, (free k .1, p .1 .1 .1 .1)))
+    let p = start k .pre in
+    let h = sound (same k) (well k) (e .if2 .left) (sym (d .before .state .ensures) ∙ d .if3 .left) (p .1 .0) in
+    (p .1 .1 .1 .0, (h, (p .1 .1 .0, (free k .1, p .1 .1 .1 .1))))
 
 same-length-4 : tie.Need-same-length-4
 same-length-4 c = search needs
@@ -92,7 +99,7 @@ returns-5 c =
     let d = r .before .before .before in
     let e = d .before .before .before in
     let k = e .before in
-    applied _ _ _ _ _ (same k) (well k) (e .if2 .left) (sym (d .before .state .ensures) ∙ d .if3 .left) _ _ (r .apply .ensures)
+    applied (same k) (well k) (e .if2 .left) (sym (d .before .state .ensures) ∙ d .if3 .left) (r .apply .ensures)
 
 pub apply-at-spec : {M : Type 1} → statement M
 apply-at-spec =

@@ -5,7 +5,8 @@ use mathlib.Core.Bool.{true}
 use denote.Ref.{now}
 use Rattle.model.specs.Scheme.{inForm, schemeOf}
 use Rattle.conditions.specs.Verdict.{VerdictOf}
-use Rattle.kernel.proofs.StageLaws.{judged, form-bad, form-good, form-refused, read-scheme, judged-good, judge-asks, no-fault, its-fault, no-fault-accepted, stage-refused, stage-on, not-zero}
+use Rattle.kernel.proofs.StageLaws.{judged, form-bad, form-good, form-refused, read-scheme, judged-good, judge-asks}
+use Rattle.kernel.proofs.StageLaws.{no-fault, its-fault, no-fault-accepted, stage-refused, stage-on, not-zero}
 use borrow.Author.Needs.{needs}
 use Rattle.kernel.proofs.stages.staged.Statement.{statement}
 use Rattle.kernel.proofs.stages.staged.Tie as tie
@@ -33,7 +34,7 @@ read-requires : tie.Need-read-requires
 read-requires c κs = search needs
 
 returns : tie.Need-returns
-returns c = stage-refused _ _ _ _ _ _ (form-refused _ (form-bad _ _ (c .before .read .ensures) (c .if1 .taken)))
+returns c = stage-refused _ _ _ _ _ (form-refused _ (form-bad _ _ (c .before .read .ensures) (c .if1 .taken)))
 
 judge-requires : tie.Need-judge-requires
 judge-requires c κs = let e = c .before .before .before .before .before .before .before .before .before in judge-asks _ _ (e .before .read .ensures) (form e)
@@ -60,10 +61,10 @@ returns-2 c =
     let a = c .before .before .before .before in
     let o = a .before .before .before in
     let j = o .before .before .before .before in
-    stage-on _ _ _ _ _ _ _ _ (no-fault _ _ (answer-is j) (o .enum-told .given .1)) (scheme-is (read-done j)) (a .apply-at .ensures)
+    stage-on _ _ _ _ _ (no-fault _ _ (answer-is j) (o .enum-told .given .1)) (scheme-is (read-done j)) (a .apply-at .ensures)
 
 returns-3 : tie.Need-returns-3
-returns-3 c = stage-refused _ _ _ _ _ _ (its-fault _ _ (answer-is (c .before .before .before)) (λ e. not-zero (rw e at (c .match .keys2))))
+returns-3 c = stage-refused _ _ _ _ _ (its-fault _ _ (answer-is (c .before .before .before)) (λ e. not-zero (rw e at (c .match .keys2))))
 
 pub staged-spec : {M : Type 1} → statement M
 staged-spec =
