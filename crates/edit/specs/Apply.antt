@@ -13,7 +13,7 @@ use Rattle.model.specs.Scheme.{right}
 use Rattle.model.specs.Site.{Site}
 use Rattle.model.specs.Match.{matches}
 use Rattle.model.specs.Edit.{edited}
-use Rattle.model.specs.Calls.{fitFault, siteDone}
+use Rattle.model.specs.Calls.{fitFault, siteFault, siteDone}
 use Rattle.model.specs.declared.Answer.{Answer}
 use Rattle.model.specs.Shaped.{Coded}
 use Rattle.orbit.specs.Store.{Taken, Assigned}
@@ -50,3 +50,7 @@ pub record Settled (fault : Option Answer) (E : Site) (t : List ℕ) (r : Answer
 -- where 9 and 10 are the refusals that are left
 abbrev pub Applied : Site → List ℕ → Answer → List ℕ → Type 0
 Applied E = Settled (fitFault E) E
+
+-- where 6 to 10 are left, n being the call's dimension
+abbrev pub AppliedAt : ℕ → Site → List ℕ → Answer → List ℕ → Type 0
+AppliedAt n E = Settled (siteFault n E) E

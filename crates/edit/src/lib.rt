@@ -1,5 +1,6 @@
-// Applying an accepted scheme at a dart: refusals 9 and 10, and the published rewriting.
+// Applying an accepted scheme at a dart: refusals 9 and 10, and the published rewriting; 6 to 8 before them are in `site`.
 pub mod nodes;
+pub mod site;
 
 use conditions::arcs::wide;
 use conditions::tree::Tree;

@@ -36,9 +36,10 @@ use Rattle.model.proofs.CallLaws.{bytes-accepted}
 use Rattle.scheme.specs.Reading.{reading}
 use Rattle.scheme.specs.declared.Reading.{Reading}
 use Rattle.conditions.specs.Verdict.{Judging}
-use Rattle.edit.specs.Apply.{Settled, Applied}
 use Rattle.demands.specs.Promises.{MapEdited}
-use Rattle.kernel.specs.Stages.{AppliedAt, Staged}
+use Rattle.edit.specs.Apply.{AppliedAt}
+use Rattle.edit.proofs.SiteLaws.{refused}
+use Rattle.kernel.specs.Stages.{Staged}
 use Rattle.demands.proofs.RefusalLaws.{bytes-within}
 
 -- ---- the scheme's bytes
@@ -128,64 +129,6 @@ module _ (b : List ℕ) (r : Answer) (j : r ≡ judged b) where
       go : (o : Option Answer) → bytesFault b ≡ o → bytesFault b ≡ some r
       go none q = absurd (n (j ∙ ap (λ (o : Option Answer). Option·getD o Done) q))
       go (some a) q = q ∙ ap {B = Option Answer} some (sym (j ∙ ap (λ (o : Option Answer). Option·getD o Done) q))
-
--- ---- the dart
-
--- an edit whose first fault is a leaves the table as it was
-pub refused : {fault : Option Answer} {E : Site} {t : List ℕ} {a : Answer} → fault ≡ some a → Settled fault E t a t
-unfolding there
-refused e = record { answer = rw e refl; table = rw e refl }
-
-module _ {n : ℕ} {E : Site} {t : List ℕ} where
-  pub other-dimension : (x : ℕ) → x ≡ E .scheme .n → (x ≡ n → ⊥) → AppliedAt n E t OtherDimension t
-  unfolding siteFault someIf _orElse_
-  other-dimension x e h = let q = ne-eqb (E .scheme .n) n (λ z. h (e ∙ z)) in refused (rw q refl)
-
-  module _ (same : E .scheme .n ≡ n) where
-    pub bad-table : wellFormed n (E .map) ≡ false → AppliedAt n E t BadTable t
-    unfolding siteFault someIf _orElse_
-    bad-table w = refused (rw (eq-eqb (E .scheme .n) n same, w) refl)
-
-    module _ (w : wellFormed n (E .map) ≡ true) where
-      pub dart-out : E .map .slots ≤ E .dart → AppliedAt n E t NoDart t
-      unfolding siteFault someIf _orElse_ _and_
-      dart-out h = refused (rw (eq-eqb (E .scheme .n) n same, w, le-ltb (E .dart) (E .map .slots) h) refl)
-
-      module _ (slot : E .dart < E .map .slots) where
-        pub dart-dead : (s : ℕ) → s ≡ E .map .state (E .dart) → (s ≡ 1 → ⊥) → AppliedAt n E t NoDart t
-        unfolding siteFault someIf _orElse_ _and_
-        dart-dead s e h =
-            let z : live (E .map) (E .dart) ≡ false = ne-eqb (E .map .state (E .dart)) 1 (λ y. h (e ∙ y)) in
-            refused (rw (eq-eqb (E .scheme .n) n same, w, lt-ltb (E .dart) (E .map .slots) slot, z) refl)
-
-        module _ (alive : E .map .state (E .dart) ≡ 1) where
-          pub applied : {r : Answer} {t′ : List ℕ} → Applied E t r t′ → AppliedAt n E t r t′
-          unfolding siteFault someIf _orElse_
-          applied {r} {t′} a =
-              let z = and-of (lt-ltb (E .dart) (E .map .slots) slot) (eq-eqb (E .map .state (E .dart)) 1 alive) in
-              rw (eq-eqb (E .scheme .n) n same, w, z) a
-
-pub sound : {n : ℕ} {E : Site} → E .scheme .n ≡ n → wellFormed n (E .map) ≡ true → E .dart < E .map .slots → E .map .state (E .dart) ≡ 1
-    → Accepted (E .scheme) → Sound E
-sound {n} {E} same w slot alive a = record {
-  accepted = a;
-  well = wellFormed-iff (E .scheme .n) (E .map) .0 (ap (λ (k : ℕ). wellFormed k (E .map)) same ∙ w);
-  slot = slot;
-  alive = alive;
-}
-
--- in a well-formed table the slots that are not live are unused
-pub unused-left : (n N : ℕ) (t : List ℕ) (k : ℕ) → wellFormed n (view N t) ≡ true → k ≡ countBelow N (live (view N t))
-    → (k ≤ N) × (N - k ≡ countBelow N (unused (view N t)))
-unused-left n N t k w e =
-    let m = view N t in
-    let all = count-not N (live m) in
-    let rest : countBelow N (λ x. not (live m x)) ≡ countBelow N (unused m) =
-    count-same N _ (unused m) (λ x h. either (m .state x) (wellFormed-iff n m .0 w .states x h)) in
-    (omega arith, omega arith)
-  where
-    either : (s : ℕ) → (s ≡ 0) ⊎ (s ≡ 1) → not (eqb s 1) ≡ eqb s 0
-    either s c = ⊎-elim (λ z. rw z refl) (λ z. rw z refl) c
 
 -- ---- all stages
 

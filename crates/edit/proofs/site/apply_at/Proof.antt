@@ -1,4 +1,4 @@
--- `kernel::stages::apply_at` meets its contract.
+-- `edit::site::apply_at` meets its contract.
 -- Assumes nothing.
 use Prim.Native.Nat.{_-_, _≤_}
 use mathlib.Core.Path.{_≡_, sym, _∙_}
@@ -8,10 +8,10 @@ use Rattle.base.specs.Below.{countBelow}
 use Rattle.model.specs.Map.{Map, view, live, unused}
 use Rattle.model.specs.WellFormed.{wellFormed}
 use Rattle.table.proofs.SurveyLaws.{survey-live, survey-broken}
-use Rattle.kernel.proofs.StageLaws.{other-dimension, bad-table, dart-out, dart-dead, sound, applied, unused-left}
+use Rattle.edit.proofs.SiteLaws.{other-dimension, bad-table, dart-out, dart-dead, sound, applied, unused-left}
 use borrow.Author.Needs.{needs}
-use Rattle.kernel.proofs.stages.apply_at.Statement.{statement}
-use Rattle.kernel.proofs.stages.apply_at.Tie as tie
+use Rattle.edit.proofs.site.apply_at.Statement.{statement}
+use Rattle.edit.proofs.site.apply_at.Tie as tie
 
 -- past the tests of n and of the table
 abbrev start : tie.After-known-told → tie.Start

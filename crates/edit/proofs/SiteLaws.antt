@@ -1,0 +1,81 @@
+-- The laws of `site::apply_at`: refusals 6 to 8, and what holds past them.
+-- Assumes nothing.
+use Prim.Native.Nat.{ℕ, _-_, _≤_, _<_}
+use mathlib.Core.Path.{_≡_, refl, ap, _∙_}
+use mathlib.Core.Logic.{_⊎_, ⊎-elim}
+use mathlib.Core.Bool.{true, false, not}
+use mathlib.Core.Option.{Option, some}
+use mathlib.Core.List.{List}
+use native.Mathlib.Omega.{arith}
+use lib.Dec.{eqb}
+use borrow.Author.Tests.{eq-eqb, ne-eqb, lt-ltb, le-ltb}
+use Rattle.base.specs.Test.{_and_}
+use Rattle.base.specs.Below.{countBelow}
+use Rattle.base.specs.First.{someIf, _orElse_, there}
+use Rattle.base.proofs.TestLaws.{and-of}
+use Rattle.base.proofs.BelowLaws.{count-same, count-not}
+use Rattle.model.specs.Map.{view, live, unused}
+use Rattle.model.specs.WellFormed.{wellFormed}
+use Rattle.model.specs.Accepted.{Accepted}
+use Rattle.model.specs.Site.{Site, Sound}
+use Rattle.model.specs.Calls.{siteFault}
+use Rattle.model.specs.declared.Answer.{Answer}
+use Rattle.model.specs.declared.Answer.the-variants.{OtherDimension, BadTable, NoDart}
+use Rattle.model.proofs.WellFormedLaws.{wellFormed-iff}
+use Rattle.edit.specs.Apply.{Settled, Applied, AppliedAt}
+
+-- an edit whose first fault is a leaves the table as it was
+pub refused : {fault : Option Answer} {E : Site} {t : List ℕ} {a : Answer} → fault ≡ some a → Settled fault E t a t
+unfolding there
+refused e = record { answer = rw e refl; table = rw e refl }
+
+module _ {n : ℕ} {E : Site} {t : List ℕ} where
+  pub other-dimension : (x : ℕ) → x ≡ E .scheme .n → (x ≡ n → ⊥) → AppliedAt n E t OtherDimension t
+  unfolding siteFault someIf _orElse_
+  other-dimension x e h = let q = ne-eqb (E .scheme .n) n (λ z. h (e ∙ z)) in refused (rw q refl)
+
+  module _ (same : E .scheme .n ≡ n) where
+    pub bad-table : wellFormed n (E .map) ≡ false → AppliedAt n E t BadTable t
+    unfolding siteFault someIf _orElse_
+    bad-table w = refused (rw (eq-eqb (E .scheme .n) n same, w) refl)
+
+    module _ (w : wellFormed n (E .map) ≡ true) where
+      pub dart-out : E .map .slots ≤ E .dart → AppliedAt n E t NoDart t
+      unfolding siteFault someIf _orElse_ _and_
+      dart-out h = refused (rw (eq-eqb (E .scheme .n) n same, w, le-ltb (E .dart) (E .map .slots) h) refl)
+
+      module _ (slot : E .dart < E .map .slots) where
+        pub dart-dead : (s : ℕ) → s ≡ E .map .state (E .dart) → (s ≡ 1 → ⊥) → AppliedAt n E t NoDart t
+        unfolding siteFault someIf _orElse_ _and_
+        dart-dead s e h =
+            let z : live (E .map) (E .dart) ≡ false = ne-eqb (E .map .state (E .dart)) 1 (λ y. h (e ∙ y)) in
+            refused (rw (eq-eqb (E .scheme .n) n same, w, lt-ltb (E .dart) (E .map .slots) slot, z) refl)
+
+        module _ (alive : E .map .state (E .dart) ≡ 1) where
+          pub applied : {r : Answer} {t′ : List ℕ} → Applied E t r t′ → AppliedAt n E t r t′
+          unfolding siteFault someIf _orElse_
+          applied {r} {t′} a =
+              let z = and-of (lt-ltb (E .dart) (E .map .slots) slot) (eq-eqb (E .map .state (E .dart)) 1 alive) in
+              rw (eq-eqb (E .scheme .n) n same, w, z) a
+
+pub sound : {n : ℕ} {E : Site} → E .scheme .n ≡ n → wellFormed n (E .map) ≡ true → E .dart < E .map .slots → E .map .state (E .dart) ≡ 1
+    → Accepted (E .scheme) → Sound E
+sound {n} {E} same w slot alive a = record {
+  accepted = a;
+  well = wellFormed-iff (E .scheme .n) (E .map) .0 (ap (λ (k : ℕ). wellFormed k (E .map)) same ∙ w);
+  slot = slot;
+  alive = alive;
+}
+
+-- in a well-formed table the slots that are not live are unused
+pub unused-left : (n N : ℕ) (t : List ℕ) (k : ℕ) → wellFormed n (view N t) ≡ true → k ≡ countBelow N (live (view N t))
+    → (k ≤ N) × (N - k ≡ countBelow N (unused (view N t)))
+unused-left n N t k w e =
+    let m = view N t in
+    let all = count-not N (live m) in
+    let rest : countBelow N (λ x. not (live m x)) ≡ countBelow N (unused m) =
+    count-same N _ (unused m) (λ x h. either (m .state x) (wellFormed-iff n m .0 w .states x h)) in
+    (omega arith, omega arith)
+  where
+    either : (s : ℕ) → (s ≡ 0) ⊎ (s ≡ 1) → not (eqb s 1) ≡ eqb s 0
+    either s c = ⊎-elim (λ z. rw z refl) (λ z. rw z refl) c
