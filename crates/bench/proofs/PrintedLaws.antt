@@ -15,7 +15,7 @@ use Rattle.base.proofs.BelowLaws.{count-le}
 use Rattle.base.proofs.ListLaws.{sets-start}
 use Rattle.model.specs.Answer.{number}
 use Rattle.model.specs.Map.{tableSize, view, live, unused, maxSlots}
-use Rattle.model.specs.Calls.{sizesOk, readFault, readAnswer}
+use Rattle.model.specs.Calls.{sizesOk, readFaultAt, readFault, readAnswer}
 use Rattle.bench.specs.Bench.{lastLine, mapLength, framed, mapSlots, mapAnswer, tableAfter, runLines, printed, mostDarts}
 use Rattle.lines.specs.Lines.{refusedLine}
 use Rattle.lines.proofs.LineLaws.{refused-few}
@@ -34,9 +34,9 @@ pub printed-fault : (b : List ℕ) → framed b ≡ false → printed b ≡ refu
 unfolding printed _and_
 printed-fault b e = rw e refl
 
--- a table of more than 1,024 slots is refused
+-- a table of too many slots is refused
 many-slots : (n N : ℕ) (t b : List ℕ) → maxSlots < N → readAnswer n N t b ≡ BadCall
-unfolding readAnswer readFault someIf _orElse_ _and_
+unfolding readAnswer readFault readFaultAt someIf _orElse_ _and_
 many-slots n N t b h =
     let over : sizesOk n N t ≡ false = ap (λ (x : Bool). x and eqb (length t) (tableSize N))
     (ap (λ (x : Bool). (eqb n 2 or eqb n 3) and leb 1 N and x) (lt-leb N maxSlots h) ∙ and-no-right ((eqb n 2 or eqb n 3) and leb 1 N) refl) in

@@ -7,20 +7,20 @@ use mathlib.Core.List.{List}
 use native.Mathlib.Nat.{mul-le-mul-left}
 use native.Mathlib.Omega.{arith}
 use lib.ListN.{length}
-use borrow.Author.Tests.{leb-true, ne-eqb}
+use borrow.Author.Tests.{ne-eqb}
 use Rattle.base.specs.Below.{countBelow}
-use Rattle.base.proofs.TestLaws.{and-left, and-right}
 use Rattle.base.proofs.BelowLaws.{count-le}
 use Rattle.model.specs.Answer.{number}
 use Rattle.model.specs.Map.{view, unused, maxSlots}
 use Rattle.model.specs.Bytes.{nodesOf}
 use Rattle.model.specs.Scheme.{schemeOf, deleted}
 use Rattle.model.specs.Edit.{orbitSize, addedDarts, deletedDarts}
-use Rattle.model.specs.Calls.{orbitOf, editFault, editAnswer}
+use Rattle.model.specs.Calls.{siteDone, siteOf, editFault, editAnswer}
 use Rattle.bench.specs.Bench.{shown, dartLine, lastLine}
 use Rattle.model.specs.declared.Answer.{Answer}
 use Rattle.model.specs.declared.Answer.the-variants.{Edited}
 use Rattle.model.proofs.AnswerLaws.{number-few}
+use Rattle.model.proofs.SizeLaws.{sizes-iff}
 use Rattle.model.proofs.CallLaws.{granted}
 use Rattle.model.proofs.SchemeLaws.{nodes-few}
 use Rattle.demands.proofs.RefusalLaws.{edit-within}
@@ -49,16 +49,15 @@ done-short d o e f h x y z =
     )
 
 module _ (n N : ℕ) (t store b : List ℕ) (d : ℕ) where
-  granted-short : editFault n N t store b d ≡ none → length (dartLine d (Edited (orbitSize (view N t) (schemeOf b) (orbitOf N t b d))
-      (addedDarts (view N t) (schemeOf b) (orbitOf N t b d)) (deletedDarts (view N t) (schemeOf b) (orbitOf N t b d)))) ≤ 23
-  unfolding orbitSize deletedDarts schemeOf
+  granted-short : editFault n N t store b d ≡ none → length (dartLine d (siteDone (siteOf N t b d))) ≤ 23
+  unfolding siteDone orbitSize deletedDarts schemeOf
   granted-short q =
       let g = granted n N t store b d q in
-      let few : N ≤ maxSlots = leb-true _ _ (and-right _ _ (and-left _ _ (g .sizes))) in
-      let O = orbitOf N t b d in
+      let few = sizes-iff n N t .0 (g .sizes) .few in
+      let O = siteOf N t b d .orbit in
       let orbits : countBelow N O ≤ N = count-le N O in
       let nodes : countBelow (nodesOf b) (deleted (schemeOf b)) ≤ 16 = omega (arith, count-le (nodesOf b) (deleted (schemeOf b)), nodes-few b (g .form)) in
-      let room : addedDarts (view N t) (schemeOf b) O ≤ maxSlots = omega (arith, g .room, count-le N (unused (view N t))) in
+      let room : addedDarts (siteOf N t b d) ≤ maxSlots = omega (arith, g .room, count-le N (unused (view N t))) in
       let gone : countBelow N O * countBelow (nodesOf b) (deleted (schemeOf b)) ≤ 16 * maxSlots =
       omega (arith, mul-le-mul-left (countBelow N O) nodes) in
       done-short d _ _ _ (omega (arith, g .slot)) (omega arith) room gone
@@ -67,8 +66,8 @@ module _ (n N : ℕ) (t store b : List ℕ) (d : ℕ) where
   unfolding editAnswer
   line-short h = go (editFault n N t store b d) refl
     where
-      go : (o : Option Answer) → editFault n N t store b d ≡ o → length (dartLine d (Option·getD (editFault n N t store b d) (Edited (orbitSize (view N t) (schemeOf b) (orbitOf N t b d))
-          (addedDarts (view N t) (schemeOf b) (orbitOf N t b d)) (deletedDarts (view N t) (schemeOf b) (orbitOf N t b d))))) ≤ 23
+      go : (o : Option Answer) → editFault n N t store b d ≡ o
+          → length (dartLine d (Option·getD (editFault n N t store b d) (siteDone (siteOf N t b d)))) ≤ 23
       go none q = rw q (granted-short q)
       go (some a) q = rw q (refused-short d a h (λ e. omega (arith, edit-within n N t store b d .least a q)))
 
