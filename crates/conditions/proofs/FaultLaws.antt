@@ -50,7 +50,8 @@ module _ (S : Scheme) (f : Shaped S) (lefts rights : List ℕ) (cl : Coded S lef
       let k = f .placesFew in
       ((two, d, omega arith, f .nodesFew), (coding S f left lefts cl, coding S f right rights cr))
 
-  module _ (long : length (S .lwords) ≡ 64) (t : Tree) (g : TreeOf S t) (ltwice rtwice : List Bool) (tl : ltwice ≡ twiceOf S left) (tr : rtwice ≡ twiceOf S right) where
+  module _ (long : length (S .lwords) ≡ 64) (t : Tree) (g : TreeOf S t) (ltwice rtwice : List Bool) (tl : ltwice ≡ twiceOf S left)
+      (tr : rtwice ≡ twiceOf S right) where
     hook-found : foundOf (hookFault S)
         ≡ hookBy (S .places) (S .orbit) (S .kinds) (S .lwords) (foundOf (least (S .nodes) (leftOut (S .kinds) (t .reached))))
     unfolding hookFault hookBy someIf _orElse_
@@ -112,6 +113,7 @@ module _ {n places nodes : ℕ} {orbit kinds lwords ltargets rtargets : List ℕ
         let left = rw (ec, J .nodesIs, J .kindsIs) at eo in
         let by = rw (ep, ec, J .nIs, J .placesIs, J .nodesIs, J .orbitIs, J .kindsIs, J .lwordsIs) at e in
         record {
-          answer = fault-is (J .scheme) (J .shaped) ltargets rtargets left-coded right-coded long t tree ltwice rtwice (J .ltwiceIs) (J .rtwiceIs) out left r by;
+          answer = fault-is (J .scheme) (J .shaped) ltargets rtargets left-coded right-coded long t tree ltwice rtwice (J .ltwiceIs)
+              (J .rtwiceIs) out left r by;
           tree = tree;
         }

@@ -44,7 +44,8 @@ module _ (S : Scheme) (f : Shaped S) where
         let b = g .spans .branch (suc k) (omega arith) l in
         let e = b .earlier in
         let q = b .before in
-        let s = between-arc S _ _ (b .joined .arc) (b .joined .below) (subst (λ (z : ℕ). Ends (arcPart S left) (b .joined .arc) z (getD (t .node) (suc k) 0)) (sym (b .parentIs)) (b .joined .ends)) in
+        let s = between-arc S _ _ (b .joined .arc) (b .joined .below)
+        (subst (λ (z : ℕ). Ends (arcPart S left) (b .joined .arc) z (getD (t .node) (suc k) 0)) (sym (b .parentIs)) (b .joined .ends)) in
         path-step (getD (t .node) e 0) (getD (t .node) (suc k) 0) (s .0) (node-below e (omega arith)) (node-below (suc k) l)
         (entry-path n e (omega arith) (omega arith)) (s .1)
 

@@ -81,7 +81,11 @@ module _ (b : List ℕ) (at least most size : ℕ) where
 
   pub fitted : fits b at least most size ≡ true → Fitted
   unfolding fits
-  fitted e = record { some = leb-true _ _ (and-left _ _ (and-left _ _ e)); few = leb-true _ _ (and-right _ _ (and-left _ _ e)); within = leb-true _ _ (and-right _ _ e) }
+  fitted e = record {
+    some = leb-true _ _ (and-left _ _ (and-left _ _ e));
+    few = leb-true _ _ (and-right _ _ (and-left _ _ e));
+    within = leb-true _ _ (and-right _ _ e);
+  }
 
   pub fitting : Fitted → fits b at least most size ≡ true
   unfolding fits
@@ -116,7 +120,8 @@ told-bad true m c e = absurd (let z : _≡_ {A = ℕ} 0 1 = cc in omega arith)
 told-bad false m c e = refl
 
 -- what a count's answer tells, at the place, the bound and the size that the model names
-module _ (b : List ℕ) (at least most size : ℕ) {at′ most′ size′ : ℕ} {r : Section} (p : at′ ≡ at) (q : most′ ≡ most) (z : size′ ≡ size) (s : r ≡ sectionAt b at′ least most′ size′) where
+module _ (b : List ℕ) (at least most size : ℕ) {at′ most′ size′ : ℕ} {r : Section} (p : at′ ≡ at) (q : most′ ≡ most) (z : size′ ≡ size)
+    (s : r ≡ sectionAt b at′ least most′ size′) where
   pub counted : {m : ℕ} {c : Cursor} → r ≡ Count m c → (m ≡ byte b at) × (c .at ≡ after b at size) × Fitted b at least most size
   unfolding sectionAt
   counted e =

@@ -15,7 +15,8 @@ use Rattle.base.specs.First.{first, someIf, _orElse_}
 use Rattle.base.proofs.TestLaws.{and-true, or-false, eqb-same}
 use Rattle.base.proofs.FirstLaws.{or-else-last, first-same}
 use Rattle.model.specs.Scheme.{Side, left, right, kind, orbitDim}
-use Rattle.model.specs.Conditions.{Arc, absent, explicit, implicit, arcAt, sameArc, atEnd, atPlaces, fourArcs, oneArc, bothImplicit, onCycle, cycleOk, cycleFault}
+use Rattle.model.specs.Conditions.{Arc, absent, explicit, implicit, arcAt, sameArc, atEnd, atPlaces, fourArcs, oneArc, bothImplicit, onCycle, cycleOk}
+use Rattle.model.specs.Conditions.{cycleFault}
 use Rattle.model.specs.Shaped.{Shaped}
 use Rattle.model.specs.declared.Scheme.{Scheme}
 use Rattle.model.specs.declared.Answer.{Answer}
@@ -122,7 +123,8 @@ module _ (S : Scheme) (f : Shaped S) (side : Side) (codes : List ℕ) (cd : Code
     node-is t h = go (arcAt S side t j) refl
       where
         go : (x : Arc) → arcAt S side t j ≡ x
-            → cond (ltb (entry codes t j) 16) (goesRound codes s i j (entry codes t j)) (cond (eqb (entry codes t j) 255) false (eqb (entry codes t j) (entry codes s j)))
+            → cond (ltb (entry codes t j) 16) (goesRound codes s i j (entry codes t j))
+            (cond (eqb (entry codes t j) 255) false (eqb (entry codes t j) (entry codes s j)))
             ≡ (atEnd x (λ u. atEnd (arcAt S side u i) (λ v. atEnd (arcAt S side v j) (eqb s))) or atPlaces (arcAt S side s j) x eqb)
         go absent e = rw (none-code t j h hj e) (sym (not-none (arcAt S side s j)))
         go (explicit u) e =

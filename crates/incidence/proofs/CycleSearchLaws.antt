@@ -50,7 +50,8 @@ module _ (orbit kinds lefts rights : List ℕ) (s : ℕ) where
         → first s (atNode orbit kinds lefts rights n) ≡ none → a ≡ cycleAnswer orbit kinds lefts rights n nodes
     unfolding cycleAnswer atNode
     found-pair nodes a h f l g =
-        rw (first-hit nodes (atNode orbit kinds lefts rights n) s a l g (first-hit (pairCount n) (atPair orbit kinds lefts rights s) k a (omega (arith, q)) e f))
+        rw (first-hit nodes (atNode orbit kinds lefts rights n) s a l g
+        (first-hit (pairCount n) (atPair orbit kinds lefts rights s) k a (omega (arith, q)) e f))
 
 pub found-no-pair : (orbit kinds lefts rights : List ℕ) (n nodes s : ℕ) → s ≤ nodes → nodes ≤ s
     → first s (atNode orbit kinds lefts rights n) ≡ none → Done ≡ cycleAnswer orbit kinds lefts rights n nodes

@@ -68,7 +68,10 @@ module _ (n kind : ℕ) (lefts rights : List ℕ) (s : ℕ) where
 
     pub incident-four : n ≤ 3 → 3 ≤ n → (b : Bool) → b ≡ AtDim 3 → b ≡ incidentBy n kind lefts rights s
     unfolding incidentBy _and_
-    incident-four a b r q = let three : n ≡ 3 = omega arith in let last : allBelow 4 AtDim ≡ AtDim 3 = all-step 3 AtDim ∙ rw first-three refl in rw three (q ∙ sym last)
+    incident-four a b r q =
+        let three : n ≡ 3 = omega arith in
+        let last : allBelow 4 AtDim ≡ AtDim 3 = all-step 3 AtDim ∙ rw first-three refl in
+        rw three (q ∙ sym last)
 
 -- ---- a node
 
@@ -82,7 +85,8 @@ module _ (n : ℕ) (kinds lefts rights : List ℕ) (ltwice rtwice : List Bool) (
     unfolding offends _or_
     offends-right e = rw (el, e)
 
-    pub offends-not : getD rtwice s false ≡ false → (b : Bool) → b ≡ incidentBy n (getD kinds s 0) lefts rights s → offends n kinds lefts rights ltwice rtwice s ≡ not b
+    pub offends-not : getD rtwice s false ≡ false → (b : Bool) → b ≡ incidentBy n (getD kinds s 0) lefts rights s
+        → offends n kinds lefts rights ltwice rtwice s ≡ not b
     unfolding offends _or_
     offends-not er b e = rw (el, er, e)
 
@@ -102,7 +106,8 @@ by-kind k false true g h = ⊎-elim (λ e. rw e refl) (⊎-elim (λ e. rw e refl
 by-kind k false false g h = ⊎-elim (λ e. rw e refl) (⊎-elim (λ e. rw e refl) (λ e. rw e refl)) (one-to-three k g h)
 
 -- with at most one arc on each side, counts and codes say the same
-same-test : (kind a b l r : ℕ) → 1 ≤ kind → kind ≤ 3 → a ≤ 1 → b ≤ 1 → ((a ≡ 0) × (l ≡ 255)) ⊎ ((1 ≤ a) × (l ≡ 255 → ⊥)) → ((b ≡ 0) × (r ≡ 255)) ⊎ ((1 ≤ b) × (r ≡ 255 → ⊥))
+same-test : (kind a b l r : ℕ) → 1 ≤ kind → kind ≤ 3 → a ≤ 1 → b ≤ 1 → ((a ≡ 0) × (l ≡ 255)) ⊎ ((1 ≤ a) × (l ≡ 255 → ⊥))
+    → ((b ≡ 0) × (r ≡ 255)) ⊎ ((1 ≤ b) × (r ≡ 255 → ⊥))
     → (leb a 1 and leb b 1 and (eqb kind 2 ⇒ eqb a b) and (eqb kind 1 ⇒ eqb a 1) and (eqb kind 3 ⇒ eqb b 1)) ≡ paired kind l r
 unfolding paired _and_ _⇒_
 same-test kind a b l r k1 k3 ha hb (inl (p, q)) (inl (u, v)) = rw (p, q, u, v) (by-kind kind false false k1 k3)
@@ -120,7 +125,8 @@ module _ (S : Scheme) (f : Shaped S) where
   beyond side s i h l b = let none = zero-arcs in let empty = zero-words in omega arith
     where
       zero-arcs : countBelow (arcs S side) (touches S side s i) ≡ 0
-      zero-arcs = count-zero (arcs S side) _ (λ a k. let d = f .sides side .dims a k in and-no-left _ (ne-eqb (arcPart S side a 0) i (λ e. absurd (omega arith))))
+      zero-arcs = count-zero (arcs S side) _
+          (λ a k. let d = f .sides side .dims a k in and-no-left _ (ne-eqb (arcPart S side a 0) i (λ e. absurd (omega arith))))
 
       zero-words : countBelow (S .places) (reads S side s i) ≡ 0
       zero-words = count-zero (S .places) _ (λ p k. ⊎-elim
@@ -134,8 +140,12 @@ module _ (S : Scheme) (f : Shaped S) where
     unfolding twiceAt
     twice-dim e =
         let w = any-at 4 _ e in
-        let two = leb-true 2 (arcsOfDim S side s (w .0)) (w .2) in
-        (w .0, ⊎-elim (λ l. leb-true _ _ l) (λ l. absurd (let z = beyond side s (w .0) h (leb-false _ _ l) (w .1) in omega arith)) (true-or-false (leb (w .0) (S .n))), two)
+        let two = leb-true 2 (arcsOfDim S side s (w .0)) (w .2) in (
+          w .0,
+          ⊎-elim (λ l. leb-true _ _ l) (λ l. absurd (let z = beyond side s (w .0) h (leb-false _ _ l) (w .1) in omega arith))
+              (true-or-false (leb (w .0) (S .n))),
+          two,
+        )
 
     -- and any other node has at most one of each
     single : twiceAt S side s ≡ false → (i : ℕ) → i < 4 → arcsOfDim S side s i ≤ 1
@@ -154,7 +164,8 @@ module _ (S : Scheme) (f : Shaped S) where
         code = c .at s i h b
 
         some-arc : (arcAt S side s i ≡ absent → ⊥) → 1 ≤ arcsOfDim S side s i
-        some-arc n = ⊎-elim (λ l. leb-true _ _ l) (λ l. absurd (n (absent-of S side s i (let few = leb-false 1 (arcsOfDim S side s i) l in omega arith)))) (true-or-false (leb 1 (arcsOfDim S side s i)))
+        some-arc n = ⊎-elim (λ l. leb-true _ _ l) (λ l. absurd (n (absent-of S side s i (let few = leb-false 1 (arcsOfDim S side s i) l in omega arith))))
+            (true-or-false (leb 1 (arcsOfDim S side s i)))
 
         go : (a : Arc) → arcAt S side s i ≡ a → Small (S .nodes) (arcAt S side s i)
             → ((arcsOfDim S side s i ≡ 0) × (entry codes s i ≡ 255)) ⊎ ((1 ≤ arcsOfDim S side s i) × (entry codes s i ≡ 255 → ⊥))
@@ -201,7 +212,8 @@ module _ (S : Scheme) (f : Shaped S) where
           let n3 = AcceptedLaws.small S f in
           let b : i < 4 = omega arith in
           let kinds = f .kinds s h in
-          same-test (kind S s) _ _ _ _ (kinds .0) (kinds .1) (single left s h l i b) (single right s h r i b) (present left s h lefts cl i b) (present right s h rights cr i b))
+          same-test (kind S s) _ _ _ _ (kinds .0) (kinds .1) (single left s h l i b) (single right s h r i b) (present left s h lefts cl i b)
+          (present right s h rights cr i b))
 
       incidence-at : not (incidenceOk S s) ≡ offends (S .n) (S .kinds) lefts rights ltwice rtwice s
       incidence-at =

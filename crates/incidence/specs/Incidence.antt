@@ -38,4 +38,5 @@ offends n kinds lefts rights leftTwice rightTwice s =
 -- the fault of incidence, else that of the cycles
 unfoldable pub arcsAnswer : ℕ → ℕ → List ℕ → List ℕ → List ℕ → List ℕ → List Bool → List Bool → Answer
 arcsAnswer n nodes orbit kinds lefts rights leftTwice rightTwice =
-    Option·getD (noted BadIncidence (least nodes (offends n kinds lefts rights leftTwice rightTwice)) orElse first nodes (atNode orbit kinds lefts rights n)) Done
+    Option·getD (noted BadIncidence (least nodes (offends n kinds lefts rights leftTwice rightTwice))
+    orElse first nodes (atNode orbit kinds lefts rights n)) Done

@@ -15,7 +15,8 @@ use Rattle.base.proofs.BelowLaws.{all-at, all-of}
 use Rattle.base.proofs.FirstLaws.{some-not-none, when-none, or-else-none, first-none, first-none-of, least-none, least-none-of}
 use Rattle.model.specs.Scheme.{Side, left, right, kind, has, deleted, preserved, added, isHook}
 use Rattle.model.specs.Shaped.{Shaped}
-use Rattle.model.specs.Conditions.{arcAt, arcsOfDim, sameArc, onCycle, Cycle, Hooked, hookOk, pathTo, hookFault, incidenceOk, incidenceFault, cycleOk, cycleFault, schemeFault, noted}
+use Rattle.model.specs.Conditions.{arcAt, arcsOfDim, sameArc, onCycle, Cycle, Hooked, hookOk, pathTo, hookFault, incidenceOk, incidenceFault, cycleOk}
+use Rattle.model.specs.Conditions.{cycleFault, schemeFault, noted}
 use Rattle.model.specs.Accepted.{Accepted, SingleSide}
 use Rattle.model.specs.declared.Scheme.{Scheme}
 use Rattle.model.proofs.CycleLaws.{cycle-at, cycle-of, same-arc, arc-same}
@@ -150,7 +151,8 @@ module _ (S : Scheme) (a : Accepted S) where
   incidence-none = least-none-of (S .nodes) _ (λ s h. ap not (all-of _ _ (λ i l. let k : i ≤ S .n = omega arith in
       and-of (and-of (and-of (and-of
       (le-leb _ _ (a .sides left .single s i h k)) (le-leb _ _ (a .sides right .single s i h k)))
-      (if-of _ (λ e. eq-eqb _ _ (a .same s i h k e)))) (if-of _ (λ e. eq-eqb _ _ (a .allLeft s i h k e)))) (if-of _ (λ e. eq-eqb _ _ (a .allRight s i h k e))))))
+      (if-of _ (λ e. eq-eqb _ _ (a .same s i h k e)))) (if-of _ (λ e. eq-eqb _ _ (a .allLeft s i h k e))))
+      (if-of _ (λ e. eq-eqb _ _ (a .allRight s i h k e))))))
 
   module _ (s i j : ℕ) (h : s < S .nodes) (ij : i + 2 ≤ j) (jn : j ≤ S .n) where
     kept-true : preserved S s ≡ true → keptOk S s i j (onCycle S left s i j) ≡ true

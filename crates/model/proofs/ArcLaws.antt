@@ -70,7 +70,8 @@ module _ (S : Scheme) (side : Side) where
   unfolding arcAt farEnd arcsOfDim
   absent-from s i e = go (first (arcs S side) (λ a. someIf (touches S side s i a) (far S side s a))) refl (least (S .places) (reads S side s i)) refl e
     where
-      go : (o : Option ℕ) → first (arcs S side) (λ a. someIf (touches S side s i a) (far S side s a)) ≡ o → (r : Option ℕ) → least (S .places) (reads S side s i) ≡ r
+      go : (o : Option ℕ) → first (arcs S side) (λ a. someIf (touches S side s i a) (far S side s a)) ≡ o → (r : Option ℕ)
+          → least (S .places) (reads S side s i) ≡ r
           → arcOf o r ≡ absent → countBelow (arcs S side) (touches S side s i) + countBelow (S .places) (reads S side s i) ≡ 0
       go (some v) q r w e = absurd (let z : _≡_ {A = ℕ} 0 1 = cc in omega arith)
       go none q (some p) w e = absurd (let z : _≡_ {A = ℕ} 0 1 = cc in omega arith)
@@ -86,7 +87,8 @@ module _ (S : Scheme) (side : Side) where
     explicit-at s i a h b l t =
         ap (λ (o : Option ℕ). arcOf o (least (S .places) (reads S side s i)))
         (first-only (arcs S side) _ a (far S side s a) b (ap (λ (c : Bool). someIf c (far S side s a)) t)
-        (λ j c k e. let w = when-at _ e in sym (w .1) ∙ ap (far S side s) (count-once (arcs S side) (touches S side s i) (omega (arith, g .single s i h l)) j a k b (w .0) t)))
+        (λ j c k e. let w = when-at _ e in sym (w .1)
+        ∙ ap (far S side s) (count-once (arcs S side) (touches S side s i) (omega (arith, g .single s i h l)) j a k b (w .0) t)))
 
     pub implicit-at : (s i p : ℕ) → s < S .nodes → p < S .places → i ≤ S .n → word S side s p ≡ i → arcAt S side s i ≡ implicit p
     unfolding arcAt farEnd arcsOfDim someIf
@@ -110,13 +112,15 @@ module _ (S : Scheme) (side : Side) where
         let from : arcPart S side a 1 ≡ s = eqb-true _ _ q in
         let to : arcPart S side a 2 ≡ t = sym (far-from a) ∙ ap (λ (z : ℕ). far S side z a) from ∙ f .3 in
         let n = g .shaped .to a (f .1) in
-        let back = explicit-at (arcPart S side a 2) (arcPart S side a 0) a (n .0) (f .1) (g .shaped .dims a (f .1)) (touches-to a) ∙ ap explicit (far-to a ∙ from) in
+        let back = explicit-at (arcPart S side a 2) (arcPart S side a 0) a (n .0) (f .1) (g .shaped .dims a (f .1)) (touches-to a)
+        ∙ ap explicit (far-to a ∙ from) in
         (subst (λ (z : ℕ). z < S .nodes) to (n .0), ap (has S side) (sym to) ∙ n .1, d, ap₂ (arcAt S side) (sym to) (sym dim) ∙ back))
         (λ q.
         let to : arcPart S side a 2 ≡ s = eqb-true _ _ q in
         let from : arcPart S side a 1 ≡ t = sym (far-to a) ∙ ap (λ (z : ℕ). far S side z a) to ∙ f .3 in
         let n = g .shaped .from a (f .1) in
-        let back = explicit-at (arcPart S side a 1) (arcPart S side a 0) a (n .0) (f .1) (g .shaped .dims a (f .1)) (touches-from a) ∙ ap explicit (far-from a ∙ to) in
+        let back = explicit-at (arcPart S side a 1) (arcPart S side a 0) a (n .0) (f .1) (g .shaped .dims a (f .1)) (touches-from a)
+        ∙ ap explicit (far-from a ∙ to) in
         (subst (λ (z : ℕ). z < S .nodes) from (n .0), ap (has S side) (sym from) ∙ n .1, d, ap₂ (arcAt S side) (sym from) (sym dim) ∙ back))
         (or-cases _ _ (and-right _ _ (f .2)))
 

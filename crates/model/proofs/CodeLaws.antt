@@ -41,7 +41,8 @@ module _ (S : Scheme) (f : Shaped S) (side : Side) where
   unfolding arcAt
   small-arc s i = go (farEnd (arcPart S side) (arcs S side) s i) refl (least (S .places) (reads S side s i)) refl
     where
-      go : (o : Option ℕ) → farEnd (arcPart S side) (arcs S side) s i ≡ o → (r : Option ℕ) → least (S .places) (reads S side s i) ≡ r → Small (S .nodes) (arcOf o r)
+      go : (o : Option ℕ) → farEnd (arcPart S side) (arcs S side) s i ≡ o → (r : Option ℕ) → least (S .places) (reads S side s i) ≡ r
+          → Small (S .nodes) (arcOf o r)
       go (some t) e r g = end-below s i t e
       go none e (some p) g = let l = least-at (S .places) _ p g in let k = places-few in omega (arith, l .0)
       go none e none g = omega arith

@@ -7,7 +7,8 @@ use mathlib.Core.Bool.{Bool, true, false≢true}
 use native.Mathlib.Omega.{arith}
 use borrow.Author.Tests.{eqb-true, eq-eqb, leb-true, le-leb}
 use Rattle.model.specs.Scheme.{Side}
-use Rattle.model.specs.Conditions.{Arc, absent, explicit, implicit, arcAt, sameArc, atEnd, atPlaces, fourArcs, oneArc, bothImplicit, onCycle, Cycle, four, oneI, oneJ, apart}
+use Rattle.model.specs.Conditions.{Arc, absent, explicit, implicit, arcAt, sameArc, atEnd, atPlaces, fourArcs, oneArc, bothImplicit, onCycle, Cycle, four}
+use Rattle.model.specs.Conditions.{oneI, oneJ, apart}
 use Rattle.model.specs.Accepted.{SingleSide}
 use Rattle.model.specs.declared.Scheme.{Scheme}
 use Rattle.base.proofs.TestLaws.{or-cases, or-left, or-right}

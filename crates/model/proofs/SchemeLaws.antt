@@ -20,7 +20,8 @@ use Rattle.base.proofs.ListLaws.{getD-list}
 use Rattle.model.specs.Bytes.{onSide, byte, dimensionOf, placesOf, nodesOf, kindAt, wordAt, arcCount, arcByte, upTo}
 use Rattle.model.specs.Arc.{farEnd, arcOf}
 use Rattle.model.specs.Codes.{placeCode, placed, placedAt, targetsOf, targets, arcCode}
-use Rattle.model.specs.Scheme.{Side, left, right, orbitForm, wordForm, nodeForm, arcForm, arcsForm, inForm, wordsOf, arcsOf, schemeOf, kind, orbitDim, word, arcs, arcPart, has}
+use Rattle.model.specs.Scheme.{Side, left, right, orbitForm, wordForm, nodeForm, arcForm, arcsForm, inForm, wordsOf, arcsOf, schemeOf, kind, orbitDim}
+use Rattle.model.specs.Scheme.{word, arcs, arcPart, has}
 use Rattle.model.specs.Conditions.{arcAt, reads}
 use Rattle.model.specs.Shaped.{Shaped, ShapedSide}
 use Rattle.model.proofs.FormLaws as F
@@ -165,7 +166,8 @@ module _ (b : List ℕ) (q : inForm b ≡ true) where
       (true-or-false (ltb (4 * s + i) (4 * nodesOf b)))
 
   targets-at : (side : Side) (s i : ℕ) → s < 16 → i < 4
-      → getD (targetsOf b side) (4 * s + i) 0 ≡ arcCode (arcOf (farEnd (arcPart (schemeOf b) side) (arcCount b side) s i) (least (placesOf b) (reads (schemeOf b) side s i)))
+      → getD (targetsOf b side) (4 * s + i) 0
+      ≡ arcCode (arcOf (farEnd (arcPart (schemeOf b) side) (arcCount b side) s i) (least (placesOf b) (reads (schemeOf b) side s i)))
   unfolding targetsOf
   targets-at side s i h l =
       let at-s : (4 * s + i) / 4 ≡ s = omega arith in
@@ -206,7 +208,8 @@ module _ (b : List ℕ) (q : inForm b ≡ true) where
   unfolding End
   on-side side x h e = (h, ap (onSide side) (value-kind x h) ∙ e)
 
-  pub arc-from : (side : Side) (a : ℕ) → a < arcCount b side → (arcPart (schemeOf b) side a 1 < nodesOf b) × (has (schemeOf b) side (arcPart (schemeOf b) side a 1) ≡ true)
+  pub arc-from : (side : Side) (a : ℕ) → a < arcCount b side
+      → (arcPart (schemeOf b) side a 1 < nodesOf b) × (has (schemeOf b) side (arcPart (schemeOf b) side a 1) ≡ true)
   unfolding arcForm End
   arc-from side a h =
       let f = and-left _ _ (form-arc side a h) in
@@ -214,7 +217,8 @@ module _ (b : List ℕ) (q : inForm b ≡ true) where
       let bound : arcByte b side a 2 < nodesOf b = ltb-true _ _ (and-right _ _ (and-left _ _ (and-left _ _ f))) in
       subst (End side) (sym (value-arc side a 1 h (omega arith))) (on-side side _ (omega arith) (and-right _ _ (and-left _ _ f)))
 
-  pub arc-to : (side : Side) (a : ℕ) → a < arcCount b side → (arcPart (schemeOf b) side a 2 < nodesOf b) × (has (schemeOf b) side (arcPart (schemeOf b) side a 2) ≡ true)
+  pub arc-to : (side : Side) (a : ℕ) → a < arcCount b side
+      → (arcPart (schemeOf b) side a 2 < nodesOf b) × (has (schemeOf b) side (arcPart (schemeOf b) side a 2) ≡ true)
   unfolding arcForm End
   arc-to side a h =
       let f = and-left _ _ (form-arc side a h) in

@@ -76,7 +76,8 @@ module _ (b : List ℕ) (other : ℕ) where
     pub formed : allBelow a (arcForm b (sideOf other)) ≡ true
     pub placeIs : at ≡ arcsAt b (sideOf other) + 1 + 3 * a
     pub next : low ≡ above keyAt a
-    pub held : Shown (placedAt b (sideOf other)) (farEnd (arcByte b (sideOf other)) a) (touches (placedAt b (sideOf other)) (arcByte b (sideOf other)) a) targets twice
+    pub held : Shown (placedAt b (sideOf other)) (farEnd (arcByte b (sideOf other)) a)
+        (touches (placedAt b (sideOf other)) (arcByte b (sideOf other)) a) targets twice
 
 -- ---- one arc
 
@@ -205,7 +206,8 @@ module _ (b : List ℕ) (l : Layout) (kinds : List ℕ) (other from : ℕ) (plac
     held = shown-none (placedAt b side) part f g;
   }
 
-  pub joined-form-at : {r : Bool} {a at low n nodes d s t : ℕ} {targets : List ℕ} {twice : List Bool} → Joined b other a at low targets twice → Read a d s t → n ≡ dimensionOf b → nodes ≡ nodesOf b
+  pub joined-form-at : {r : Bool} {a at low n nodes d s t : ℕ} {targets : List ℕ} {twice : List Bool} → Joined b other a at low targets twice
+      → Read a d s t → n ≡ dimensionOf b → nodes ≡ nodesOf b
       → r ≡ arcTest n nodes kinds other low d s t → r ≡ arcForm b side a
   joined-form-at {r} {a} {at} {low} {n} {nodes} j q nIs nodesIs e =
       e ∙ rw (q .dIs, q .sIs, q .tIs) (arc-same a low n nodes (j .formed) (j .next) nIs nodesIs)
@@ -239,12 +241,14 @@ module _ (b : List ℕ) (l : Layout) (kinds : List ℕ) (other from : ℕ) (plac
   arcs-value {at = at} {count = count} e p q f =
       let few = placed .few in
       f ∙ filled-all 192 (λ k. byte b (at + k)) 0 (0 + 3 * count) _
-      (stored-filled 192 (λ k. byte b (at + k)) 0 0 b at (3 * count) (e ∙ filled-none 192 _ 0) (omega arith) (λ k h. ap (λ (i : ℕ). byte b (at + i)) (omega arith)))
+      (stored-filled 192 (λ k. byte b (at + k)) 0 0 b at (3 * count) (e ∙ filled-none 192 _ 0) (omega arith)
+      (λ k h. ap (λ (i : ℕ). byte b (at + i)) (omega arith)))
       (λ k h. ap₂ (λ (t : Bool) (i : ℕ). cond t (byte b i) 0)
       (same-ltb k (0 + 3 * count) (k / 3) (arcCount b side) (λ u. omega arith) (λ u. omega arith))
       (omega (arith, placed .fromIs)))
 
-  module _ {a at low : ℕ} {targets : List ℕ} {twice : List Bool} (j : Joined b other a at low targets twice) (h : a ≤ arcCount b side) (k : arcCount b side ≤ a) where
+  module _ {a at low : ℕ} {targets : List ℕ} {twice : List Bool} (j : Joined b other a at low targets twice) (h : a ≤ arcCount b side)
+      (k : arcCount b side ≤ a) where
     pub joined-form : true ≡ arcsForm b side
     unfolding arcsForm
     joined-form = sym (and-of (le-leb _ _ (placed .few)) (sym (all-ends _ a (arcCount b side) (j .formed) h k)))
@@ -254,7 +258,8 @@ module _ (b : List ℕ) (l : Layout) (kinds : List ℕ) (other from : ℕ) (plac
     unfolding targetsOf twiceTo
     joined-read e p q f =
         let same : a ≡ arcCount b side = omega arith in
-        let w : Shown (placedAt b side) (farEnd part (arcCount b side)) (touches (placedAt b side) part (arcCount b side)) targets twice = rw same at (j .held) in
+        let w : Shown (placedAt b side) (farEnd part (arcCount b side)) (touches (placedAt b side) part (arcCount b side)) targets twice =
+        rw same at (j .held) in
         record {
           placeIs = j .placeIs ∙ ap (λ (x : ℕ). arcsAt b side + 1 + 3 * x) same;
           arcsIs = arcs-value e p q f;

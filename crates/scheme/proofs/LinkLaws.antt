@@ -266,7 +266,8 @@ module _ (place : ℕ → ℕ) where
           (shown-more (farEnd part a) (touches a) d s t hs hd ht fits w))
       linked-more hd hs ht fits w (ends ne p r) = rw (p, r) (shown-same
           (λ u i. end-ends (eqb d i) (eqb s u) (eqb t u) (farEnd part a u i) ∙ sym (first-step a _))
-          (λ u i. count-ends (eqb d i) (eqb s u) (eqb t u) (touches a u i) (λ x y. ne (eqb-true _ _ x ∙ sym (eqb-true _ _ y))) ∙ sym (count-step a (touching part u i)))
+          (λ u i. count-ends (eqb d i) (eqb s u) (eqb t u) (touches a u i) (λ x y. ne (eqb-true _ _ x ∙ sym (eqb-true _ _ y)))
+          ∙ sym (count-step a (touching part u i)))
           (shown-more (more (farEnd part a) d s t) (plus (touches a) d s) d t s ht hd hs fits (shown-more (farEnd part a) (touches a) d s t hs hd ht fits w)))
 
 -- ---- implicit arcs
@@ -275,7 +276,8 @@ pub places : (b : List ℕ) (side : Side) → placesOf b ≤ 4 → Places (place
 unfolding placed
 places b side few k = go (ltb k (4 * nodesOf b)) (least (placesOf b) _) refl
   where
-    go : (t : Bool) (o : Option ℕ) → least (placesOf b) (λ p. eqb (wordAt b side (k / 4) p) (k % 4)) ≡ o → (16 ≤ cond t (placeCode o) 255) × (cond t (placeCode o) 255 ≤ 255)
+    go : (t : Bool) (o : Option ℕ) → least (placesOf b) (λ p. eqb (wordAt b side (k / 4) p) (k % 4)) ≡ o
+        → (16 ≤ cond t (placeCode o) 255) × (cond t (placeCode o) 255 ≤ 255)
     go false o e = (omega arith, omega arith)
     go true none e = (omega arith, omega arith)
     go true (some p) e = let l = least-at (placesOf b) _ p e .0 in (omega arith, omega arith)

@@ -108,7 +108,8 @@ module _ (b : List ℕ) (at : ℕ) where
     pub length-rowed : (p : ℕ) → length (rowed targets base b at p) ≡ length targets
     unfolding rowed marked
     length-rowed zero = refl
-    length-rowed (suc p) = ⊎-elim (λ w. rw w (length-rowed p)) (λ w. rw w (length-set (rows p) _ _ ∙ length-rowed p)) (true-or-false (eqb (byte b (at + p)) 255))
+    length-rowed (suc p) = ⊎-elim (λ w. rw w (length-rowed p)) (λ w. rw w (length-set (rows p) _ _ ∙ length-rowed p))
+        (true-or-false (eqb (byte b (at + p)) 255))
 
     -- what a byte 255 marks
     gone : (l : List ℕ) (d p : ℕ) → d ≡ 255 → marked l base d p ≡ l
@@ -122,7 +123,8 @@ module _ (b : List ℕ) (at : ℕ) where
 
     module _ (n : ℕ) (few : n ≤ 3) where
       -- the entries outside the row are as before
-      pub rowed-else : (p : ℕ) → allBelow p (fitsAt b n at) ≡ true → (k : ℕ) → (k < base) ⊎ (base + 4 ≤ k) → getD (rowed targets base b at p) k 0 ≡ getD targets k 0
+      pub rowed-else : (p : ℕ) → allBelow p (fitsAt b n at) ≡ true → (k : ℕ) → (k < base) ⊎ (base + 4 ≤ k)
+          → getD (rowed targets base b at p) k 0 ≡ getD targets k 0
       unfolding rowed allBelow
       rowed-else zero q k h = refl
       rowed-else (suc p) q k h =
@@ -147,7 +149,8 @@ module _ (b : List ℕ) (at : ℕ) where
         rowed-at zero q i h = clear i h ∙ ap placeCode (sym (least-none-of 0 (stands i) (λ k l. absurd (omega arith))))
         rowed-at (suc p) q i h =
             let before = rowed-at p (and-left _ _ q) i h in
-            let pass : stands i p ≡ false → placeCode (least p (stands i)) ≡ placeCode (least (suc p) (stands i)) = λ ne. ap placeCode (sym (least-pass p (stands i) ne)) in
+            let pass : stands i p ≡ false → placeCode (least p (stands i)) ≡ placeCode (least (suc p) (stands i)) =
+            λ ne. ap placeCode (sym (least-pass p (stands i) ne)) in
             ⊎-elim
             (λ e. ap (λ (l : List ℕ). getD l (base + i) 0) (gone (rows p) _ p e) ∙ before ∙ pass (ne-eqb _ _ (λ f. far i h e f)))
             (λ f. ap (λ (l : List ℕ). getD l (base + i) 0) (here (rows p) _ p (f .0))

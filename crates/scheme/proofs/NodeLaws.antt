@@ -73,7 +73,8 @@ module _ (b : List ℕ) where
     rtargetsIs = v;
   }
 
-  module _ {s at : ℕ} {kinds lwords rwords ltargets rtargets : List ℕ} (f : Passed b s at kinds lwords rwords ltargets rtargets) (h : s ≤ nodesOf b) (k : nodesOf b ≤ s) where
+  module _ {s at : ℕ} {kinds lwords rwords ltargets rtargets : List ℕ} (f : Passed b s at kinds lwords rwords ltargets rtargets) (h : s ≤ nodesOf b)
+      (k : nodesOf b ≤ s) where
     kinds-value : kinds ≡ schemeOf b .kinds
     unfolding schemeOf
     kinds-value =

@@ -56,7 +56,8 @@ module _ (b : List ℕ) (q : inForm b ≡ true) (side : Side) where
     place-bit : countBelow (schemeOf b .places) (reads (schemeOf b) side s i) ≡ bit (ltb (placedAt b side (4 * s + i)) 255)
     place-bit = rw (place-is b q side s i h l, ← places-is) (go (least (schemeOf b .places) (reads (schemeOf b) side s i)) refl)
       where
-        go : (o : Option ℕ) → least (schemeOf b .places) (reads (schemeOf b) side s i) ≡ o → countBelow (schemeOf b .places) (reads (schemeOf b) side s i) ≡ bit (ltb (placeCode o) 255)
+        go : (o : Option ℕ) → least (schemeOf b .places) (reads (schemeOf b) side s i) ≡ o
+            → countBelow (schemeOf b .places) (reads (schemeOf b) side s i) ≡ bit (ltb (placeCode o) 255)
         go none e = count-zero (schemeOf b .places) _ (λ p k. least-none (schemeOf b .places) _ e p k)
         go (some p) e =
             let w = least-at (schemeOf b .places) _ p e in
@@ -67,7 +68,8 @@ module _ (b : List ℕ) (q : inForm b ≡ true) (side : Side) where
             let once = words-once in
             rw (lt-ltb (16 + p) 255 below) (omega arith)
 
-    touching-same : countBelow (arcCount b side) (touching (arcByte b side) s i) ≡ countBelow (arcs (schemeOf b) side) (touching (arcPart (schemeOf b) side) s i)
+    touching-same : countBelow (arcCount b side) (touching (arcByte b side) s i)
+        ≡ countBelow (arcs (schemeOf b) side) (touching (arcPart (schemeOf b) side) s i)
     touching-same = rw arcs-is (count-same (arcCount b side) _ _ (λ a k. each
         (value-arc b q side a 0 k (omega arith)) (value-arc b q side a 1 k (omega arith)) (value-arc b q side a 2 k (omega arith))))
       where

@@ -81,7 +81,8 @@ module _ (b : List ℕ) where
   row-rest : (side : Side) (s k : ℕ) → 4 * s + placesOf b ≤ k → k < 4 * (s + 1) → row b side k ≡ 255
   row-rest side s k h l =
       let split : k ≡ 4 * s + (k % 4) = omega arith in
-      ap (row b side) split ∙ row-at side s (k % 4) (omega arith) ∙ ap (λ (t : Bool). cond t (wordAt b side s (k % 4)) 255) (le-ltb (k % 4) (placesOf b) (omega arith))
+      ap (row b side) split ∙ row-at side s (k % 4) (omega arith)
+      ∙ ap (λ (t : Bool). cond t (wordAt b side s (k % 4)) 255) (le-ltb (k % 4) (placesOf b) (omega arith))
 
   -- the targets of node s among the side's
   placed-at : (side : Side) (s i : ℕ) → i < 4 → placed b side (4 * s + i) ≡ placeCode (least (placesOf b) (stands b (wordPlace b side s) i))
@@ -220,12 +221,14 @@ module _ (b : List ℕ) (s other kind n places at : ℕ) (w : Placed b s other k
       ∙ sym (placed-at b side s (k - 4 * s) (omega arith)) ∙ ap (placed b side) (sym split)
       ∙ sym (filled-low 64 _ 255 (4 * (s + 1)) refl k inside u′))
       (λ v. let over : 4 * (s + 1) ≤ k = ltb-false _ _ v in
-      rowed-else b at l (4 * s) n few places q k (inr (omega arith)) ∙ filled-high 64 _ 255 _ e k high u′ ∙ sym (filled-high 64 _ 255 (4 * (s + 1)) refl k over u′))
+      rowed-else b at l (4 * s) n few places q k (inr (omega arith)) ∙ filled-high 64 _ 255 _ e k high u′
+      ∙ sym (filled-high 64 _ 255 (4 * (s + 1)) refl k over u′))
       (true-or-false (ltb k (4 * (s + 1)))))
       (true-or-false (ltb k (4 * s))))
 
   -- an empty word leaves the table as it is
-  pub off-targets : {l : List ℕ} → l ≡ filled 64 (4 * s) (placed b side) 255 → allBelow places (emptyAt b at) ≡ true → l ≡ filled 64 (4 * (s + 1)) (placed b side) 255
+  pub off-targets : {l : List ℕ} → l ≡ filled 64 (4 * s) (placed b side) 255 → allBelow places (emptyAt b at) ≡ true
+      → l ≡ filled 64 (4 * (s + 1)) (placed b side) 255
   unfolding emptyAt
   off-targets e q =
       filled-over 64 (placed b side) 255 (4 * s) (4 * (s + 1)) e (omega arith) (λ k h u.

@@ -27,7 +27,8 @@ returns c =
     let p = c .before .before in
     let t = p .before in
     let w = t .before .before in
-    λ J. judge-is J _ _ (p .wide3 .ensures .0) (w .wide .ensures .0) _ (t .before .wide2 .ensures .0) _ (t .reach-of .ensures .0) _ (t .reach-of .ensures .1) _ (c .before .fault .ensures)
+    λ J. judge-is J _ _ (p .wide3 .ensures .0) (w .wide .ensures .0) _ (t .before .wide2 .ensures .0) _ (t .reach-of .ensures .0) _ (t .reach-of .ensures .1) _
+    (c .before .fault .ensures)
 
 pub judge-spec : {M : Type 1} → statement M
 judge-spec =

@@ -25,7 +25,8 @@ head-told : (c : tie.After-known-told) → let b = now (c .before .before .befor
 head-told c = rw (c .before .n .given .1) at (c .before .before .before .head .ensures)
 
 -- what the left arcs' count is, and where the right arcs' count stands
-lefts-told : (c : tie.After-known-told2) → let b = now (before-lefts c .before .before .before .before .before .args .bytes) in let g = c .before .lcount .given .0 in
+lefts-told : (c : tie.After-known-told2)
+    → let b = now (before-lefts c .before .before .before .before .before .args .bytes) in let g = c .before .lcount .given .0 in
     (g .0 ≡ arcCount b left) × (g .1 .0 .at ≡ arcsAt b right) × Fitted b (arcsAt b left) 0 64 3
 unfolding after
 lefts-told c =
@@ -33,7 +34,8 @@ lefts-told c =
     (s .0, s .1 ∙ omega arith, s .2)
 
 -- what the right arcs' count is, and where they end
-rights-told : (c : tie.After-known-told3) → let b = now (before-lefts (before-rights c) .before .before .before .before .before .args .bytes) in let g = c .before .rcount .given .0 in
+rights-told : (c : tie.After-known-told3)
+    → let b = now (before-lefts (before-rights c) .before .before .before .before .before .args .bytes) in let g = c .before .rcount .given .0 in
     (g .0 ≡ arcCount b right) × (g .1 .0 .at ≡ after b (arcsAt b right) 3) × Fitted b (arcsAt b right) 0 64 3
 rights-told c = counted _ _ 0 64 3 (lefts-told (before-rights c) .1) refl refl (c .before .before .before .count2 .ensures) (c .before .rcount .given .1)
 
@@ -59,7 +61,8 @@ enum-told-2 : tie.Need-enum-told-2
 enum-told-2 c = search needs
 
 returns-2 : tie.Need-returns-2
-returns-2 c = let h = head-told (c .before .before .before) in no-arcs _ left (uncounted _ _ 0 64 3 (h .2) refl refl (c .before .before .count .ensures) (c .enum-told2 .given .1))
+returns-2 c = let h = head-told (c .before .before .before) in no-arcs _ left
+    (uncounted _ _ 0 64 3 (h .2) refl refl (c .before .before .count .ensures) (c .enum-told2 .given .1))
 
 count-requires-2 : tie.Need-count-requires-2
 count-requires-2 c κs = search needs
@@ -71,7 +74,8 @@ enum-told-3 : tie.Need-enum-told-3
 enum-told-3 c = search needs
 
 returns-3 : tie.Need-returns-3
-returns-3 c = let h = lefts-told (c .before .before .before) in no-arcs _ right (uncounted _ _ 0 64 3 (h .1) refl refl (c .before .before .count2 .ensures) (c .enum-told3 .given .1))
+returns-3 c = let h = lefts-told (c .before .before .before) in no-arcs _ right
+    (uncounted _ _ 0 64 3 (h .1) refl refl (c .before .before .count2 .ensures) (c .enum-told3 .given .1))
 
 returns-4 : tie.Need-returns-4
 returns-4 c = let h = rights-told (c .before .before) in other-end _ (λ e. c .if1 .taken (h .1 ∙ e))

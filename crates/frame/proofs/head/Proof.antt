@@ -66,7 +66,8 @@ enum-told-2 : tie.Need-enum-told-2
 enum-told-2 c = search needs
 
 returns-4 : tie.Need-returns-4
-returns-4 c = let t = took (c .before .before .before .before .before) in no-places _ (uncounted _ 1 0 _ 1 (t .2) (ap (λ (n : ℕ). n + 1) (t .1)) refl (c .before .before .count .ensures) (c .enum-told2 .given .1))
+returns-4 c = let t = took (c .before .before .before .before .before) in no-places _
+    (uncounted _ 1 0 _ 1 (t .2) (ap (λ (n : ℕ). n + 1) (t .1)) refl (c .before .before .count .ensures) (c .enum-told2 .given .1))
 
 mul-count : tie.Need-mul-count
 mul-count c = let p = places-told c in let f = p .2 in let t = took (before-places c) in omega arith
@@ -84,7 +85,8 @@ enum-told-3 : tie.Need-enum-told-3
 enum-told-3 c = search needs
 
 returns-5 : tie.Need-returns-5
-returns-5 c = let p = places-told (c .before .before .before) in no-nodes _ (uncounted _ _ 1 _ _ (p .1) refl (ap (λ (n : ℕ). 1 + 2 * n) (p .0)) (c .before .before .count2 .ensures) (c .enum-told3 .given .1)) (omega arith)
+returns-5 c = let p = places-told (c .before .before .before) in no-nodes _
+    (uncounted _ _ 1 _ _ (p .1) refl (ap (λ (n : ℕ). 1 + 2 * n) (p .0)) (c .before .before .count2 .ensures) (c .enum-told3 .given .1)) (omega arith)
 
 returns-6 : tie.Need-returns-6
 unfolding after

@@ -38,7 +38,8 @@ cast-t16 : tie.Need-cast-t16 Inv-loop μ-loop
 cast-t16 c = omega arith
 
 returns-2 : tie.Need-returns-2 Inv-loop μ-loop
-returns-2 c = let l = c .before .before .before .before in found-at _ _ _ (l .loop-test .taken) (l .before .loop .inv .1) (offends-right _ _ _ _ _ _ _ (c .before .before .if1 .left) (c .if2 .taken))
+returns-2 c = let l = c .before .before .before .before in found-at _ _ _ (l .loop-test .taken) (l .before .loop .inv .1)
+    (offends-right _ _ _ _ _ _ _ (c .before .before .if1 .left) (c .if2 .taken))
 
 element-copy-out-incident : tie.Need-element-copy-out-incident Inv-loop μ-loop
 element-copy-out-incident c = omega arith
@@ -53,7 +54,8 @@ returns-3 : tie.Need-returns-3 Inv-loop μ-loop
 returns-3 c =
     let e = c .before .before .before in
     let l = e .before .before .before .before in
-    found-at _ _ _ (l .loop-test .taken) (l .before .loop .inv .1) (offends-not _ _ _ _ _ _ _ (e .before .before .if1 .left) (e .if2 .left) _ (c .before .incident .ensures) ∙ c .if3 .taken)
+    found-at _ _ _ (l .loop-test .taken) (l .before .loop .inv .1)
+    (offends-not _ _ _ _ _ _ _ (e .before .before .if1 .left) (e .if2 .left) _ (c .before .incident .ensures) ∙ c .if3 .taken)
 
 add-s : tie.Need-add-s Inv-loop μ-loop
 add-s c = omega arith
@@ -64,8 +66,11 @@ loop-less c = omega arith
 loop-again : tie.Need-loop-again Inv-loop μ-loop
 loop-again c =
     let e = c .before .before .before in
-    let l = e .before .before .before .before .before .loop .inv in
-    (omega arith, least-more _ _ (l .1) (offends-not _ _ _ _ _ _ _ (e .before .before .if1 .left) (e .if2 .left) _ (c .before .incident .ensures) ∙ c .if3 .left))
+    let l = e .before .before .before .before .before .loop .inv in (
+      omega arith,
+      least-more _ _ (l .1)
+          (offends-not _ _ _ _ _ _ _ (e .before .before .if1 .left) (e .if2 .left) _ (c .before .incident .ensures) ∙ c .if3 .left),
+    )
 
 returns-4 : tie.Need-returns-4 Inv-loop μ-loop
 returns-4 c = let l = c .before .loop .inv in found-none _ _ _ (l .0) (c .loop-test .left) (l .1)

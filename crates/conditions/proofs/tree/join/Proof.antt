@@ -41,7 +41,8 @@ element-copy-out-if2 c = to-small (c .before .before)
 returns : tie.Need-returns
 returns c =
     let d = c .before .before .before .before in
-    joined-same _ _ _ _ _ _ _ (start d .pre .1 .1) _ _ _ (d .before .part2 .ensures .0) (d .part3 .ensures .0) (c .before .before .if1 .taken ∙ sym (c .if2 .taken))
+    joined-same _ _ _ _ _ _ _ (start d .pre .1 .1) _ _ _ (d .before .part2 .ensures .0) (d .part3 .ensures .0)
+    (c .before .before .if1 .taken ∙ sym (c .if2 .taken))
 
 push-requires : tie.Need-push-requires
 push-requires c κs =
@@ -91,7 +92,8 @@ returns-3 c =
 returns-4 : tie.Need-returns-4
 returns-4 c =
     let d = c .before .before .before .before in
-    joined-same _ _ _ _ _ _ _ (start d .pre .1 .1) _ _ _ (d .before .part2 .ensures .0) (d .part3 .ensures .0) (c .before .before .if1 .left ∙ sym (c .if3 .left))
+    joined-same _ _ _ _ _ _ _ (start d .pre .1 .1) _ _ _ (d .before .part2 .ensures .0) (d .part3 .ensures .0)
+    (c .before .before .if1 .left ∙ sym (c .if3 .left))
 
 pub join-spec : {M : Type 1} → statement M
 join-spec =

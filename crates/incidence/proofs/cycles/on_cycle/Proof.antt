@@ -16,7 +16,8 @@ from-node-requires : tie.Need-from-node-requires
 from-node-requires c κs = search needs
 
 returns : tie.Need-returns
-returns c = by-node _ _ _ _ _ _ (c .before .before .before .code .ensures) (c .before .before .if1 .taken) _ (c .before .code2 .ensures) _ (c .from-node .ensures)
+returns c = by-node _ _ _ _ _ _ (c .before .before .before .code .ensures) (c .before .before .if1 .taken) _ (c .before .code2 .ensures) _
+    (c .from-node .ensures)
 
 returns-2 : tie.Need-returns-2
 returns-2 c = by-none _ _ _ _ _ _ (c .before .before .code .ensures) (c .before .if1 .left) (c .if2 .taken)

@@ -25,10 +25,16 @@ element-write-targets : tie.Need-element-write-targets
 element-write-targets c = search needs
 
 returns : tie.Need-returns
-returns c = (aim-taken _ _ _ (omega (arith, c .if2 .taken)), ⊎-elim (λ w. w .1 ∙ crowded-taken _ _ _ _ (w .0 .taken)) (λ w. w .1 ∙ crowded-free _ _ _ _ (w .0 .left)) (c .before .if1 .came))
+returns c = (
+  aim-taken _ _ _ (omega (arith, c .if2 .taken)),
+  ⊎-elim (λ w. w .1 ∙ crowded-taken _ _ _ _ (w .0 .taken)) (λ w. w .1 ∙ crowded-free _ _ _ _ (w .0 .left)) (c .before .if1 .came),
+)
 
 returns-2 : tie.Need-returns-2
-returns-2 c = (aim-left _ _ _ (omega (arith, c .if2 .left)), ⊎-elim (λ w. w .1 ∙ crowded-taken _ _ _ _ (w .0 .taken)) (λ w. w .1 ∙ crowded-free _ _ _ _ (w .0 .left)) (c .before .if1 .came))
+returns-2 c = (
+  aim-left _ _ _ (omega (arith, c .if2 .left)),
+  ⊎-elim (λ w. w .1 ∙ crowded-taken _ _ _ _ (w .0 .taken)) (λ w. w .1 ∙ crowded-free _ _ _ _ (w .0 .left)) (c .before .if1 .came),
+)
 
 pub aim-spec : {M : Type 1} → statement M
 aim-spec = tie.close (tie.spec mul-at add-at element-copy-out-old element-write-twice element-write-targets returns returns-2)

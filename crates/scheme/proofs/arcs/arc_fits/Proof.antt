@@ -39,7 +39,8 @@ returns-6 : tie.Need-returns-6
 returns-6 c =
     let near = c .before .before .before .before in
     let k = near .before .before .before .before in
-    far-last _ _ _ _ _ _ _ _ (k .before .key .ensures .0) (k .if1 .left) (near .before .before .before .if2 .left) (near .before .before .if3 .left) (near .before .if4 .left)
+    far-last _ _ _ _ _ _ _ _ (k .before .key .ensures .0) (k .if1 .left) (near .before .before .before .if2 .left) (near .before .before .if3 .left)
+    (near .before .if4 .left)
     (near .wide .ensures .0) (c .before .before .if5 .left) (c .before .wide2 .ensures .0)
 
 pub arc-fits-spec : {M : Type 1} → statement M

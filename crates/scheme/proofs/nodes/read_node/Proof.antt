@@ -23,7 +23,8 @@ took c =
     (c .take .ensures .valueIs ∙ ap (byte (now (s .args .bytes))) p, omega (arith, c .take .ensures .nextIs, p))
 
 -- the kind is one of the three
-kind-in : (c : tie.Else2) → let a = c .before .before .before .before .before .args in (1 ≤ kindAt (now (a .bytes)) (a .s)) × (kindAt (now (a .bytes)) (a .s) ≤ 3)
+kind-in : (c : tie.Else2) → let a = c .before .before .before .before .before .args in
+    (1 ≤ kindAt (now (a .bytes)) (a .s)) × (kindAt (now (a .bytes)) (a .s) ≤ 3)
 kind-in c = let k = took (c .before .before .before) in (omega arith, omega arith)
 
 take-requires : tie.Need-take-requires
@@ -58,8 +59,13 @@ read-side-requires-2 c κs =
     let t = r .before .before .before .before .before .before in
     let p = t .before .before .pre in
     let i = p .1 .1 in
-    let k = took t in
-    (p .0, ((p .1 .0, k .0, omega arith, omega arith), ((inr refl, omega (arith, k .1, r .read-side .ensures .1 .0 (not-false _ (o .if3 .left)))), (i .rwordsIs, i .rtargetsIs))))
+    let k = took t in (
+      p .0,
+      (
+        (p .1 .0, k .0, omega arith, omega arith),
+        ((inr refl, omega (arith, k .1, r .read-side .ensures .1 .0 (not-false _ (o .if3 .left)))), (i .rwordsIs, i .rtargetsIs)),
+      ),
+    )
 
 returns-4 : tie.Need-returns-4
 returns-4 c =

@@ -50,8 +50,10 @@ read-node-requires c κs =
 returns : tie.Need-returns Inv-loop μ-loop
 returns c =
     let r = c .before .before .before in
-    let l = r .before .before .before .before .before .before .before in
-    (all-stops _ (l .loop .s) _ (omega (arith, counted (l .before))) (sym (r .read-node .ensures .0) ∙ not-true _ (c .if1 .taken)), λ e. absurd (true≢false (sym e)))
+    let l = r .before .before .before .before .before .before .before in (
+      all-stops _ (l .loop .s) _ (omega (arith, counted (l .before))) (sym (r .read-node .ensures .0) ∙ not-true _ (c .if1 .taken)),
+      λ e. absurd (true≢false (sym e)),
+    )
 
 add-s : tie.Need-add-s Inv-loop μ-loop
 add-s c = omega arith

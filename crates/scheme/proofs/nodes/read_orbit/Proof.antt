@@ -23,13 +23,20 @@ abbrev μ-loop : tie.MeasureT-loop
 
 -- what the layout and the count tell before the loop
 known : (c : tie.After-next Inv-loop μ-loop) → let a = c .before .before .before .before .args in let b = now (a .bytes) in
-    (c .before .wide .result ≡ placesOf b) × (a .l .n ≡ dimensionOf b) × (placesOf b ≤ 4) × (2 + placesOf b < length b) × (placesOf b ≤ dimensionOf b + 1) × (dimensionOf b ≤ 3)
+    (c .before .wide .result ≡ placesOf b) × (a .l .n ≡ dimensionOf b) × (placesOf b ≤ 4) × (2 + placesOf b < length b) × (placesOf b ≤ dimensionOf b + 1)
+    × (dimensionOf b ≤ 3)
 known c =
     let t = c .before .before in
     let s = t .before .before in
     let laid = s .pre .0 in
-    let h = laid .headed in
-    (c .before .wide .ensures .0 ∙ t .take .ensures .valueIs ∙ ap (byte (now (s .args .bytes))) (s .pre .1 .0), h .nIs, places-small _ _ laid, count-inside _ _ laid, omega arith, dimension-small _ _ laid)
+    let h = laid .headed in (
+      c .before .wide .ensures .0 ∙ t .take .ensures .valueIs ∙ ap (byte (now (s .args .bytes))) (s .pre .1 .0),
+      h .nIs,
+      places-small _ _ laid,
+      count-inside _ _ laid,
+      omega arith,
+      dimension-small _ _ laid,
+    )
 
 -- the dimension that was taken, and the place after it
 took : (c : tie.After-take2 Inv-loop μ-loop) → let l = c .before .before in let b = now (l .before .before .before .before .before .args .bytes) in
