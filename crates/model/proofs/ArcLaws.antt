@@ -2,14 +2,14 @@
 -- Assumes nothing.
 use Prim.Native.Nat.{ℕ, _+_, _≤_, _<_}
 use mathlib.Core.Path.{_≡_, refl, sym, ap, ap₂, _∙_, subst}
-use mathlib.Core.Logic.{_⊎_, ⊎-elim}
+use mathlib.Core.Logic.{⊎-elim}
 use mathlib.Core.Bool.{Bool, true}
 use mathlib.Core.Option.{Option, none, some}
 use native.Mathlib.Omega.{arith}
 use lib.Dec.{eqb}
 use borrow.Author.Tests.{eqb-true, eq-eqb}
 use Rattle.base.specs.Below.{countBelow}
-use Rattle.base.specs.First.{first, least, someIf, there}
+use Rattle.base.specs.First.{first, least, someIf}
 use Rattle.model.specs.Arc.{farEnd, arcOf}
 use Rattle.model.specs.Scheme.{Side, word, arcs, arcPart, has}
 use Rattle.model.specs.Conditions.{Arc, absent, explicit, implicit, arcAt, arcsOfDim, touches, far, reads}
@@ -106,22 +106,20 @@ module _ (S : Scheme) (side : Side) where
         let f = explicit-from s i t e in
         let a = f .0 in
         let dim : arcPart S side a 0 ≡ i = eqb-true _ _ (and-left _ _ (f .2)) in
-        let d : i ≤ S .n = subst (λ (k : ℕ). k ≤ S .n) dim (g .shaped .dims a (f .1)) in
+        let back : (x y : ℕ) → x ≡ s → far S side x a ≡ y → far S side y a ≡ x → touches S side y (arcPart S side a 0) a ≡ true
+        → (y < S .nodes) × (has S side y ≡ true) → (t < S .nodes) × (has S side t ≡ true) × (i ≤ S .n) × (arcAt S side t i ≡ explicit s) =
+        λ x y q to from touch n. subst
+        (λ (z : ℕ). (z < S .nodes) × (has S side z ≡ true) × (i ≤ S .n) × (arcAt S side z i ≡ explicit s))
+        (sym to ∙ ap (λ (z : ℕ). far S side z a) q ∙ f .3) (
+          n .0,
+          n .1,
+          subst (λ (k : ℕ). k ≤ S .n) dim (g .shaped .dims a (f .1)),
+          ap (arcAt S side y) (sym dim)
+              ∙ explicit-at y (arcPart S side a 0) a (n .0) (f .1) (g .shaped .dims a (f .1)) touch ∙ ap explicit (from ∙ q),
+        ) in
         ⊎-elim
-        (λ q.
-        let from : arcPart S side a 1 ≡ s = eqb-true _ _ q in
-        let to : arcPart S side a 2 ≡ t = sym (far-from a) ∙ ap (λ (z : ℕ). far S side z a) from ∙ f .3 in
-        let n = g .shaped .to a (f .1) in
-        let back = explicit-at (arcPart S side a 2) (arcPart S side a 0) a (n .0) (f .1) (g .shaped .dims a (f .1)) (touches-to a)
-        ∙ ap explicit (far-to a ∙ from) in
-        (subst (λ (z : ℕ). z < S .nodes) to (n .0), ap (has S side) (sym to) ∙ n .1, d, ap₂ (arcAt S side) (sym to) (sym dim) ∙ back))
-        (λ q.
-        let to : arcPart S side a 2 ≡ s = eqb-true _ _ q in
-        let from : arcPart S side a 1 ≡ t = sym (far-to a) ∙ ap (λ (z : ℕ). far S side z a) to ∙ f .3 in
-        let n = g .shaped .from a (f .1) in
-        let back = explicit-at (arcPart S side a 1) (arcPart S side a 0) a (n .0) (f .1) (g .shaped .dims a (f .1)) (touches-from a)
-        ∙ ap explicit (far-from a ∙ to) in
-        (subst (λ (z : ℕ). z < S .nodes) from (n .0), ap (has S side) (sym from) ∙ n .1, d, ap₂ (arcAt S side) (sym from) (sym dim) ∙ back))
+        (λ q. back _ _ (eqb-true _ _ q) (far-from a) (far-to a) (touches-to a) (g .shaped .to a (f .1)))
+        (λ q. back _ _ (eqb-true _ _ q) (far-to a) (far-from a) (touches-from a) (g .shaped .from a (f .1)))
         (or-cases _ _ (and-right _ _ (f .2)))
 
     -- no node has an arc of a dimension above n

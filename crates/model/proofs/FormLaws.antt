@@ -1,16 +1,16 @@
 -- The form of the bytes, taken apart and put together.
 -- Assumes nothing.
-use Prim.Native.Nat.{ℕ, _+_, _≤_}
+use Prim.Native.Nat.{ℕ, _+_, _≤_, _<_}
 use mathlib.Core.Path.{_≡_}
 use mathlib.Core.Logic.{_⊎_, inl, inr, ⊎-elim}
 use mathlib.Core.Bool.{true}
 use mathlib.Core.List.{List}
-use borrow.Author.Tests.{eqb-true, eq-eqb, leb-true, le-leb}
+use borrow.Author.Tests.{eqb-true, eq-eqb, leb-true, le-leb, ltb-true}
 use lib.ListN.{length}
 use Rattle.base.specs.Below.{allBelow}
 use Rattle.base.proofs.TestLaws.{and-left, and-right, and-of, or-cases, or-left, or-right}
-use Rattle.model.specs.Bytes.{dimensionOf, placesOf, nodesOf, arcCount, endAt}
-use Rattle.model.specs.Scheme.{Side, left, right, orbitForm, nodeForm, arcsForm, inForm}
+use Rattle.model.specs.Bytes.{onSide, dimensionOf, placesOf, nodesOf, kindAt, arcCount, arcByte, endAt}
+use Rattle.model.specs.Scheme.{Side, left, right, orbitForm, nodeForm, arcForm, arcsForm, inForm}
 
 module _ (b : List ℕ) where
   pub record Parts : Type 0 where
@@ -58,3 +58,25 @@ module _ (b : List ℕ) where
   pub arcs-few : Parts → (side : Side) → arcCount b side ≤ 64
   unfolding arcsForm
   arcs-few f side = leb-true _ _ (and-left _ _ (f .arcs side))
+
+-- the form of an arc, taken apart
+pub record ArcParts (b : List ℕ) (side : Side) (a : ℕ) : Type 0 where
+  pub dim : arcByte b side a 0 ≤ dimensionOf b
+  pub order : arcByte b side a 1 ≤ arcByte b side a 2
+  pub node : arcByte b side a 2 < nodesOf b
+  pub from : onSide side (kindAt b (arcByte b side a 1)) ≡ true
+  pub to : onSide side (kindAt b (arcByte b side a 2)) ≡ true
+
+pub arc-parts : (b : List ℕ) (side : Side) (a : ℕ) → arcForm b side a ≡ true → ArcParts b side a
+unfolding arcForm
+arc-parts b side a q =
+    let q₁ = and-left _ _ q in
+    let q₂ = and-left _ _ q₁ in
+    let q₃ = and-left _ _ q₂ in
+    record {
+      dim = leb-true _ _ (and-left _ _ (and-left _ _ q₃));
+      order = leb-true _ _ (and-right _ _ (and-left _ _ q₃));
+      node = ltb-true _ _ (and-right _ _ q₃);
+      from = and-right _ _ q₂;
+      to = and-right _ _ q₁;
+    }

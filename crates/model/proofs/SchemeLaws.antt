@@ -20,7 +20,7 @@ use Rattle.base.proofs.ListLaws.{getD-list}
 use Rattle.model.specs.Bytes.{onSide, byte, dimensionOf, placesOf, nodesOf, kindAt, wordAt, arcCount, arcByte, upTo}
 use Rattle.model.specs.Arc.{farEnd, arcOf}
 use Rattle.model.specs.Codes.{placeCode, placed, placedAt, targetsOf, targets, arcCode}
-use Rattle.model.specs.Scheme.{Side, left, right, orbitForm, wordForm, nodeForm, arcForm, arcsForm, inForm, wordsOf, arcsOf, schemeOf, kind, orbitDim}
+use Rattle.model.specs.Scheme.{Side, left, right, orbitForm, wordForm, nodeForm, arcsForm, inForm, wordsOf, arcsOf, schemeOf, kind, orbitDim}
 use Rattle.model.specs.Scheme.{word, arcs, arcPart, has}
 use Rattle.model.specs.Conditions.{arcAt, reads}
 use Rattle.model.specs.Shaped.{Shaped, ShapedSide}
@@ -67,9 +67,9 @@ module _ (b : List ℕ) (q : inForm b ≡ true) where
       let arcs-right = arcs-few right in
       omega arith
 
-  form-arc : (side : Side) (a : ℕ) → a < arcCount b side → arcForm b side a ≡ true
+  form-arc : (side : Side) (a : ℕ) → a < arcCount b side → F.ArcParts b side a
   unfolding arcsForm
-  form-arc side a h = all-at _ _ (and-right _ _ (form .arcs side)) a h
+  form-arc side a h = F.arc-parts b side a (all-at _ _ (and-right _ _ (form .arcs side)) a h)
 
   pub form-word : (side : Side) (s : ℕ) → s < nodesOf b → wordForm b side s ≡ true
   unfolding nodeForm
@@ -196,34 +196,17 @@ module _ (b : List ℕ) (q : inForm b ≡ true) where
   word-dim side s p h l = rw (value-word side s p h l) (⊎-elim (λ e. inl (eqb-true _ _ e)) (λ e. inr (leb-true _ _ (and-left _ _ e)))
       (or-cases _ _ (all-at _ _ (form-word side s h) p l)))
 
-  pub arc-dim : (side : Side) (a : ℕ) → a < arcCount b side → arcPart (schemeOf b) side a 0 ≤ dimensionOf b
-  unfolding arcForm
-  arc-dim side a h = rw (value-arc side a 0 h (omega arith))
-      (leb-true _ _ (and-left _ _ (and-left _ _ (and-left _ _ (and-left _ _ (and-left _ _ (form-arc side a h)))))))
+  arc-dim : (side : Side) (a : ℕ) → a < arcCount b side → arcPart (schemeOf b) side a 0 ≤ dimensionOf b
+  arc-dim side a h = rw (value-arc side a 0 h (omega arith)) (form-arc side a h .dim)
 
   End : Side → ℕ → Type 0
   End side x = (x < nodesOf b) × (has (schemeOf b) side x ≡ true)
 
-  on-side : (side : Side) (x : ℕ) → x < nodesOf b → onSide side (kindAt b x) ≡ true → End side x
+  -- byte f of an arc is a node of the side
+  arc-end : (side : Side) (a f : ℕ) → a < arcCount b side → f < 3 → arcByte b side a f < nodesOf b → onSide side (kindAt b (arcByte b side a f)) ≡ true
+      → End side (arcPart (schemeOf b) side a f)
   unfolding End
-  on-side side x h e = (h, ap (onSide side) (value-kind x h) ∙ e)
-
-  pub arc-from : (side : Side) (a : ℕ) → a < arcCount b side
-      → (arcPart (schemeOf b) side a 1 < nodesOf b) × (has (schemeOf b) side (arcPart (schemeOf b) side a 1) ≡ true)
-  unfolding arcForm End
-  arc-from side a h =
-      let f = and-left _ _ (form-arc side a h) in
-      let order : arcByte b side a 1 ≤ arcByte b side a 2 = leb-true _ _ (and-right _ _ (and-left _ _ (and-left _ _ (and-left _ _ f)))) in
-      let bound : arcByte b side a 2 < nodesOf b = ltb-true _ _ (and-right _ _ (and-left _ _ (and-left _ _ f))) in
-      subst (End side) (sym (value-arc side a 1 h (omega arith))) (on-side side _ (omega arith) (and-right _ _ (and-left _ _ f)))
-
-  pub arc-to : (side : Side) (a : ℕ) → a < arcCount b side
-      → (arcPart (schemeOf b) side a 2 < nodesOf b) × (has (schemeOf b) side (arcPart (schemeOf b) side a 2) ≡ true)
-  unfolding arcForm End
-  arc-to side a h =
-      let f = and-left _ _ (form-arc side a h) in
-      let bound = ltb-true _ _ (and-right _ _ (and-left _ _ (and-left _ _ f))) in
-      subst (End side) (sym (value-arc side a 2 h (omega arith))) (on-side side _ bound (and-right _ _ f))
+  arc-end side a f h l n e = subst (End side) (sym (value-arc side a f h l)) (n, ap (onSide side) (value-kind _ n) ∙ e)
 
   pub kind-range : (s : ℕ) → s < nodesOf b → (1 ≤ kind (schemeOf b) s) × (kind (schemeOf b) s ≤ 3)
   unfolding nodeForm
@@ -232,13 +215,13 @@ module _ (b : List ℕ) (q : inForm b ≡ true) where
       rw (value-kind s h) (leb-true 1 _ (and-left _ _ f), leb-true _ 3 (and-right _ _ f))
 
   shaped-side : (side : Side) (few : arcs (schemeOf b) side ≡ arcCount b side) → ShapedSide (schemeOf b) side
-  unfolding schemeOf
+  unfolding schemeOf End
   shaped-side side same = record {
     words = word-dim side;
     few = rw same (arcs-few side);
     dims = λ a h. arc-dim side a (rw same at h);
-    from = λ a h. arc-from side a (rw same at h);
-    to = λ a h. arc-to side a (rw same at h);
+    from = λ a h. let k = rw same at h in let f = form-arc side a k in arc-end side a 1 k (omega arith) (omega arith) (f .from);
+    to = λ a h. let k = rw same at h in let f = form-arc side a k in arc-end side a 2 k (omega arith) (f .node) (f .to);
     coded = value-target side;
   }
 

@@ -28,6 +28,7 @@ use Rattle.scheme.specs.Arcs.{ArcsPlaced, ArcsRead, keyOf, arcTest}
 use Rattle.scheme.specs.Targets.{Linked, twiceTo}
 use Rattle.frame.specs.declared.cursor.Arc.{Arc}
 use Rattle.frame.specs.declared.Layout.{Layout}
+use Rattle.model.proofs.FormLaws.{arc-parts}
 use Rattle.frame.proofs.FrameLaws.{dimension-small}
 use Rattle.scheme.proofs.WordLaws.{on-side}
 use Rattle.scheme.proofs.LinkLaws.{Shown, touches, shown-none, linked-more, places}
@@ -99,17 +100,10 @@ module _ (b : List ℕ) (l : Layout) (kinds : List ℕ) (other from : ℕ) (plac
     pub small : part a 2 < 16
 
   ends : (a : ℕ) → arcForm b side a ≡ true → Ends a
-  unfolding arcForm
   ends a q =
-      let f = and-left _ _ (and-left _ _ (and-left _ _ q)) in
-      let node : part a 2 < nodesOf b = ltb-true _ _ (and-right _ _ f) in
+      let f = arc-parts b side a q in
       let h = placed .laid .headed in
-      record {
-        dim = leb-true _ _ (and-left _ _ (and-left _ _ f));
-        order = leb-true _ _ (and-right _ _ (and-left _ _ f));
-        node = node;
-        small = omega arith;
-      }
+      record { dim = f .dim; order = f .order; node = f .node; small = omega arith }
 
   kind-at : (s : ℕ) → s < nodesOf b → getD kinds s 0 ≡ kindAt b s
   unfolding schemeOf
