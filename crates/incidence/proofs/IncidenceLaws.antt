@@ -8,11 +8,11 @@ use mathlib.Core.List.{List}
 use native.Mathlib.Omega.{arith}
 use lib.ListN.{getD}
 use lib.Dec.{eqb, leb}
-use borrow.Author.Tests.{ne-eqb, leb-true, leb-false, lt-leb, not-true}
+use borrow.Author.Tests.{ne-eqb, leb-true, leb-false, not-true}
 use Rattle.base.specs.Test.{_and_, _or_, _⇒_}
-use Rattle.base.specs.Below.{allBelow, anyBelow, countBelow}
+use Rattle.base.specs.Below.{allBelow, countBelow}
 use Rattle.base.specs.First.{least}
-use Rattle.base.proofs.TestLaws.{and-no-left, true-or-false}
+use Rattle.base.proofs.TestLaws.{and-no-left, impossible, true-or-false}
 use Rattle.base.proofs.BelowLaws.{all-not, all-step, all-same, any-at, any-of, count-zero, one-to-three}
 use Rattle.base.proofs.FirstLaws.{least-same}
 use Rattle.base.proofs.ListLaws.{getD-list}
@@ -192,19 +192,8 @@ module _ (S : Scheme) (f : Shaped S) where
   module _ (lefts rights : List ℕ) (ltwice rtwice : List Bool) (cl : Coded S left lefts) (cr : Coded S right rights)
       (tl : ltwice ≡ twiceOf S left) (tr : rtwice ≡ twiceOf S right) where
     module _ (s : ℕ) (h : s < S .nodes) where
-      bad-left : twiceAt S left s ≡ true → incidenceOk S s ≡ false
-      unfolding incidenceOk _and_
-      bad-left e = let w = twice-dim left s h e in all-not (suc (S .n)) _ (w .0) (omega (arith, w .1))
-          (let many = lt-leb (arcsOfDim S left s (w .0)) 1 (omega (arith, w .2)) in rw many refl)
-
-      bad-right : twiceAt S right s ≡ true → incidenceOk S s ≡ false
-      unfolding incidenceOk _and_
-      bad-right e = let w = twice-dim right s h e in all-not (suc (S .n)) _ (w .0) (omega (arith, w .1))
-          (let many = lt-leb (arcsOfDim S right s (w .0)) 1 (omega (arith, w .2)) in rw many (no-more (leb (arcsOfDim S left s (w .0)) 1) _ _ _))
-        where
-          no-more : (b c d e : Bool) → (b and false and c and d and e) ≡ false
-          no-more true c d e = refl
-          no-more false c d e = refl
+      bad : (side : Side) → twiceAt S side s ≡ true → incidenceOk S s ≡ false
+      bad side e = let w = twice-dim side s h e in impossible _ (λ q. omega (arith, AcceptedLaws.single-arc S side s (w .0) q (w .1), w .2))
 
       same-node : twiceAt S left s ≡ false → twiceAt S right s ≡ false → incidenceOk S s ≡ incidentBy (S .n) (getD (S .kinds) s 0) lefts rights s
       unfolding incidenceOk incidentBy
@@ -220,9 +209,9 @@ module _ (S : Scheme) (f : Shaped S) where
           let el = twice-is left s h ltwice tl in
           let er = twice-is right s h rtwice tr in
           ⊎-elim
-          (λ l. ap not (bad-left l) ∙ sym (offends-left _ _ _ _ _ _ s (el ∙ l)))
+          (λ l. ap not (bad left l) ∙ sym (offends-left _ _ _ _ _ _ s (el ∙ l)))
           (λ l. ⊎-elim
-          (λ r. ap not (bad-right r) ∙ sym (offends-right _ _ _ _ _ _ s (el ∙ l) (er ∙ r)))
+          (λ r. ap not (bad right r) ∙ sym (offends-right _ _ _ _ _ _ s (el ∙ l) (er ∙ r)))
           (λ r. ap not (same-node l r) ∙ sym (offends-not _ _ _ _ _ _ s (el ∙ l) (er ∙ r) _ refl))
           (true-or-false (twiceAt S right s)))
           (true-or-false (twiceAt S left s))

@@ -17,7 +17,7 @@ use Rattle.model.specs.Scheme.{Side, left, right, kind, has, deleted, pr
 use Rattle.model.specs.Shaped.{Shaped}
 use Rattle.model.specs.Conditions.{arcAt, arcsOfDim, sameArc, onCycle, Cycle, Hooked, hookOk, pathTo, hookFault, incidenceOk, incidenceFault, cycleOk}
 use Rattle.model.specs.Conditions.{cycleFault, schemeFault, noted}
-use Rattle.model.specs.Accepted.{Accepted, SingleSide}
+use Rattle.model.specs.Accepted.{Accepted}
 use Rattle.model.specs.declared.Scheme.{Scheme}
 use Rattle.model.proofs.CycleLaws.{cycle-at, cycle-of, same-arc, arc-same}
 use Rattle.model.proofs.HookLaws.{hook-iff, hook-below, found-reached, reached-found}
@@ -43,6 +43,21 @@ one-of-three k l h = ⊎-elim (λ e. inl e)
 -- what is asked of a preserved node that is on a left cycle, or on none
 abbrev keptOk : Scheme → ℕ → ℕ → ℕ → Bool → Bool
 keptOk S s i j c = cond c (onCycle S right s i j) (sameArc (arcAt S left s i) (arcAt S right s i) and sameArc (arcAt S left s j) (arcAt S right s j))
+
+-- ---- a node that is as incidence asks
+
+module _ (S : Scheme) where
+  incident : (s i : ℕ) → incidenceOk S s ≡ true → i ≤ S .n
+      → (leb (arcsOfDim S left s i) 1 and leb (arcsOfDim S right s i) 1
+      and (preserved S s ⇒ eqb (arcsOfDim S left s i) (arcsOfDim S right s i))
+      and (deleted S s ⇒ eqb (arcsOfDim S left s i) 1)
+      and (added S s ⇒ eqb (arcsOfDim S right s i) 1)) ≡ true
+  unfolding incidenceOk
+  incident s i q l = all-at _ _ q i (omega arith)
+
+  pub single-arc : (side : Side) (s i : ℕ) → incidenceOk S s ≡ true → i ≤ S .n → arcsOfDim S side s i ≤ 1
+  single-arc left s i q l = leb-true _ _ (and-left _ _ (and-left _ _ (and-left _ _ (and-left _ _ (incident s i q l)))))
+  single-arc right s i q l = leb-true _ _ (and-right _ _ (and-left _ _ (and-left _ _ (and-left _ _ (incident s i q l)))))
 
 module _ (S : Scheme) (f : Shaped S) where
   pub small : S .n ≤ 3
@@ -82,13 +97,9 @@ module _ (S : Scheme) (f : Shaped S) where
     unfolding hookFault
     reached s h l = brings l (least-none _ _ (or-else-none _ _ no-hook .1) s h)
 
-    incident : (s i : ℕ) → s < S .nodes → i ≤ S .n
-        → (leb (arcsOfDim S left s i) 1 and leb (arcsOfDim S right s i) 1
-        and (preserved S s ⇒ eqb (arcsOfDim S left s i) (arcsOfDim S right s i))
-        and (deleted S s ⇒ eqb (arcsOfDim S left s i) 1)
-        and (added S s ⇒ eqb (arcsOfDim S right s i) 1)) ≡ true
-    unfolding incidenceFault incidenceOk
-    incident s i h l = all-at _ _ (not-false _ (least-none _ _ no-incidence s h)) i (omega arith)
+    node-ok : (s : ℕ) → s < S .nodes → incidenceOk S s ≡ true
+    unfolding incidenceFault
+    node-ok s h = not-false _ (least-none _ _ no-incidence s h)
 
     cycled : (s i j : ℕ) → s < S .nodes → i + 2 ≤ j → j ≤ S .n → cycleOk S s i j ≡ true
     unfolding cycleFault
@@ -113,25 +124,15 @@ module _ (S : Scheme) (f : Shaped S) where
           (λ t. let both = subst (λ (b : Bool). keptOk S s i j b ≡ true) t (kept-ok e) in (same-arc _ _ (and-left _ _ both), same-arc _ _ (and-right _ _ both)))
           (true-or-false (onCycle S left s i j))
 
-    side-of : (side : Side) → SingleSide S side
-    side-of left = record {
-      shaped = f .sides left;
-      single = λ s i h l. leb-true _ _ (and-left _ _ (and-left _ _ (and-left _ _ (and-left _ _ (incident s i h l)))));
-    }
-    side-of right = record {
-      shaped = f .sides right;
-      single = λ s i h l. leb-true _ _ (and-right _ _ (and-left _ _ (and-left _ _ (and-left _ _ (incident s i h l)))));
-    }
-
     pub accepted : Accepted S
     accepted = record {
       shaped = f;
       hooks = hooked;
       reach = λ s h l. found-reached S f s h (reached s h l);
-      sides = side-of;
-      same = λ s i h l e. eqb-true _ _ (if-so _ (and-right _ _ (and-left _ _ (and-left _ _ (incident s i h l)))) e);
-      allLeft = λ s i h l e. eqb-true _ _ (if-so _ (and-right _ _ (and-left _ _ (incident s i h l))) e);
-      allRight = λ s i h l e. eqb-true _ _ (if-so _ (and-right _ _ (incident s i h l)) e);
+      sides = λ side. record { shaped = f .sides side; single = λ s i h l. single-arc S side s i (node-ok s h) l };
+      same = λ s i h l e. eqb-true _ _ (if-so _ (and-right _ _ (and-left _ _ (and-left _ _ (incident S s i (node-ok s h) l)))) e);
+      allLeft = λ s i h l e. eqb-true _ _ (if-so _ (and-right _ _ (and-left _ _ (incident S s i (node-ok s h) l))) e);
+      allRight = λ s i h l e. eqb-true _ _ (if-so _ (and-right _ _ (incident S s i (node-ok s h) l)) e);
       addedCycle = added-cycle;
       keptCycle = kept-cycle;
       keptArcs = kept-arcs;
