@@ -70,6 +70,16 @@ module _ (S : Scheme) (side : Side) (s i j : ℕ) where
 
 -- ---- what the codes say
 
+-- the code of a position, against that of an arc
+same-place : {n e : ℕ} (p : ℕ) (x : Arc) → e ≡ arcCode x → n ≤ 16 → p < 4 → Small n x
+    → (eqb (16 + p) e ≡ atPlaces x (implicit p) eqb) × (eqb e (16 + p) ≡ atPlaces (implicit p) x eqb)
+same-place p absent q h l m = (rw q (ne-eqb (16 + p) 255 (λ z. absurd (omega arith))), rw q (ne-eqb 255 (16 + p) (λ z. absurd (omega arith))))
+same-place p (explicit r) q h l m = (rw q (ne-eqb (16 + p) r (λ z. absurd (omega arith))), rw q (ne-eqb r (16 + p) (λ z. absurd (omega arith))))
+same-place p (implicit o) q h l m = (
+  rw q (eqb-same (16 + p) (16 + o) o p (λ z. omega arith) (λ z. omega arith)),
+  rw q (eqb-same (16 + o) (16 + p) p o (λ z. omega arith) (λ z. omega arith)),
+)
+
 module _ (S : Scheme) (f : Shaped S) (side : Side) (codes : List ℕ) (cd : Coded S side codes) where
   node-code : (s i t : ℕ) → s < S .nodes → i < 4 → arcAt S side s i ≡ explicit t → (entry codes s i ≡ t) × (t < S .nodes)
   node-code s i t h l e = (cd .at s i h l ∙ ap arcCode e, subst (Small (S .nodes)) e (small-arc S f side s i))
@@ -107,15 +117,6 @@ module _ (S : Scheme) (f : Shaped S) (side : Side) (codes : List ℕ) (cd : Code
         go (explicit v) e = let c = node-code u i v h hi e in rw (c .0, lt-ltb v 16 (node-small S f v (c .1))) (last-is v (c .1))
         go (implicit p) e = rw (place-code u i p h hi e .0, le-ltb (16 + p) 16 (omega arith))
 
-    -- a position's code, against the code of the j-arc of s
-    place-same : (p : ℕ) → p < 4 → eqb (16 + p) (entry codes s j) ≡ atPlaces (arcAt S side s j) (implicit p) eqb
-    place-same p h = go (arcAt S side s j) refl
-      where
-        go : (y : Arc) → arcAt S side s j ≡ y → eqb (16 + p) (entry codes s j) ≡ atPlaces y (implicit p) eqb
-        go absent e = rw (none-code s j hs hj e) (ne-eqb (16 + p) 255 (λ q. absurd (omega arith)))
-        go (explicit r) e = let c = node-code s j r hs hj e in let k = node-small S f r (c .1) in rw (c .0) (ne-eqb (16 + p) r (λ q. absurd (omega arith)))
-        go (implicit o) e = rw (place-code s j o hs hj e .0) (eqb-same (16 + p) (16 + o) o p (λ q. omega arith) (λ q. omega arith))
-
     node-is : (t : ℕ) → t < S .nodes
         → fromNode codes s i j (entry codes t j) ≡ (atEnd (arcAt S side t j) (λ u. atEnd (arcAt S side u i) (λ v. atEnd (arcAt S side v j) (eqb s)))
         or atPlaces (arcAt S side s j) (arcAt S side t j) eqb)
@@ -134,16 +135,7 @@ module _ (S : Scheme) (f : Shaped S) (side : Side) (codes : List ℕ) (cd : Code
         go (implicit p) e =
             let c = place-code t j p h hj e in
             let k = c .1 in
-            rw (c .0, le-ltb (16 + p) 16 (omega arith), ne-eqb (16 + p) 255 (λ q. absurd (omega arith))) (place-same p k)
-
-    -- an implicit arc at p, against the i-arc of t
-    arc-same : (p t : ℕ) → p < 4 → t < S .nodes → eqb (entry codes t i) (16 + p) ≡ atPlaces (implicit p) (arcAt S side t i) eqb
-    arc-same p t l h = go (arcAt S side t i) refl
-      where
-        go : (x : Arc) → arcAt S side t i ≡ x → eqb (entry codes t i) (16 + p) ≡ atPlaces (implicit p) x eqb
-        go absent e = rw (none-code t i h hi e) (ne-eqb 255 (16 + p) (λ q. absurd (omega arith)))
-        go (explicit r) e = let c = node-code t i r h hi e in let k = node-small S f r (c .1) in rw (c .0) (ne-eqb r (16 + p) (λ q. absurd (omega arith)))
-        go (implicit o) e = rw (place-code t i o h hi e .0) (eqb-same (16 + o) (16 + p) p o (λ q. omega arith) (λ q. omega arith))
+            rw (c .0, le-ltb (16 + p) 16 (omega arith), ne-eqb (16 + p) 255 (λ q. absurd (omega arith))) (same-place p (arcAt S side s j) (cd .at s j hs hj) (f .nodesFew) k (small-arc S f side s j) .0)
 
     place-is : (p : ℕ) → p < 4
         → fromPlace (S .orbit) codes i (16 + p) (entry codes s j)
@@ -158,7 +150,7 @@ module _ (S : Scheme) (f : Shaped S) (side : Side) (codes : List ℕ) (cd : Code
         go absent e = rw (none-code s j hs hj e)
         go (explicit t) e =
             let c = node-code s j t hs hj e in
-            rw (c .0, lt-ltb t 16 (node-small S f t (c .1))) (arc-same p t l (c .1) ∙ sym (or-false _))
+            rw (c .0, lt-ltb t 16 (node-small S f t (c .1))) (same-place p (arcAt S side t i) (cd .at t i (c .1) hi) (f .nodesFew) l (small-arc S f side t i) .1 ∙ sym (or-false _))
         go (implicit q) e =
             let c = place-code s j q hs hj e in
             let k = c .1 in
