@@ -31,8 +31,9 @@ use Rattle.model.specs.Shaped.{Coded}
 use Rattle.matching.specs.Columns.{BeforeMatching, Grown}
 use Rattle.matching.specs.ArcTests.{Turns, follows, explicitTest, implicitTest, codeTest, arcTest, arcsTest, Firm}
 use Rattle.matching.specs.Assign.{Matched}
+use Rattle.orbit.proofs.PlaceLaws.{place-in, place-of}
 use Rattle.matching.proofs.ColumnLaws.{longer-mark, longer-kept}
-use Rattle.matching.proofs.ColumnTreeLaws.{good, orbit-at, orbit-rank, node-below, dart-at, dart-slot, column-inside, images, arc-image, turn-image}
+use Rattle.matching.proofs.ColumnTreeLaws.{good, node-below, dart-at, dart-slot, column-inside, images, arc-image, turn-image}
 
 -- ---- the tests
 
@@ -179,7 +180,7 @@ module _ {N : ℕ} {t s : List ℕ} {size : ℕ} {nodes parents dims : List ℕ}
         explicit-holds m s′ size dims cols j i (getD cols (node j) 0) w (omega (arith, end .0, accepted .shaped .nodesFew))
         (follows-of m s′ size i (getD cols (node j) 0) (getD cols w 0) (λ r. r) (λ r b.
         ap (m .link i) (image-at (node j) r (on .0) (on .1) b)
-        ∙ arc-image R q (place N s r) (node j) i w (orbit-at R r b) (on .0) (on .1) (end .2) e
+        ∙ arc-image R q (place N s r) (node j) i w (place-in (R .walked) r b) (on .0) (on .1) (end .2) e
         ∙ sym (image-at w r (end .0) (end .1) b)))
     arc-holds j i h k (implicit p) e =
         let on = R .rooted .onLeft j h in
@@ -188,7 +189,7 @@ module _ {N : ℕ} {t s : List ℕ} {size : ℕ} {nodes parents dims : List ℕ}
         (follows-of m s′ size i (getD cols (node j) 0) (getD cols (node j) 0) (λ r. next N s′ r p) (λ r b.
         let g = turn r p b (f .0) in
         ap (m .link i) (image-at (node j) r (on .0) (on .1) b)
-        ∙ turn-image R q (place N s r) (node j) i p (orbit-at R r b) (on .0) (on .1) (f .2) e
+        ∙ turn-image R q (place N s r) (node j) i p (place-in (R .walked) r b) (on .0) (on .1) (f .2) e
         ∙ ap (λ (u : ℕ). image E u (node j)) (sym (g .1))
         ∙ sym (image-at (node j) (next N s′ r p) (on .0) (on .1) (g .0))))
 
@@ -205,15 +206,15 @@ module _ {N : ℕ} {t s : List ℕ} {size : ℕ} {nodes parents dims : List ℕ}
   more = let e = row-end size 0 count (R .rooted .some) in omega arith
 
   rank : (u : ℕ) → O u ≡ true → ℕ
-  rank u e = orbit-rank R u e .0
+  rank u e = place-of (R .walked) u e .0
 
   rank-below : (u : ℕ) (e : O u ≡ true) → rank u e < size
   unfolding rank
-  rank-below u e = orbit-rank R u e .1
+  rank-below u e = place-of (R .walked) u e .1
 
   rank-place : (u : ℕ) (e : O u ≡ true) → place N s (rank u e) ≡ u
   unfolding rank
-  rank-place u e = orbit-rank R u e .2
+  rank-place u e = place-of (R .walked) u e .2
 
   mark-at : (r : ℕ) → r < size → mark s′ (place N s r) ≡ r + 1
   mark-at r h =

@@ -25,7 +25,7 @@ use Rattle.table.specs.Words.{Sized}
 use Rattle.orbit.specs.At.{site}
 use Rattle.orbit.specs.Store.{mark, place, dartAt, Taken}
 use Rattle.matching.specs.Columns.{BeforeMatching, Linked, Column, Columned, Grown, ColumnedAll}
-use Rattle.orbit.proofs.StoreLaws.{among-at, among-of}
+use Rattle.orbit.proofs.PlaceLaws.{place-in}
 use Rattle.matching.proofs.ColumnLaws.{dart-place, longer-dart, longer-less, longer-trans}
 
 module _ {N : ℕ} {t s : List ℕ} {size : ℕ} {nodes parents dims : List ℕ} {count : ℕ}
@@ -50,18 +50,6 @@ module _ {N : ℕ} {t s : List ℕ} {size : ℕ} {nodes parents dims : List ℕ}
   pub good : GoodOrbit E
   good = good-orbit m S (R .at .dart) (R .at .sound)
 
-  pub orbit-at : (r : ℕ) → r < size → O (place N s r) ≡ true
-  orbit-at r h =
-      let b = R .walked .back r h in
-      sym (R .walked .is (place N s r) (R .walked .slot r h)) ∙ among-of s size (place N s r) (omega arith) (omega arith)
-
-  pub orbit-rank : (u : ℕ) → O u ≡ true → (r : ℕ) × (r < size) × (place N s r ≡ u) × (mark s u ≡ r + 1)
-  orbit-rank u e =
-      let h = good .slot u e in
-      let a = R .walked .is u h ∙ e in
-      let b = among-at s size u a in
-      (mark s u - 1, omega (arith, b .0, b .1), R .walked .found u h a, omega (arith, b .0))
-
   pub node-below : (k : ℕ) → k < count → node k < 16
   node-below k h = omega (arith, R .rooted .onLeft k h .0, accepted .shaped .nodesFew)
 
@@ -77,7 +65,7 @@ module _ {N : ℕ} {t s : List ℕ} {size : ℕ} {nodes parents dims : List ℕ}
         wide = simp length-set long;
         taken = rw same (R .taken);
         longer = record { places = λ e h. refl; rest = λ i h. refl };
-        alive = λ e h. good .alive (place N s e) (orbit-at e (omega arith));
+        alive = λ e h. good .alive (place N s e) (place-in (R .walked) e (omega arith));
         begins = λ j h.
             let z : j ≡ 0 = omega arith in
             let first : node j ≡ 0 = ap node z ∙ R .rooted .root in
@@ -194,8 +182,8 @@ module _ {N : ℕ} {t s : List ℕ} {size : ℕ} {nodes parents dims : List ℕ}
     one-pair r q j i a b c e f =
         let on = R .rooted .onLeft j c in
         let at = R .rooted .onLeft i e in
-        let p = assignment .different (place N s r) (R .walked .slot r a) (orbit-at r a) (node j) (on .0) (on .1)
-        (place N s q) (R .walked .slot q b) (orbit-at q b) (node i) (at .0) (at .1) f in
+        let p = assignment .different (place N s r) (R .walked .slot r a) (place-in (R .walked) r a) (node j) (on .0) (on .1)
+        (place N s q) (R .walked .slot q b) (place-in (R .walked) q b) (node i) (at .0) (at .1) f in
         let same : mark s (place N s r) ≡ mark s (place N s q) = ap (mark s) (p .0) in
         (omega (arith, R .walked .back r a, R .walked .back q b), R .rooted .once j i c e (p .1))
 
@@ -206,7 +194,7 @@ module _ {N : ℕ} {t s : List ℕ} {size : ℕ} {nodes parents dims : List ℕ}
           let u = place N s r in
           let z : 0 * size + r ≡ r = omega arith in
           dart-at G 0 r l ∙ ap (place N s′) z ∙ G .longer .places r h
-          ∙ sym (assignment .hook u (R .walked .slot r h) (orbit-at r h)) ∙ ap (image E u) (sym (R .rooted .root))
+          ∙ sym (assignment .hook u (R .walked .slot r h) (place-in (R .walked) r h)) ∙ ap (image E u) (sym (R .rooted .root))
 
       images-below : (b j r : ℕ) → j < b → j < k → r < size → dartAt s′ (getD cols (node j) 0) r ≡ image E (place N s r) (node j)
       images-below zero j r h l c = absurd (not-suc-le-zero h)
@@ -218,7 +206,7 @@ module _ {N : ℕ} {t s : List ℕ} {size : ℕ} {nodes parents dims : List ℕ}
           let up : dartAt s′ (getD cols (parent j) 0) r ≡ image E (place N s r) (parent j) =
           subst (λ (v : ℕ). dartAt s′ (getD cols v 0) r ≡ image E (place N s r) v) (p .2)
           (images-below b (p .0) r (omega (arith, p .1)) (omega (arith, p .1)) c) in
-          G .steps j r some l c ∙ tree-image (place N s r) j _ (orbit-at r c) some (omega arith) up)
+          G .steps j r some l c ∙ tree-image (place N s r) j _ (place-in (R .walked) r c) some (omega arith) up)
 
       -- what stands in a column is the image of its pair
       pub images : (j r : ℕ) → j < k → r < size → dartAt s′ (getD cols (node j) 0) r ≡ image E (place N s r) (node j)
@@ -228,7 +216,7 @@ module _ {N : ℕ} {t s : List ℕ} {size : ℕ} {nodes parents dims : List ℕ}
         next-image : (r : ℕ) → r < size → m .link (dim k) (dartAt s′ (getD cols (parent k) 0) r) ≡ image E (place N s r) (node k)
         next-image r c =
             let p = R .rooted .earlier k l h in
-            tree-image (place N s r) k _ (orbit-at r c) l h
+            tree-image (place N s r) k _ (place-in (R .walked) r c) l h
             (subst (λ (v : ℕ). dartAt s′ (getD cols v 0) r ≡ image E (place N s r) v) (p .2) (images (p .0) r (p .1) c))
 
         -- a dart of the next column that has a place already is the image of two pairs

@@ -10,8 +10,8 @@ use mathlib.Core.List.{List}
 use native.Mathlib.Omega.{arith}
 use lib.ListN.{length, getD}
 use lib.Dec.{leb}
-use borrow.Author.Tests.{eqb-true, eq-eqb, lt-ltb, ltb-true, le-leb, leb-true, leb-false}
-use Rattle.base.proofs.TestLaws.{and-left, and-right, and-of, true-or-false}
+use borrow.Author.Tests.{eqb-true, eq-eqb, leb-true, leb-false}
+use Rattle.base.proofs.TestLaws.{true-or-false}
 use Rattle.base.proofs.FirstLaws.{some-not-none}
 use Rattle.model.specs.Map.{Map, Field, State, Link, Tag, fieldOf, dimension, tableSize, fieldAt, tableOf}
 use Rattle.model.specs.Scheme.{right, deleted, added}
@@ -25,9 +25,10 @@ use Rattle.model.proofs.RankLaws.{left-not-added}
 use Rattle.model.proofs.EditLaws as L
 use Rattle.model.proofs.EditLaws.{Ready}
 use Rattle.model.proofs.MatchIff.{match-ready}
-use Rattle.orbit.specs.Store.{mark, place, next, among}
+use Rattle.orbit.specs.Store.{place, next}
 use Rattle.orbit.specs.At.{site}
 use Rattle.model.specs.Codes.{arcCode}
+use Rattle.orbit.proofs.PlaceLaws.{place-in, place-of, place-once}
 use Rattle.rewriting.specs.Links.{relinked, cleared, Turnable, Legible, Columns, Codes, BeforeRewriting}
 use Rattle.rewriting.proofs.LinkWriteLaws.{pairDart, Different, relinked-long, relinked-leaves, relinked-node, relinked-position, relinked-none}
 use Rattle.rewriting.proofs.LinkWriteLaws.{cleared-long, cleared-leaves, cleared-sets}
@@ -62,30 +63,7 @@ module _ {slots : ℕ} {table store : List ℕ} {size : ℕ} {kinds codes : List
   counted : {v : ℕ} → v < S .nodes → v < c
   counted {v} h = subst (λ (n : ℕ). v < n) (sym (R .nodes)) h
 
-  -- ---- the orbit's darts by place
-
-  place-in : (r : ℕ) → r < size → O (P r) ≡ true
-  unfolding among
-  place-in r h =
-      let b = R .walked .back r h in
-      sym (R .walked .is (P r) (R .walked .slot r h))
-      ∙ and-of (lt-ltb 0 (mark store (P r)) (omega arith)) (le-leb (mark store (P r)) size (omega arith))
-
-  place-of : (u : ℕ) → O u ≡ true → (r : ℕ) × (r < size) × (P r ≡ u)
-  unfolding among
-  place-of u e =
-      let h = ready .good .slot u e in
-      let a = R .walked .is u h ∙ e in
-      let low = ltb-true 0 (mark store u) (and-left _ _ a) in
-      let high = leb-true (mark store u) size (and-right _ _ a) in
-      (mark store u - 1, omega arith, R .walked .found u h a)
-
-  place-once : (q r : ℕ) → q < size → r < size → P q ≡ P r → q ≡ r
-  place-once q r h l e =
-      let a = R .walked .back q h in
-      let b = R .walked .back r l in
-      let same = ap (mark store) e in
-      omega arith
+  -- ---- the darts by place
 
   dart-is : (v r : ℕ) → v < S .nodes → r < size → dart v r ≡ D (P r) v
   dart-is = R .darts .dart
@@ -93,11 +71,11 @@ module _ {slots : ℕ} {table store : List ℕ} {size : ℕ} {kinds codes : List
   different : Different slots store size cols c
   different = record {
     slot = λ v r hv hr. subst (λ (x : ℕ). x < slots) (sym (dart-is v r (node hv) hr))
-        (L.dart-slot ready (P r) v (place-in r hr) (node hv));
+        (L.dart-slot ready (P r) v (place-in (R .walked) r hr) (node hv));
     once = λ v q w r hv hq hw hr e.
-        let d = L.dart-injective ready (P q) v (P r) w (place-in q hq) (place-in r hr) (node hv) (node hw)
+        let d = L.dart-injective ready (P q) v (P r) w (place-in (R .walked) q hq) (place-in (R .walked) r hr) (node hv) (node hw)
         (sym (dart-is v q (node hv) hq) ∙ e ∙ dart-is w r (node hw) hr) in
-        (d .1, place-once q r hq hr (d .0));
+        (d .1, place-once (R .walked) q r hq hr (d .0));
   }
 
   -- ---- what makes the loops safe
@@ -171,7 +149,7 @@ module _ {slots : ℕ} {table store : List ℕ} {size : ℕ} {kinds codes : List
       ∙ R .given .other x f (λ a. not-none (a .dart) (a .node) (a .inOrbit) (a .below) (ap (pairOf E) (a .same) ∙ e))
     where
       off : (v r : ℕ) → v < c → r < size → dart v r ≡ x → ⊥
-      off v r hv hr w = not-none (P r) v (place-in r hr) (node hv) (ap (pairOf E) (sym (dart-is v r (node hv) hr) ∙ w) ∙ e)
+      off v r hv hr w = not-none (P r) v (place-in (R .walked) r hr) (node hv) (ap (pairOf E) (sym (dart-is v r (node hv) hr) ∙ w) ∙ e)
 
   -- the dart of a pair whose node is deleted
   gone : (v r : ℕ) → v < S .nodes → r < size → deleted S v ≡ true → (f : Field) → fieldAt after f (D (P r) v) ≡ 0
@@ -186,7 +164,7 @@ module _ {slots : ℕ} {table store : List ℕ} {size : ℕ} {kinds codes : List
     -- its words before the links are written
     old : added S v ≡ false → (f : Field) → fieldAt table f (D (P r) v) ≡ fieldAt (R .before) f (D (P r) v)
     old n f = R .given .other (D (P r) v) f (λ a.
-        let q = L.dart-injective ready (a .dart) (a .node) (P r) v (a .inOrbit) (place-in r hr) (a .below) hv (a .same) in
+        let q = L.dart-injective ready (a .dart) (a .node) (P r) v (a .inOrbit) (place-in (R .walked) r hr) (a .below) hv (a .same) in
         true≢false (sym (a .isAdded) ∙ ap (added S) (q .1) ∙ n))
 
     module _ (k : deleted S v ≡ false) where
@@ -209,25 +187,25 @@ module _ {slots : ℕ} {table store : List ℕ} {size : ℕ} {kinds codes : List
       state-stays =
           unlinked State (λ i. state-not-link)
           ∙ ⊎-elim
-          (λ l. old (left-not-added S v l) State ∙ L.left-alive ready (P r) v (place-in r hr) hv l)
-          (λ a. R .given .fresh (P r) v State (place-in r hr) hv a)
+          (λ l. old (left-not-added S v l) State ∙ L.left-alive ready (P r) v (place-in (R .walked) r hr) hv l)
+          (λ a. R .given .fresh (P r) v State (place-in (R .walked) r hr) hv a)
           (L.kinds ready v hv)
-          ∙ sym (L.state-pair ready (P r) v (place-in r hr) hv k)
+          ∙ sym (L.state-pair ready (P r) v (place-in (R .walked) r hr) hv k)
 
       tag-stays : fieldAt after Tag (D (P r) v) ≡ new .tag (D (P r) v)
       tag-stays =
           unlinked Tag (λ i. tag-not-link)
           ∙ ⊎-elim
           (λ l. old (left-not-added S v l) Tag
-          ∙ sym (L.tag-kept ready (P r) v (place-in r hr) hv k (left-not-added S v l)))
-          (λ a. R .given .fresh (P r) v Tag (place-in r hr) hv a ∙ sym (L.tag-new ready (P r) v (place-in r hr) hv k a))
+          ∙ sym (L.tag-kept ready (P r) v (place-in (R .walked) r hr) hv k (left-not-added S v l)))
+          (λ a. R .given .fresh (P r) v Tag (place-in (R .walked) r hr) hv a ∙ sym (L.tag-new ready (P r) v (place-in (R .walked) r hr) hv k a))
           (L.kinds ready v hv)
 
       -- where the right side names no i-arc: a preserved dart keeps the link, and of an added one it is α3 with n = 2, which is the dart itself
       link-absent : (i : ℕ) → i ≤ 3 → arcAt S right v i ≡ absent → fieldAt table (Link i) (D (P r) v) ≡ new .link i (D (P r) v)
       link-absent i l a = ⊎-elim
           (λ z. old (left-not-added S v z) (Link i)
-          ∙ sym (L.link-kept ready (P r) v (place-in r hr) hv k i (left-not-added S v z) a))
+          ∙ sym (L.link-kept ready (P r) v (place-in (R .walked) r hr) hv k i (left-not-added S v z) a))
           (λ z. ⊎-elim
           (λ w.
           let some-arc = accepted .allRight v i hv (leb-true i (S .n) w) z in
@@ -235,8 +213,8 @@ module _ {slots : ℕ} {table store : List ℕ} {size : ℕ} {kinds codes : List
           absurd (omega arith))
           (λ w.
           let third : i ≡ 3 = third-is i l (leb-false i (S .n) w) in
-          ap (λ (j : ℕ). fieldAt table (Link j) (D (P r) v)) third ∙ R .given .fresh (P r) v (Link 3) (place-in r hr) hv z
-          ∙ sym (L.link-own ready (P r) v (place-in r hr) hv k i z a))
+          ap (λ (j : ℕ). fieldAt table (Link j) (D (P r) v)) third ∙ R .given .fresh (P r) v (Link 3) (place-in (R .walked) r hr) hv z
+          ∙ sym (L.link-own ready (P r) v (place-in (R .walked) r hr) hv k i z a))
           (true-or-false (leb i (S .n))))
           (L.kinds ready v hv)
         where
@@ -253,7 +231,7 @@ module _ {slots : ℕ} {table store : List ℕ} {size : ℕ} {kinds codes : List
           let few = accepted .shaped .nodesFew in
           relinked-node slots store size cols codes c different v i r (counted hv) (omega arith) hr t
           (code-is v i hv (omega arith) ∙ ap arcCode a) table (R .sized .long) (omega arith)
-          ∙ dart-is t r b hr ∙ sym (L.link-explicit ready (P r) v (place-in r hr) hv k i t a)
+          ∙ dart-is t r b hr ∙ sym (L.link-explicit ready (P r) v (place-in (R .walked) r hr) hv k i t a)
       link-linked i l (implicit p) a =
           let b = implicit-from S right v i p a .0 in
           let few = accepted .shaped .placesFew in
@@ -263,7 +241,7 @@ module _ {slots : ℕ} {table store : List ℕ} {size : ℕ} {kinds codes : List
           relinked-position slots store size cols codes c different v i r (counted hv) (omega arith) hr (16 + p)
           (code-is v i hv (omega arith) ∙ ap arcCode a) table (R .sized .long) (omega arith) (omega arith)
           ∙ ap (λ (q : ℕ). dart v (next slots store r q)) same ∙ dart-is v (next slots store r p) hv (w .0) ∙ ap (λ (u : ℕ). D u v) (w .1)
-          ∙ sym (L.link-implicit ready (P r) v (place-in r hr) hv k i p a)
+          ∙ sym (L.link-implicit ready (P r) v (place-in (R .walked) r hr) hv k i p a)
 
       field-stays : (f : Field) → dimension f ≤ 3 → fieldAt after f (D (P r) v) ≡ fieldOf new f (D (P r) v)
       field-stays State l = state-stays
@@ -285,7 +263,7 @@ module _ {slots : ℕ} {table store : List ℕ} {size : ℕ} {kinds codes : List
       go none e = noPair e
       go (some p) e =
           let q = L.pair-at ready x p e in
-          let w = place-of (p .dart) (q .0) in
+          let w = place-of (R .walked) (p .dart) (q .0) in
           let same = ap (λ (u : ℕ). D u (p .node)) (w .2) ∙ q .2 in
           ⊎-elim
           (λ k. deletedPair (p .node) (w .0) (q .1) (w .1) k same)
@@ -295,7 +273,7 @@ module _ {slots : ℕ} {table store : List ℕ} {size : ℕ} {kinds codes : List
   field-is : (f : Field) (x : ℕ) → dimension f ≤ 3 → Role x → fieldAt after f x ≡ fieldOf new f x
   field-is f x l (noPair e) = untouched x e f ∙ field-view slots (R .before) f x ∙ sym (L.field-other ready f x e)
   field-is f x l (deletedPair v r hv hr k e) = subst (λ (y : ℕ). fieldAt after f y ≡ fieldOf new f y) e
-      (gone v r hv hr k f ∙ sym (L.field-deleted ready (P r) v (place-in r hr) hv f k))
+      (gone v r hv hr k f ∙ sym (L.field-deleted ready (P r) v (place-in (R .walked) r hr) hv f k))
   field-is f x l (rightPair v r hv hr k e) = subst (λ (y : ℕ). fieldAt after f y ≡ fieldOf new f y) e (field-stays v r hv hr k f l)
 
   edited-words : after ≡ tableOf new

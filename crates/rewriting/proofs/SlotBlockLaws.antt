@@ -24,7 +24,8 @@ use Rattle.orbit.specs.Store.{mark, place}
 use Rattle.orbit.specs.At.{At, site}
 use Rattle.rewriting.specs.Slots.{Grant, Granting, Turn, early, Placed, NoDigits, digitWords, Digits, Block}
 use Rattle.orbit.proofs.StoreLaws.{among-at, among-of}
-use Rattle.rewriting.proofs.SlotRowLaws.{good, placed}
+use Rattle.orbit.proofs.PlaceLaws.{marked-in}
+use Rattle.rewriting.proofs.SlotRowLaws.{good}
 
 -- ---- a digit for each of the first places
 
@@ -118,7 +119,7 @@ module _ (N : ℕ) (s : List ℕ) (size : ℕ) (P : Placed N s size) (r : ℕ) (
 pub early-orbit : {N : ℕ} {t s : List ℕ} {A : At N t} {size many : ℕ} → Grant A s size many → (x : ℕ) → early N s size x ≡ site A .orbit x
 early-orbit {N} {t} {s} {A} {size} G x = same-test _ _
     (λ e. let m = early-at N s size x e in sym (G .walked .is x (m .0)) ∙ among-of s size x (m .1) (m .2))
-    (λ e. let m = placed G x e in early-of N s size x (good G .slot x e) (m .0) (m .1))
+    (λ e. let m = marked-in (G .walked) x e in early-of N s size x (good G .slot x e) (m .0) (m .1))
 
 -- ---- the darts of one word of digits
 
@@ -202,7 +203,7 @@ module _ {N : ℕ} {t₀ s₀ : List ℕ} {A : At N t₀} {size many w rest from
 
     pub mark-some : (k : ℕ) → k ≡ getD s (64 * w + j) 0 → 1 ≤ k
     unfolding mark
-    mark-some k q = omega (arith, same-mark, placed G (64 * w + j) in-orbit)
+    mark-some k q = omega (arith, same-mark, marked-in (G .walked) (64 * w + j) in-orbit)
 
     pub turn-of : (k : ℕ) → k ≡ getD s (64 * w + j) 0 → Turn N t s size many (64 * w + j) (k - 1) from
     unfolding mark

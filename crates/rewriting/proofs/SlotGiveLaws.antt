@@ -1,7 +1,7 @@
 -- The laws of `slots::give`, which gives slots to all added pairs: from the phases before it to the first pair, from one orbit
 -- dart to the next, and from the last pair to the phases after it.
 -- Assumes nothing.
-use Prim.Native.Nat.{ℕ, _+_, _*_, _-_, _≤_, _<_}
+use Prim.Native.Nat.{ℕ, _+_, _*_, _≤_, _<_}
 use mathlib.Core.Path.{_≡_, sym, ap, ap₂, _∙_, subst}
 use mathlib.Core.Logic.{inl, inr, ⊎-elim}
 use mathlib.Core.Bool.{true, false, true≢false}
@@ -23,7 +23,8 @@ use Rattle.orbit.specs.Store.{mark, place, next, dartAt, Kept}
 use Rattle.orbit.specs.At.{At, site}
 use Rattle.rewriting.specs.Darts.{Darts, Given}
 use Rattle.rewriting.specs.Slots.{columnStart, Apart, ColumnsBegin, Grant, Due, Granting, early, Placed, Digits, Block, BeforeGiving, Granted}
-use Rattle.orbit.proofs.StoreLaws.{among-of, among-same}
+use Rattle.orbit.proofs.StoreLaws.{among-same}
+use Rattle.orbit.proofs.PlaceLaws.{place-in}
 use Rattle.rewriting.proofs.SlotRowLaws.{good, granting-none, cells, column-within}
 use Rattle.rewriting.proofs.SlotBlockLaws.{early-orbit}
 
@@ -150,13 +151,6 @@ module _ {N : ℕ} {t s : List ℕ} {size : ℕ} {nodes : List ℕ} {many : ℕ}
         (λ w. ⊎-elim (λ p. or-right _ p) (λ a. absurd (true≢false (sym a ∙ n))) w)
         (kind-cases S shaped v h)
 
-    -- the orbit dart at place r
-    placed-at : (r : ℕ) → r < size → (O (place N s r) ≡ true) × (mark s (place N s r) - 1 ≡ r)
-    placed-at r h =
-        let b = G .walked .back r h in
-        let i = among-of s size (place N s r) (omega arith) (omega arith) in
-        (sym (G .walked .is (place N s r) (G .walked .slot r h)) ∙ i, omega arith)
-
     darts-of : Darts E s′ cols′ size
     unfolding dartAt
     darts-of = record {
@@ -165,9 +159,8 @@ module _ {N : ℕ} {t s : List ℕ} {size : ℕ} {nodes : List ℕ} {many : ℕ}
           (λ n. let c = column-left v n in let i = R .assigned .inside v h (is-left v h n) in (omega arith, omega arith))
           (true-or-false (added S v));
       dart = λ v r h l. ⊎-elim
-          (λ a. let p = placed-at r l in
-          ap₂ (λ (b k : ℕ). getD s′ (b + k) 0) (column-added v h a) (sym (p .1))
-          ∙ g .dart (place N s r) v (all-due (place N s r) v (p .0) h a))
+          (λ a. ap₂ (λ (b k : ℕ). getD s′ (b + k) 0) (column-added v h a) (omega (arith, G .walked .back r l))
+          ∙ g .dart (place N s r) v (all-due (place N s r) v (place-in (G .walked) r l) h a))
           (λ n. let c = is-left v h n in let i = R .assigned .inside v h c in
           ap (λ (b : ℕ). getD s′ (b + r) 0) (column-left v n)
           ∙ g .kept (getD cols v 0 + r) (inl (omega arith))

@@ -28,9 +28,9 @@ use Rattle.model.proofs.MatchIff.{good-orbit}
 use Rattle.model.proofs.RankLaws.{rank-low, rank-once, dart-added}
 use Rattle.model.proofs.MapLaws.{state-not-tag, state-not-link, tag-not-link, length-put, put-same, put-other}
 use Rattle.table.specs.Words.{Sized}
-use Rattle.orbit.specs.Store.{mark, place, dartAt, among}
+use Rattle.orbit.specs.Store.{mark, place, dartAt}
 use Rattle.orbit.specs.At.{At, site}
-use Rattle.orbit.proofs.StoreLaws.{among-at}
+use Rattle.orbit.proofs.PlaceLaws.{marked-in, mark-once}
 use Rattle.rewriting.specs.Darts.{newField}
 use Rattle.rewriting.specs.Slots.{Room, Lowest, revived, columnStart, Grant, Due, Granting, Turn}
 
@@ -96,19 +96,8 @@ module _ {N : ℕ} {t₀ s₀ : List ℕ} {A : At N t₀} {size many : ℕ} (G :
 
   open Site E using (map as m, scheme as S, orbit as O)
 
-  -- the orbit's darts, and their marks
   pub good : GoodOrbit E
   good = good-orbit m S (A .dart) (A .sound)
-
-  in-store : (u : ℕ) → O u ≡ true → among s₀ size u ≡ true
-  in-store u e = G .walked .is u (good .slot u e) ∙ e
-
-  pub placed : (u : ℕ) → O u ≡ true → (1 ≤ mark s₀ u) × (mark s₀ u ≤ size)
-  placed u e = among-at s₀ size u (in-store u e)
-
-  one-place : (u v : ℕ) → O u ≡ true → O v ≡ true → mark s₀ u ≡ mark s₀ v → u ≡ v
-  one-place u v e f q = sym (G .walked .found u (good .slot u e) (in-store u e))
-      ∙ ap (λ (k : ℕ). place N s₀ (k - 1)) q ∙ G .walked .found v (good .slot v f) (in-store v f)
 
   pub granting-none : Granting A s₀ size 0 0 t₀ s₀
   unfolding countBelow
@@ -144,14 +133,14 @@ module _ {N : ℕ} {t₀ s₀ : List ℕ} {A : At N t₀} {size many : ℕ} (G :
       (l, omega (arith, cells))
 
   cell-fits : (u v : ℕ) → O u ≡ true → v < S .nodes → added S v ≡ true → (2 * N ≤ cell u v) × (cell u v < 3 * N)
-  cell-fits u v e h a = let p = placed u e in (omega arith, omega (arith, column-within v h a))
+  cell-fits u v e h a = let p = marked-in (G .walked) u e in (omega arith, omega (arith, column-within v h a))
 
   cell-once : (u v x w : ℕ) → O u ≡ true → O x ≡ true → added S v ≡ true → added S w ≡ true → cell u v ≡ cell x w → (u ≡ x) × (v ≡ w)
   cell-once u v x w e f a b q =
-      let p = placed u e in
-      let r = placed x f in
+      let p = marked-in (G .walked) u e in
+      let r = marked-in (G .walked) x f in
       let d = digits size (countBelow v (added S)) (mark s₀ u - 1) (countBelow w (added S)) (mark s₀ x - 1) (omega arith) (omega arith) (omega arith) in
-      (one-place u x e f (omega (arith, d .1)), count-injective (added S) v w a b (d .0))
+      (mark-once (G .walked) u x e f (omega (arith, d .1)), count-injective (added S) v w a b (d .0))
 
   module _ {done free : ℕ} {t s : List ℕ} (g : Granting A s₀ size done free t s) where
     -- a slot from `free` on is as it was
@@ -289,7 +278,7 @@ module _ {N : ℕ} {t s : List ℕ} {size many u r free : ℕ} (T : Turn N t s s
 
     pub turn-cell : a * size + r < N
     turn-cell =
-        let p = placed (T .grant) u (T .inOrbit) in
+        let p = marked-in (T .grant .walked) u (T .inOrbit) in
         let c = mul-le-mul-right size l in
         omega (arith, cells (T .grant), T .place)
 
