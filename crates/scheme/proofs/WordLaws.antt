@@ -26,8 +26,8 @@ use Rattle.model.specs.Codes.{placeCode, placed}
 use Rattle.model.specs.Scheme.{Side, left, right, wordForm, wordEmpty}
 use Rattle.frame.specs.Frame.{LaidOut}
 use Rattle.frame.specs.declared.Layout.{Layout}
-use Rattle.frame.proofs.FrameLaws.{node-inside}
-use Rattle.scheme.specs.Words.{sideOf, wordPlace, row, freshAt, emptyAt, fitsAt}
+use Rattle.frame.proofs.FrameLaws.{dimension-small, places-small, node-inside}
+use Rattle.scheme.specs.Words.{sideOf, wordPlace, row, freshAt, emptyAt, fitsAt, Placed}
 use Rattle.scheme.specs.Targets.{rowed}
 use Rattle.scheme.proofs.MarkLaws.{stands, length-rowed, rowed-else, rowed-at}
 
@@ -125,18 +125,6 @@ on-side {other} {kind} w h k = ⊎-elim (both 1 refl refl) (λ v. ⊎-elim (both
     both x p q e = rw e (⊎-elim (λ f. rw f p) (λ f. rw f q) w)
 
 -- ---- a word that was read fills the row of its node
-
--- what is known where the word of node s on a side is read
-pub record Placed (b : List ℕ) (s other kind n places at : ℕ) : Type 0 where
-  pub sideIs : (other ≡ 3) ⊎ (other ≡ 1)
-  pub kindIs : kind ≡ kindAt b s
-  pub kindSome : 1 ≤ kind
-  pub kindFew : kind ≤ 3
-  pub nIs : n ≡ dimensionOf b
-  pub placesIs : places ≡ placesOf b
-  pub atIs : at ≡ wordPlace b (sideOf other) s
-  pub few : placesOf b ≤ 4
-  pub small : s < 16
 
 module _ (b : List ℕ) (s other kind n places at : ℕ) (w : Placed b s other kind n places at) where
   abbrev side : Side
@@ -241,7 +229,27 @@ module _ (b : List ℕ) (s other kind n places at : ℕ) (w : Placed b s other k
       far : {d i : ℕ} → i < 4 → d ≡ 255 → d ≡ i → ⊥
       far h e f = omega arith
 
--- a word of a node lies within the bytes
-pub word-inside : (b : List ℕ) (l : Layout) → LaidOut b l → (side : Side) (s : ℕ) → s < nodesOf b → wordPlace b side s + placesOf b ≤ length b
-word-inside b l laid left s h = omega (arith, node-inside b l laid s h)
-word-inside b l laid right s h = omega (arith, node-inside b l laid s h)
+-- the word of a node lies within the bytes
+pub word-placed : (b : List ℕ) (l : Layout) → LaidOut b l → {s kind places at : ℕ} (other : ℕ) → s < nodesOf b → (other ≡ 3) ⊎ (other ≡ 1)
+    → kind ≡ kindAt b s → 1 ≤ kind → kind ≤ 3 → places ≡ l .places → at ≡ wordPlace b (sideOf other) s → Placed b s other kind (l .n) places at
+word-placed b l laid {s} {kind} {places} {at} other h o k some few p a =
+    let d = laid .headed in
+    let n3 = dimension-small b l laid in
+    let k4 = places-small b l laid in
+    record {
+      sideIs = o;
+      kindIs = k;
+      kindSome = some;
+      kindFew = few;
+      nIs = d .nIs;
+      dim = omega arith;
+      placesIs = p ∙ d .placesIs;
+      few = k4;
+      small = omega arith;
+      atIs = a;
+      inside = within (sideOf other) a;
+    }
+  where
+    within : (side : Side) → at ≡ wordPlace b side s → at + places ≤ length b
+    within left e = omega (arith, node-inside b l laid s h, laid .headed .placesIs)
+    within right e = omega (arith, node-inside b l laid s h, laid .headed .placesIs)

@@ -1,12 +1,15 @@
 -- The words of the nodes by their place in the bytes and by their place in the value.
 -- Assumes nothing.
-use Prim.Native.Nat.{ℕ, _+_, _/_, _%_}
+use Prim.Native.Nat.{ℕ, _+_, _/_, _%_, _≤_, _<_}
+use mathlib.Core.Path.{_≡_}
+use mathlib.Core.Logic.{_⊎_}
 use mathlib.Core.Bool.{Bool, false, cond}
 use mathlib.Core.List.{List}
+use lib.ListN.{length}
 use lib.Dec.{eqb, leb}
 use Rattle.base.specs.Test.{_and_, _or_, _⇒_}
 use Rattle.base.specs.Below.{allBelow}
-use Rattle.model.specs.Bytes.{byte, placesOf, nodeAt, wordAt, upTo}
+use Rattle.model.specs.Bytes.{byte, dimensionOf, placesOf, nodeAt, kindAt, wordAt, upTo}
 use Rattle.model.specs.Scheme.{Side, left, right}
 
 -- the side that has not the nodes of this kind
@@ -32,3 +35,17 @@ module _ (b : List ℕ) where
 
   unfoldable pub fitsAt : ℕ → ℕ → ℕ → Bool
   fitsAt n at p = eqb (byte b (at + p)) 255 or leb (byte b (at + p)) n and allBelow p (freshAt at (byte b (at + p)))
+
+-- what is known where the word of node s on a side is read
+pub record Placed (b : List ℕ) (s other kind n places at : ℕ) : Type 0 where
+  pub sideIs : (other ≡ 3) ⊎ (other ≡ 1)
+  pub kindIs : kind ≡ kindAt b s
+  pub kindSome : 1 ≤ kind
+  pub kindFew : kind ≤ 3
+  pub nIs : n ≡ dimensionOf b
+  pub dim : n ≤ 3
+  pub placesIs : places ≡ placesOf b
+  pub few : placesOf b ≤ 4
+  pub small : s < 16
+  pub atIs : at ≡ wordPlace b (sideOf other) s
+  pub inside : at + places ≤ length b

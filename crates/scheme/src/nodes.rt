@@ -4,19 +4,18 @@ use frame::cursor::Cursor;
 use frame::cursor::Verdict;
 use frame::cursor::wide;
 ghost use mathlib.Core.Path.{_≡_};
-ghost use mathlib.Core.Logic.{_⊎_};
 ghost use mathlib.Core.Bool.{true};
 ghost use Prim.Native.Nat.{ℕ, _+_, _*_, _≤_, _<_};
 ghost use lib.ListN.{length, getD, replicate};
 ghost use Rattle.base.specs.Test.{_and_};
 ghost use Rattle.base.specs.Below.{allBelow};
 ghost use Rattle.base.specs.Filled.{filled, stored};
-ghost use Rattle.model.specs.Bytes.{placesOf, nodesOf, kindAt};
+ghost use Rattle.model.specs.Bytes.{placesOf, nodesOf};
 ghost use Rattle.model.specs.Codes.{placed};
 ghost use Rattle.model.specs.Scheme.{orbitForm, wordForm, wordEmpty, nodeForm, schemeOf};
 ghost use Rattle.frame.specs.Frame.{LaidOut};
 ghost use Rattle.scheme.specs.Nodes.{Passed, Noded};
-ghost use Rattle.scheme.specs.Words.{sideOf, wordPlace, row, emptyAt, fitsAt};
+ghost use Rattle.scheme.specs.Words.{sideOf, row, emptyAt, fitsAt, Placed};
 ghost use Rattle.scheme.specs.Targets.{markable, marked, rowed};
 
 // The orbit type, from its count on. It ascends strictly, so that it is enough to compare each dimension with the one before it.
@@ -143,7 +142,8 @@ fn read_word(
 // The word of node s at the cursor, on the side that has not the kind `other`.
 fn read_side(
     bytes: &[u8],
-    l: Layout,
+    n: u8,
+    places: usize,
     s: usize,
     kind: u8,
     other: u8,
@@ -151,9 +151,7 @@ fn read_side(
     words: &mut [u8; 64],
     targets: &mut [u8; 64],
 ) -> Verdict
-    requires { ⌜ LaidOut (now bytes) l ⌝ }
-    requires { ⌜ (s < nodesOf (now bytes)) × (kind ≡ kindAt (now bytes) s) × (1 ≤ kind) × (kind ≤ 3) ⌝ }
-    requires { ⌜ ((other ≡ 3) ⊎ (other ≡ 1)) × (from .at ≡ wordPlace (now bytes) (sideOf other) s) ⌝ }
+    requires { ⌜ Placed (now bytes) s other kind n places (from .at) ⌝ }
     requires { ⌜ now words ≡ filled 64 (4 * s) (row (now bytes) (sideOf other)) 255 ⌝ }
     requires { ⌜ now targets ≡ filled 64 (4 * s) (placed (now bytes) (sideOf other)) 255 ⌝ }
     ensures { λ r. ⌜ r .ok ≡ (wordForm (now (bytes .entry)) (sideOf other) s and wordEmpty (now (bytes .entry)) (sideOf other) s) ⌝ }
@@ -161,11 +159,10 @@ fn read_side(
     ensures { λ r. ⌜ (r .ok ≡ true → now (words .exit) ≡ filled 64 (4 * (s + 1)) (row (now (bytes .entry)) (sideOf other)) 255) ⌝ }
     ensures { λ r. ⌜ (r .ok ≡ true → now (targets .exit) ≡ filled 64 (4 * (s + 1)) (placed (now (bytes .entry)) (sideOf other)) 255) ⌝ }
 {
-    let places = wide(l.places);
     if kind == other {
         return empty(bytes, from, places);
     }
-    read_word(bytes, l.n, places, from, words, targets, 4 * s)
+    read_word(bytes, n, places, from, words, targets, 4 * s)
 }
 
 // Node s, whose kind is at the cursor, with both words.
@@ -202,12 +199,13 @@ fn read_node(
         };
     }
     kinds[s] = kind;
-    let word = read_side(bytes, l, s, kind, 3, next, lwords, ltargets);
+    let places = wide(l.places);
+    let word = read_side(bytes, l.n, places, s, kind, 3, next, lwords, ltargets);
     if !word.ok {
         return word;
     }
     let second = word.next;
-    read_side(bytes, l, s, kind, 1, second, rwords, rtargets)
+    read_side(bytes, l.n, places, s, kind, 1, second, rwords, rtargets)
 }
 
 // The nodes, from their count on.

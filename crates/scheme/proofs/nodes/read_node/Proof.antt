@@ -10,6 +10,7 @@ use denote.Ref.{now}
 use borrow.Author.Needs.{needs}
 use Rattle.model.specs.Bytes.{byte, nodeAt, kindAt}
 use Rattle.frame.proofs.FrameLaws.{node-inside}
+use Rattle.scheme.proofs.WordLaws.{word-placed}
 use Rattle.scheme.proofs.NodeLaws.{node-low, node-high, node-left, node-right, passed-more}
 use Rattle.scheme.proofs.nodes.read_node.Statement.{statement}
 use Rattle.scheme.proofs.nodes.read_node.Tie as tie
@@ -39,13 +40,16 @@ returns-2 c = (node-high _ _ (rw (took (c .before .before .before) .0) at (c .if
 element-write-kinds : tie.Need-element-write-kinds
 element-write-kinds c = search needs
 
+wide-requires : tie.Need-wide-requires
+wide-requires c κs = search needs
+
 read-side-requires : tie.Need-read-side-requires
 read-side-requires c κs =
-    let t = c .before .before .before .before .before in
+    let w = c .before .before in
+    let t = w .before .before .before .before in
     let p = t .before .before .pre in
-    let i = p .1 .1 in
     let k = took t in
-    (p .0, ((p .1 .0, k .0, omega arith, omega arith), ((inl refl, k .1), (i .lwordsIs, i .ltargetsIs))))
+    (word-placed _ _ (p .0) _ (p .1 .0) (inl refl) (k .0) (omega arith) (omega arith) (w .wide .ensures .0) (k .1), (p .1 .1 .lwordsIs, p .1 .1 .ltargetsIs))
 
 returns-3 : tie.Need-returns-3
 returns-3 c =
@@ -56,22 +60,20 @@ read-side-requires-2 : tie.Need-read-side-requires-2
 read-side-requires-2 c κs =
     let o = c .before .before .before in
     let r = o .before .before in
-    let t = r .before .before .before .before .before .before in
+    let w = r .before .before .before in
+    let t = w .before .before .before .before in
     let p = t .before .before .pre in
-    let i = p .1 .1 in
-    let k = took t in (
-      p .0,
-      (
-        (p .1 .0, k .0, omega arith, omega arith),
-        ((inr refl, omega (arith, k .1, r .read-side .ensures .1 .0 (not-false _ (o .if3 .left)))), (i .rwordsIs, i .rtargetsIs)),
-      ),
+    let k = took t in
+    let next = r .read-side .ensures .1 .0 (not-false _ (o .if3 .left)) in (
+      word-placed _ _ (p .0) _ (p .1 .0) (inr refl) (k .0) (omega arith) (omega arith) (w .wide .ensures .0) (omega (arith, k .1, next)),
+      (p .1 .1 .rwordsIs, p .1 .1 .rtargetsIs),
     )
 
 returns-4 : tie.Need-returns-4
 returns-4 c =
     let o = c .before .before .before .before in
     let r = o .before .before in
-    let i = r .before .before .before in
+    let i = r .before .before .before .before in
     let t = i .before .before .before in
     let p = t .before .before .pre in
     let k = took t in
@@ -93,6 +95,7 @@ read-node-spec =
     returns
     returns-2
     element-write-kinds
+    wide-requires
     read-side-requires
     returns-3
     read-side-requires-2
