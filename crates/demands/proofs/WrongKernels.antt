@@ -16,6 +16,7 @@ use Rattle.model.specs.Calls.{editFault, editAnswer, editTable, editStore}
 use Rattle.model.specs.Sequence.{AlikeTables, Request, tableCheck, schemeCheck, edit, read, write, Outcome, fileOf, AlikeEvents}
 use Rattle.model.specs.declared.Answer.{Answer}
 use Rattle.model.specs.declared.Answer.the-variants.{Edited, BadCall}
+use Rattle.model.specs.Map.{Link, fieldAt}
 use Rattle.model.proofs.Computes.{computes}
 use Rattle.model.proofs.Samples.{e8, unusedSlots, vBytes, wBytes, store8, vDarts}
 use Rattle.demands.specs.Kernel.{Kernel}
@@ -109,7 +110,7 @@ module _ (K : Kernel) (D : Demand2 K) where
 
 -- ---- none of the kernels meets demand 2
 
--- a word of a list
+-- a value of an answer
 at : ℕ → List ℕ → ℕ
 at k l = getD l k 0
 
@@ -121,13 +122,13 @@ unfolding at
 not-fixed D = let size : _≡_ {A = ℕ} 2 1 = ap (at 0) (p10-values fixed D (Edited 2 2 0) _ _ (refl, refl, refl)) in omega arith
 
 pub not-idle : Demand2 idle → ⊥
-unfolding at
-not-idle D = let link : _≡_ {A = ℕ} 1 2 = ap (at 1) (p8-done idle D _ e8 _ (refl, refl, refl) .2) in omega arith
+unfolding fieldAt
+not-idle D = let link : _≡_ {A = ℕ} 1 2 = ap (λ (t : List ℕ). fieldAt t (Link 0) 0) (p8-done idle D _ e8 _ (refl, refl, refl) .2) in omega arith
 
 -- dart 1, the second of the orbit, is as it was
 first-table : cond (there (editFault 2 8 e8 store8 vBytes 0)) e8 (tableOf (edited (siteOver 8 e8 vBytes 0 (eqb 0)))) ≡ vDarts ++ unusedSlots 4 → ⊥
-unfolding computes at
-first-table e = let link : _≡_ {A = ℕ} 0 3 = ap (at 7) e in omega arith
+unfolding computes
+first-table e = let link : _≡_ {A = ℕ} 0 3 = ap (λ (t : List ℕ). fieldAt t (Link 0) 1) e in omega arith
 
 pub not-first-only : Demand2 first-only → ⊥
 not-first-only D = first-table (p8-done first-only D _ _ _ (refl, refl, refl) .2)
