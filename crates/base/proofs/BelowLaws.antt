@@ -193,7 +193,8 @@ pub count-lt : (p : ℕ → Bool) (k n : ℕ) → k < n → p k ≡ true → cou
 unfolding countBelow
 count-lt p k zero h e = absurd (not-suc-le-zero h)
 count-lt p k (suc n) h e = ⊎-elim
-    (λ w. subst (λ (z : ℕ). countBelow z p < countBelow n p + bit (p n)) (sym w) (subst (λ (b : Bool). countBelow n p < countBelow n p + bit b) (sym (ap p (sym w) ∙ e)) (omega arith)))
+    (λ w. subst (λ (z : ℕ). countBelow z p < countBelow n p + bit (p n)) (sym w)
+    (subst (λ (b : Bool). countBelow n p < countBelow n p + bit b) (sym (ap p (sym w) ∙ e)) (omega arith)))
     (λ w. let r = count-lt p k n w e in omega arith)
     (below-suc h)
 

@@ -5,7 +5,21 @@ use mathlib.Core.Path.{_≡_, refl, sym, ap, ap₂, _∙_, subst}
 use mathlib.Core.Logic.{⊎-elim}
 use mathlib.Core.Bool.{Bool, true, false, cond, true≢false}
 use mathlib.Core.List.{List, [], _∷_, _++_, append-nil}
-use native.Mathlib.Nat.{not-suc-le-zero, le-of-suc-le-suc, add-zero, zero-add, suc-add, add-suc, mul-zero, mul-one, mul-suc, mul-add, mul-le-mul-left, lt-of-lt-of-le, eq-or-lt-of-le}
+use native.Mathlib.Nat.{
+  not-suc-le-zero,
+  le-of-suc-le-suc,
+  add-zero,
+  zero-add,
+  suc-add,
+  add-suc,
+  mul-zero,
+  mul-one,
+  mul-suc,
+  mul-add,
+  mul-le-mul-left,
+  lt-of-lt-of-le,
+  eq-or-lt-of-le,
+}
 use native.Mathlib.Numerals.{add-one}
 use native.Mathlib.Omega.{arith}
 use lib.ListN.{length, getD, take, drop, set, replicate, length-append, List·getD-append, replicate-append-replicate}
@@ -106,7 +120,8 @@ module _ {A : Type 0} (w : ℕ) (p : ℕ → Bool) (f : ℕ → List A) (each : 
   unfolding joined countBelow
   length-chosen zero = sym (mul-zero w)
   length-chosen (suc n) =
-      length-append (joined n (λ x. cond (p x) (f x) [])) (cond (p n) (f n) []) ∙ ap₂ _+_ (length-chosen n) (length-picked n (p n)) ∙ sym (mul-add w (countBelow n p) (bit (p n)))
+      length-append (joined n (λ x. cond (p x) (f x) [])) (cond (p n) (f n) []) ∙ ap₂ _+_ (length-chosen n) (length-picked n (p n))
+      ∙ sym (mul-add w (countBelow n p) (bit (p n)))
 
   chosen-last : (n j : ℕ) (d : A) → p n ≡ true → getD (joined n (λ y. cond (p y) (f y) []) ++ cond (p n) (f n) []) (w * countBelow n p + j) d ≡ getD (f n) j d
   chosen-last n j d e =
@@ -163,8 +178,12 @@ module _ (p : ℕ → Bool) (s : ℕ → ℕ) (n k : ℕ) (a : Ascends (suc n) p
           up = λ j l h g. a .up j l h (omega arith);
           each = λ x h q.
               let t = a .each x (omega arith) q in
-              let at : s (t .0) ≡ x = t .2 in
-              (t .0, ⊎-elim (λ (g : t .0 ≡ i). let same : s (t .0) ≡ s i = ap s g in absurd (omega arith)) (λ (g : t .0 < i). g) (below-suc (subst (λ (z : ℕ). t .0 < z) size (t .1))), at);
+              let at : s (t .0) ≡ x = t .2 in (
+                t .0,
+                ⊎-elim (λ (g : t .0 ≡ i). let same : s (t .0) ≡ s i = ap s g in absurd (omega arith)) (λ (g : t .0 < i). g)
+                    (below-suc (subst (λ (z : ℕ). t .0 < z) size (t .1))),
+                at,
+              );
         },
       )
 

@@ -35,7 +35,8 @@ module _ (l : List ℕ) (at d : ℕ) (a : Answer) (k o e f : ℕ) where
       → Put l at (dartLine d a) l₆ p₆
   unfolding dartLine
   dart-put x y z w l₁ p₁ l₂ p₂ l₃ p₃ l₄ p₄ l₅ p₅ l₆ p₆ r s t u v q =
-      rw parts (put-then _ _ _ _ _ _ _ _ (put-then _ _ _ _ _ _ _ _ (put-then _ _ _ _ _ _ _ _ (put-then _ _ _ _ _ _ _ _ (put-then _ _ _ _ _ _ _ _ r s) t) u) v) q)
+      rw parts (put-then _ _ _ _ _ _ _ _ (put-then _ _ _ _ _ _ _ _
+      (put-then _ _ _ _ _ _ _ _ (put-then _ _ _ _ _ _ _ _ (put-then _ _ _ _ _ _ _ _ r s) t) u) v) q)
     where
       parts : dartLine d a ≡ decimal d ++ (space ++ decimal k) ++ (space ++ decimal o) ++ (space ++ decimal e) ++ (space ++ decimal f) ++ lineFeed
       parts = rw (x, y, z, w) (by-fields (decimal d) _ _ _ _ space lineFeed)

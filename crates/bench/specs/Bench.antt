@@ -30,7 +30,8 @@ shown a f = cond (eqb (number a) 0) (getD (values a) f 0) 0
 
 -- dart, answer number, size of O, added, deleted
 unfoldable pub dartLine : ℕ → Answer → List ℕ
-dartLine d a = decimal d ++ space ++ decimal (number a) ++ space ++ decimal (shown a 0) ++ space ++ decimal (shown a 1) ++ space ++ decimal (shown a 2) ++ lineFeed
+dartLine d a = decimal d ++ space ++ decimal (number a) ++ space ++ decimal (shown a 0) ++ space ++ decimal (shown a 1) ++ space
+    ++ decimal (shown a 2) ++ lineFeed
 
 unfoldable pub lastLine : ℕ → ℕ → List ℕ
 lastLine lives rest = liveWord ++ space ++ decimal lives ++ space ++ unusedWord ++ space ++ decimal rest ++ lineFeed

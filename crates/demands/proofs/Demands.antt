@@ -14,7 +14,22 @@ use Rattle.model.specs.Conditions.{schemeFault}
 use Rattle.model.specs.Accepted.{Accepted}
 use Rattle.model.specs.Answer.{number, values, Answers}
 use Rattle.model.specs.Calls.{bytesFault, checkScheme}
-use Rattle.model.specs.Sequence.{AlikeTables, Request, tableCheck, schemeCheck, edit, read, write, Call, SameCall, Outcome, outcomeOf, outcome, Event, AlikeEvents}
+use Rattle.model.specs.Sequence.{
+  AlikeTables,
+  Request,
+  tableCheck,
+  schemeCheck,
+  edit,
+  read,
+  write,
+  Call,
+  SameCall,
+  Outcome,
+  outcomeOf,
+  outcome,
+  Event,
+  AlikeEvents,
+}
 use Rattle.model.specs.declared.Answer.{Answer}
 use Rattle.model.specs.declared.Answer.the-variants.{Done}
 use Rattle.model.proofs.AnswerLaws.{answers-same}

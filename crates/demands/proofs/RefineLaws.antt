@@ -30,8 +30,10 @@ module _ (K L : Kernel) (R : Refines K L) where
     edits = λ n N t store b d r t′ store′ p. D .edits n N t store b d r t′ store′ (R .edit n N t store b d r t′ store′ p);
     onlyThen = λ n N t store b d r t′ store′ p. D .onlyThen n N t store b d r t′ store′ (R .edit n N t store b d r t′ store′ p);
     written = λ n N t out r out′ p. D .written n N t out r out′ (R .write n N t out r out′ p);
-    writtenRead = λ n N t out r out′ p e small u r₂ u′ len q. D .writtenRead n N t out r out′ (R .write n N t out r out′ p) e small u r₂ u′ len (R .read n N u _ r₂ u′ q);
-    readWritten = λ n N t b r t′ p e bytes out r₂ out′ len q. D .readWritten n N t b r t′ (R .read n N t b r t′ p) e bytes out r₂ out′ len (R .write n N t′ out r₂ out′ q);
+    writtenRead = λ n N t out r out′ p e small u r₂ u′ len q. D .writtenRead n N t out r out′ (R .write n N t out r out′ p) e small u r₂ u′ len
+        (R .read n N u _ r₂ u′ q);
+    readWritten = λ n N t b r t′ p e bytes out r₂ out′ len q. D .readWritten n N t b r t′ (R .read n N t b r t′ p) e bytes out r₂ out′ len
+        (R .write n N t′ out r₂ out′ q);
   }
 
   refined-call : (n N : ℕ) (t : List ℕ) (q : Request) (l : List ℕ) (o : Outcome) → Allowed K n N t q l o → Allowed L n N t q l o

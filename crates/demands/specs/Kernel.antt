@@ -22,6 +22,7 @@ pub record Kernel : Type 1 where
 pub record Refines (K L : Kernel) : Type 0 where
   pub tableCheck : (n N : ℕ) (t : List ℕ) (r : Answer) → K .TableCheck n N t r → L .TableCheck n N t r
   pub schemeCheck : (b : List ℕ) (r : Answer) → K .SchemeCheck b r → L .SchemeCheck b r
-  pub edit : (n N : ℕ) (t store b : List ℕ) (d : ℕ) (r : Answer) (t′ store′ : List ℕ) → K .Edit n N t store b d r t′ store′ → L .Edit n N t store b d r t′ store′
+  pub edit : (n N : ℕ) (t store b : List ℕ) (d : ℕ) (r : Answer) (t′ store′ : List ℕ) → K .Edit n N t store b d r t′ store′
+      → L .Edit n N t store b d r t′ store′
   pub read : (n N : ℕ) (t b : List ℕ) (r : Answer) (t′ : List ℕ) → K .Read n N t b r t′ → L .Read n N t b r t′
   pub write : (n N : ℕ) (t out : List ℕ) (r : Answer) (out′ : List ℕ) → K .Write n N t out r out′ → L .Write n N t out r out′

@@ -72,7 +72,8 @@ module _ (s : ℕ) (kinds : List ℕ) (kind : ℕ) (node : List ℕ) (size : ℕ
       let room : size < length node = omega (arith, l .long) in
       record {
         long = simp length-set (l .long);
-        total = ap (λ (z : ℕ). z + 1) (l .total) ∙ sym (count-step s (isKind kinds kind) ∙ ap (λ (b : Bool). countBelow s (isKind kinds kind) + bit b) (eq-eqb _ _ e));
+        total = ap (λ (z : ℕ). z + 1) (l .total) ∙ sym
+            (count-step s (isKind kinds kind) ∙ ap (λ (b : Bool). countBelow s (isKind kinds kind) + bit b) (eq-eqb _ _ e));
         each = λ j q. ⊎-elim
             (λ w. ap (nthLowest (s + 1) (isKind kinds kind)) (w ∙ l .total) ∙ nth-new s (isKind kinds kind) (eq-eqb _ _ e)
             ∙ ap {B = Option ℕ} some (sym (ap (λ (z : ℕ). getD (set node size s) z 0) w ∙ getD-set-same node size s 0 room)))

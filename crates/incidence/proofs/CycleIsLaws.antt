@@ -135,7 +135,8 @@ module _ (S : Scheme) (f : Shaped S) (side : Side) (codes : List ℕ) (cd : Code
         go (implicit p) e =
             let c = place-code t j p h hj e in
             let k = c .1 in
-            rw (c .0, le-ltb (16 + p) 16 (omega arith), ne-eqb (16 + p) 255 (λ q. absurd (omega arith))) (same-place p (arcAt S side s j) (cd .at s j hs hj) (f .nodesFew) k (small-arc S f side s j) .0)
+            rw (c .0, le-ltb (16 + p) 16 (omega arith), ne-eqb (16 + p) 255 (λ q. absurd (omega arith)))
+            (same-place p (arcAt S side s j) (cd .at s j hs hj) (f .nodesFew) k (small-arc S f side s j) .0)
 
     place-is : (p : ℕ) → p < 4
         → fromPlace (S .orbit) codes i (16 + p) (entry codes s j)
@@ -150,7 +151,8 @@ module _ (S : Scheme) (f : Shaped S) (side : Side) (codes : List ℕ) (cd : Code
         go absent e = rw (none-code s j hs hj e)
         go (explicit t) e =
             let c = node-code s j t hs hj e in
-            rw (c .0, lt-ltb t 16 (node-small S f t (c .1))) (same-place p (arcAt S side t i) (cd .at t i (c .1) hi) (f .nodesFew) l (small-arc S f side t i) .1 ∙ sym (or-false _))
+            rw (c .0, lt-ltb t 16 (node-small S f t (c .1)))
+            (same-place p (arcAt S side t i) (cd .at t i (c .1) hi) (f .nodesFew) l (small-arc S f side t i) .1 ∙ sym (or-false _))
         go (implicit q) e =
             let c = place-code s j q hs hj e in
             let k = c .1 in

@@ -11,7 +11,24 @@ use Rattle.base.specs.Test.{_and_, _or_, _⇒_}
 use Rattle.base.specs.Below.{allBelow, countBelow}
 use Rattle.model.specs.Map.{Map, live, unused}
 use Rattle.model.specs.WellFormed.{WellFormed, wellFormed, linkOk, allPairs}
-use Rattle.base.proofs.TestLaws.{and-left, and-right, and-of, and-assoc, and-no-left, and-no-right, or-cases, or-left, or-right, if-so, if-of, true-or-false, same-test, eqb-same, refuted, impossible}
+use Rattle.base.proofs.TestLaws.{
+  and-left,
+  and-right,
+  and-of,
+  and-assoc,
+  and-no-left,
+  and-no-right,
+  or-cases,
+  or-left,
+  or-right,
+  if-so,
+  if-of,
+  true-or-false,
+  same-test,
+  eqb-same,
+  refuted,
+  impossible,
+}
 use Rattle.base.proofs.BelowLaws.{all-at, all-of, all-step, count-le, count-step}
 use Rattle.model.proofs.WellFormedLaws.{wellFormed-iff}
 use Rattle.table.specs.Slots.{cornerOk, frontOk, insideOk, nearOk, farOk, cornersOk, slotOk, surveyed}
@@ -94,7 +111,14 @@ module _ (m : Map) (x : ℕ) where
       → (frontOk m y v and eqb (m .link i y) x) ≡ farOk m x i
   unfolding farOk frontOk cornerOk
   far-is i y z v e f g h =
-      rw (g, f, e, ← link-is i h, eqb-same (m .link i (m .link 0 x)) (m .link 0 (m .link i x)) (m .link 0 (m .link i x)) (m .link i (m .link 0 x)) sym sym) (and-swap _ _ _)
+      rw (
+        g,
+        f,
+        e,
+        ← link-is i h,
+        eqb-same (m .link i (m .link 0 x)) (m .link 0 (m .link i x)) (m .link 0 (m .link i x)) (m .link i (m .link 0 x))
+            sym sym,
+      ) (and-swap _ _ _)
 
   -- two links commute where the words that both ways end at are the same
   pub corner-is : (i j y z u v : ℕ) → y ≡ m .link i x → z ≡ m .link j x → u ≡ m .link j y → v ≡ m .link i z → eqb u v ≡ cornerOk m x i j

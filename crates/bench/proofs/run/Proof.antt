@@ -126,28 +126,7 @@ returns-4 c =
 
 pub run-spec : {M : Type 1} → statement M
 run-spec =
-    tie.close
-    (tie.spec
-    frame-requires
-    enum-known-layout
-    enum-told
-    refused-line-requires
-    same-length
-    returns
-    refused-line-requires-2
-    same-length-2
-    returns-2
-    two-requires
-    refused-line-requires-3
-    same-length-3
-    returns-3
-    size-requires
-    cast-places
-    mul-places
-    array-borrow-prefix-table
-    slice-aggregate-session
-    array-borrow-prefix-store
-    slice-aggregate-session-2
-    session-requires
-    same-length-4
+    tie.close (tie.spec frame-requires enum-known-layout enum-told refused-line-requires same-length returns refused-line-requires-2
+    same-length-2 returns-2 two-requires refused-line-requires-3 same-length-3 returns-3 size-requires cast-places mul-places
+    array-borrow-prefix-table slice-aggregate-session array-borrow-prefix-store slice-aggregate-session-2 session-requires same-length-4
     returns-4)

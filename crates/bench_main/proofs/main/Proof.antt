@@ -50,17 +50,5 @@ returns c = search needs
 
 pub main-spec : {M : Type 1} → statement M
 main-spec =
-    tie.close
-    (tie.spec
-    large-buffer-requires
-    large-buffer-requires-2
-    slice-aggregate-read-full
-    read-full-requires
-    array-share-prefix-input
-    slice-aggregate-run
-    slice-aggregate-run-2
-    run-requires
-    array-share-prefix-out
-    slice-aggregate-write-all
-    write-all-requires
-    returns)
+    tie.close (tie.spec large-buffer-requires large-buffer-requires-2 slice-aggregate-read-full read-full-requires array-share-prefix-input
+    slice-aggregate-run slice-aggregate-run-2 run-requires array-share-prefix-out slice-aggregate-write-all write-all-requires returns)

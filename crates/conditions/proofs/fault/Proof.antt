@@ -25,5 +25,4 @@ returns-2 c = fault-arcs _ _ _ _ _ _ _ _ _ _ _ _ (c .before .before .before .hoo
 
 pub fault-spec : {M : Type 1} → statement M
 fault-spec =
-    tie.close
-    (tie.spec hook-fault-requires enum-known-hook returns enum-told arcs-fault-requires returns-2)
+    tie.close (tie.spec hook-fault-requires enum-known-hook returns enum-told arcs-fault-requires returns-2)

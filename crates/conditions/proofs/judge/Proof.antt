@@ -32,11 +32,4 @@ returns c =
 
 pub judge-spec : {M : Type 1} → statement M
 judge-spec =
-    tie.close
-    (tie.spec
-    wide-requires
-    wide-requires-2
-    reach-of-requires
-    wide-requires-3
-    fault-requires
-    returns)
+    tie.close (tie.spec wide-requires wide-requires-2 reach-of-requires wide-requires-3 fault-requires returns)

@@ -102,17 +102,5 @@ returns-2 c =
 
 pub apply-spec : {M : Type 1} → statement M
 apply-spec =
-    tie.close
-    (tie.spec
-    unmark-requires
-    wide-requires
-    walk-requires
-    assign-requires
-    same-length
-    same-length-2
-    returns
-    wide-requires-2
-    settle-requires
-    same-length-3
-    same-length-4
-    returns-2)
+    tie.close (tie.spec unmark-requires wide-requires walk-requires assign-requires same-length same-length-2 returns wide-requires-2
+    settle-requires same-length-3 same-length-4 returns-2)

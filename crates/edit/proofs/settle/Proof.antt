@@ -85,19 +85,5 @@ returns-2 c =
 
 pub settle-spec : {M : Type 1} → statement M
 settle-spec =
-    tie.close
-    (tie.spec
-    of-kind-requires
-    of-kind-requires-2
-    mul-if1
-    returns
-    give-requires
-    rewrite-requires
-    cast-t28
-    mul-t14
-    cast-t29
-    mul-t30
-    cast-t31
-    same-length
-    same-length-2
-    returns-2)
+    tie.close (tie.spec of-kind-requires of-kind-requires-2 mul-if1 returns give-requires rewrite-requires cast-t28 mul-t14 cast-t29 mul-t30
+    cast-t31 same-length same-length-2 returns-2)

@@ -27,14 +27,24 @@ same-length c = search needs
 returns : tie.Need-returns
 returns c =
     let f = c .before .before .before .before .before in
-    load-unordered _ _ _ _ (f .frame .ensures) _ (c .before .before .before .found .given .1) _ (c .before .ascending .ensures) _ _ (c .if1 .taken) (f .before .before .before .clear .ensures)
+    load-unordered _ _ _ _ (f .frame .ensures) _ (c .before .before .before .found .given .1) _ (c .before .ascending .ensures) _ _ (c .if1 .taken)
+    (f .before .before .before .clear .ensures)
 
 fill-requires : tie.Need-fill-requires
 fill-requires c κs =
     let a = c .before .before .before .before .before .before .before .before .before .before .before .before .before .pre in
     let f = c .before .before .before .before .before .before .frame .ensures in
-    let q = c .before .before .before .before .found .given .1 in
-    (a .0, ((a .1 .few, c .before .before .before .before .before .before .before .before .before .clear .ensures ∙ ap (λ (k : ℕ). replicate k 0) (a .1 .long)), (load-formed _ _ _ _ f _ q _ (c .before .before .ascending .ensures) (c .before .if1 .left), darts-are _ _ _ _ f _ q)))
+    let q = c .before .before .before .before .found .given .1 in (
+      a .0,
+      (
+        (
+          a .1 .few,
+          c .before .before .before .before .before .before .before .before .before .clear .ensures
+              ∙ ap (λ (k : ℕ). replicate k 0) (a .1 .long),
+        ),
+        (load-formed _ _ _ _ f _ q _ (c .before .before .ascending .ensures) (c .before .if1 .left), darts-are _ _ _ _ f _ q),
+      ),
+    )
 
 enum-told : tie.Need-enum-told
 enum-told c = search needs
@@ -45,7 +55,8 @@ same-length-2 c = search needs
 returns-2 : tie.Need-returns-2
 returns-2 c =
     let a = c .before .before .before .before .before in
-    load-done _ _ _ _ (a .before .before .before .before .frame .ensures) _ (a .before .before .found .given .1) _ (a .ascending .ensures) _ _ (c .before .before .before .before .if1 .left) (c .before .before .fill .ensures)
+    load-done _ _ _ _ (a .before .before .before .before .frame .ensures) _ (a .before .before .found .given .1) _ (a .ascending .ensures) _ _
+    (c .before .before .before .before .if1 .left) (c .before .before .fill .ensures)
 
 same-length-3 : tie.Need-same-length-3
 same-length-3 c = search needs
@@ -57,17 +68,5 @@ returns-3 c =
 
 pub load-spec : {M : Type 1} → statement M
 load-spec =
-    tie.close
-    (tie.spec
-    clear-requires
-    frame-requires
-    enum-known-found
-    ascending-requires
-    same-length
-    returns
-    fill-requires
-    enum-told
-    same-length-2
-    returns-2
-    same-length-3
-    returns-3)
+    tie.close (tie.spec clear-requires frame-requires enum-known-found ascending-requires same-length returns fill-requires enum-told
+    same-length-2 returns-2 same-length-3 returns-3)

@@ -22,12 +22,15 @@ headed : (c : tie.After-head) → let a = c .before .before .before .before .arg
     Put (now (a .out)) 0 (headBytes (a .n) (a .slots)) (c .head .last .1 .1 .0) (c .head .result .at)
 headed c = c .head .ensures
 
-slotted : (c : tie.After-section) → let a = c .before .before .before .before .before .before .before .before .args in let m = view (a .slots) (now (a .table)) in
+slotted : (c : tie.After-section) → let a = c .before .before .before .before .before .before .before .before .args in let m =
+    view (a .slots) (now (a .table)) in
     Put (now (a .out)) 0 (headBytes (a .n) (a .slots) ++ sectionBytes (a .n) m Slots) (c .section .last .1 .1 .1 .1 .1 .0) (c .section .result .at)
 slotted c = put-then _ _ _ _ _ _ _ _ (headed (c .before .before .before .before)) (c .section .ensures)
 
-tagged : (c : tie.After-section2) → let a = c .before .before .before .before .before .before .before .before .before .before .before .before .args in let m = view (a .slots) (now (a .table)) in
-    Put (now (a .out)) 0 (headBytes (a .n) (a .slots) ++ sectionBytes (a .n) m Slots ++ sectionBytes (a .n) m Tags) (c .section2 .last .1 .1 .1 .1 .1 .0) (c .section2 .result .at)
+tagged : (c : tie.After-section2) → let a = c .before .before .before .before .before .before .before .before .before .before .before .before .args in
+    let m = view (a .slots) (now (a .table)) in
+    Put (now (a .out)) 0 (headBytes (a .n) (a .slots) ++ sectionBytes (a .n) m Slots ++ sectionBytes (a .n) m Tags)
+    (c .section2 .last .1 .1 .1 .1 .1 .0) (c .section2 .result .at)
 tagged c = put-then _ _ _ _ _ _ _ _ (slotted (c .before .before .before .before)) (c .section2 .ensures)
 
 small : {n : ℕ} → (n ≡ 2) ⊎ (n ≡ 3) → n < 256
@@ -68,11 +71,4 @@ returns c =
 
 pub write-spec : {M : Type 1} → statement M
 write-spec =
-    tie.close
-    (tie.spec
-    head-requires
-    section-requires
-    section-requires-2
-    section-requires-3
-    same-length
-    returns)
+    tie.close (tie.spec head-requires section-requires section-requires-2 section-requires-3 same-length returns)

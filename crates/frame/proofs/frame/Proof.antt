@@ -101,19 +101,5 @@ returns-5 c =
 
 pub frame-spec : {M : Type 1} → statement M
 frame-spec =
-    tie.close
-    (tie.spec
-    head-requires
-    enum-known-n
-    enum-told
-    returns
-    count-requires
-    enum-known-lcount
-    enum-told-2
-    returns-2
-    count-requires-2
-    enum-known-rcount
-    enum-told-3
-    returns-3
-    returns-4
-    returns-5)
+    tie.close (tie.spec head-requires enum-known-n enum-told returns count-requires enum-known-lcount enum-told-2 returns-2 count-requires-2
+    enum-known-rcount enum-told-3 returns-3 returns-4 returns-5)

@@ -111,23 +111,5 @@ returns-6 c =
 
 pub head-spec : {M : Type 1} → statement M
 head-spec =
-    tie.close
-    (tie.spec
-    byte-requires
-    enum-known-n
-    enum-told
-    returns
-    returns-2
-    returns-3
-    add-count
-    count-requires
-    enum-known-places
-    enum-told-2
-    returns-4
-    mul-count
-    add-count-2
-    count-requires-2
-    enum-known-nodes
-    enum-told-3
-    returns-5
-    returns-6)
+    tie.close (tie.spec byte-requires enum-known-n enum-told returns returns-2 returns-3 add-count count-requires enum-known-places enum-told-2
+    returns-4 mul-count add-count-2 count-requires-2 enum-known-nodes enum-told-3 returns-5 returns-6)

@@ -33,12 +33,4 @@ returns-2 c =
 
 pub arcs-fault-spec : {M : Type 1} → statement M
 arcs-fault-spec =
-    tie.close
-    (tie.spec
-    wide-requires
-    unbalanced-requires
-    enum-known-bad
-    returns
-    enum-told
-    cycle-fault-requires
-    returns-2)
+    tie.close (tie.spec wide-requires unbalanced-requires enum-known-bad returns enum-told cycle-fault-requires returns-2)

@@ -93,28 +93,6 @@ returns-3 c =
 
 pub incident-spec : {M : Type 1} → statement M
 incident-spec =
-    tie.close
-    (tie.spec
-    Inv-loop
-    μ-loop
-    loop-holds
-    mul-allowed
-    add-allowed
-    element-copy-out-allowed
-    mul-allowed-2
-    add-allowed-2
-    element-copy-out-allowed-2
-    allowed-requires
-    returns
-    add-i
-    loop-less
-    loop-again
-    returns-2
-    mul-allowed-3
-    add-allowed-3
-    element-copy-out-allowed-3
-    mul-allowed-4
-    add-allowed-4
-    element-copy-out-allowed-4
-    allowed-requires-2
-    returns-3)
+    tie.close (tie.spec Inv-loop μ-loop loop-holds mul-allowed add-allowed element-copy-out-allowed mul-allowed-2 add-allowed-2
+    element-copy-out-allowed-2 allowed-requires returns add-i loop-less loop-again returns-2 mul-allowed-3 add-allowed-3
+    element-copy-out-allowed-3 mul-allowed-4 add-allowed-4 element-copy-out-allowed-4 allowed-requires-2 returns-3)

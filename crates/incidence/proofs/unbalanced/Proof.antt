@@ -77,22 +77,5 @@ returns-4 c = let l = c .before .loop .inv in found-none _ _ _ (l .0) (c .loop-t
 
 pub unbalanced-spec : {M : Type 1} → statement M
 unbalanced-spec =
-    tie.close
-    (tie.spec
-    Inv-loop
-    μ-loop
-    loop-holds
-    element-copy-out-if1
-    cast-t13
-    returns
-    element-copy-out-if2
-    cast-t16
-    returns-2
-    element-copy-out-incident
-    incident-requires
-    cast-t20
-    returns-3
-    add-s
-    loop-less
-    loop-again
-    returns-4)
+    tie.close (tie.spec Inv-loop μ-loop loop-holds element-copy-out-if1 cast-t13 returns element-copy-out-if2 cast-t16 returns-2
+    element-copy-out-incident incident-requires cast-t20 returns-3 add-s loop-less loop-again returns-4)

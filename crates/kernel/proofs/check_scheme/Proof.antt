@@ -31,7 +31,8 @@ judge-requires c κs = let e = c .before .before .before .before .before .before
 
 returns-2 : tie.Need-returns-2
 unfolding checkScheme judged
-returns-2 c = let e = c .before .before .before .before .before .before .before .before .before .before in record { answer = answers-of (judged-good _ _ (form e) (scheme-is e) _ (c .judge .ensures (judge-asks _ _ (e .before .read .ensures) (form e)) .answer)) }
+returns-2 c = let e = c .before .before .before .before .before .before .before .before .before .before in
+    record { answer = answers-of (judged-good _ _ (form e) (scheme-is e) _ (c .judge .ensures (judge-asks _ _ (e .before .read .ensures) (form e)) .answer)) }
 
 pub check-scheme-spec : {M : Type 1} → statement M
 check-scheme-spec = tie.close (tie.spec read-requires returns judge-requires returns-2)

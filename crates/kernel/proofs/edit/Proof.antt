@@ -55,20 +55,10 @@ returns-3 c =
     let k = c .before .before in
     let s = k .before .before .before .before .before .before in
     let e = s .before .before .before in
-    edit-staged _ _ _ _ _ _ (sized (e .before)) (e .if2 .left) _ _ _ (s .staged .ensures) (k .clear .ensures ∙ ap (λ (z : ℕ). replicate z 0) (s .staged .kept .1 .1 .1 .0))
+    edit-staged _ _ _ _ _ _ (sized (e .before)) (e .if2 .left) _ _ _ (s .staged .ensures)
+    (k .clear .ensures ∙ ap (λ (z : ℕ). replicate z 0) (s .staged .kept .1 .1 .1 .0))
 
 pub edit-spec : {M : Type 1} → statement M
 edit-spec =
-    tie.close
-    (tie.spec
-    sizes-requires
-    same-length
-    returns
-    mul-if2
-    same-length-2
-    returns-2
-    staged-requires
-    clear-requires
-    same-length-3
-    same-length-4
-    returns-3)
+    tie.close (tie.spec sizes-requires same-length returns mul-if2 same-length-2 returns-2 staged-requires clear-requires same-length-3
+    same-length-4 returns-3)

@@ -16,7 +16,8 @@ use Rattle.kernel.proofs.read.Tie as tie
 sized : (c : tie.Else1) → let a = c .before .before .before .before .before .args in sizesOk (a .n) (a .slots) (now (a .table)) ≡ true
 sized c = sym (c .before .sizes .ensures) ∙ not-false _ (c .if1 .left)
 
-formed : (c : tie.Else2) → let a = c .before .before .before .before .before .before .before .before .before .before .args in fileForm (a .n) (a .slots) (now (a .file)) ≡ true
+formed : (c : tie.Else2) → let a = c .before .before .before .before .before .before .before .before .before .before .args in
+    fileForm (a .n) (a .slots) (now (a .file)) ≡ true
 formed c = sym (c .before .before .before .load .ensures .0) ∙ not-false _ (c .if2 .left)
 
 sizes-requires : tie.Need-sizes-requires
@@ -60,7 +61,8 @@ returns-3 : tie.Need-returns-3
 returns-3 c =
     let s = c .before .before in
     let l = s .before .before .before .before .before in
-    read-kept (read-0 _ _ _ _ (sized (l .before .before)) _ (formed (s .before .before)) (l .load .ensures .1) (survey-live _ _ _ (s .survey .ensures) (c .enum-told .given .0 .0) (c .enum-told .given .1) .0))
+    read-kept (read-0 _ _ _ _ (sized (l .before .before)) _ (formed (s .before .before)) (l .load .ensures .1)
+    (survey-live _ _ _ (s .survey .ensures) (c .enum-told .given .0 .0) (c .enum-told .given .1) .0))
 
 same-length-4 : tie.Need-same-length-4
 same-length-4 c = search needs
@@ -69,23 +71,10 @@ returns-4 : tie.Need-returns-4
 returns-4 c =
     let s = c .before .before .before .before .before .before in
     let l = s .before .before .before .before .before in
-    read-kept (read-7 _ _ _ _ (sized (l .before .before)) _ (formed (s .before .before)) (l .load .ensures .1) _ (survey-broken _ _ _ (s .survey .ensures) (c .before .before .before .before .enum-told2 .given .1)) (c .before .before .clear .ensures))
+    read-kept (read-7 _ _ _ _ (sized (l .before .before)) _ (formed (s .before .before)) (l .load .ensures .1) _
+    (survey-broken _ _ _ (s .survey .ensures) (c .before .before .before .before .enum-told2 .given .1)) (c .before .before .clear .ensures))
 
 pub read-spec : {M : Type 1} → statement M
 read-spec =
-    tie.close
-    (tie.spec
-    sizes-requires
-    same-length
-    returns
-    load-requires
-    same-length-2
-    returns-2
-    survey-requires
-    enum-told
-    enum-told-2
-    clear-requires
-    same-length-3
-    returns-3
-    same-length-4
-    returns-4)
+    tie.close (tie.spec sizes-requires same-length returns load-requires same-length-2 returns-2 survey-requires enum-told enum-told-2
+    clear-requires same-length-3 returns-3 same-length-4 returns-4)

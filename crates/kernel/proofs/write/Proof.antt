@@ -85,17 +85,5 @@ returns-4 c = write-kept (write-7 _ _ _ _ (sized (c .before .before .before))
 
 pub write-spec : {M : Type 1} → statement M
 write-spec =
-    tie.close
-    (tie.spec
-    sizes-requires
-    returns
-    survey-requires
-    enum-known-found
-    size-requires
-    returns-2
-    write-requires
-    cast-t17
-    enum-told
-    same-length
-    returns-3
-    returns-4)
+    tie.close (tie.spec sizes-requires returns survey-requires enum-known-found size-requires returns-2 write-requires cast-t17 enum-told
+    same-length returns-3 returns-4)

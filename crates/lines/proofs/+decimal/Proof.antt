@@ -71,7 +71,8 @@ decimal-decimal-requires : (t : ℕ) → decimal-lts.Need-decimal-requires (
   decimal-below t,
   decimal.Post,
 ) (decimal-at t) decimal.Post
-decimal-decimal-requires t c κs = let s = c .before .before .before in (omega (arith, s .pre .0), tens-room (now (s .args .out)) _ _ (c .before .if1 .left) (s .fits .v .fits) (s .pre .1))
+decimal-decimal-requires t c κs = let s = c .before .before .before in
+    (omega (arith, s .pre .0), tens-room (now (s .args .out)) _ _ (c .before .if1 .left) (s .fits .v .fits) (s .pre .1))
 
 decimal-digit-requires-2 : (t : ℕ) → decimal-lts.Need-digit-requires-2 (
   digit-reads.Asked,

@@ -29,11 +29,4 @@ returns c = refused-put _ _ _ _ _ _ _ (c .before .before .before .before .before
 
 pub refused-line-spec : {M : Type 1} → statement M
 refused-line-spec =
-    tie.close
-    (tie.spec
-    slice-aggregate-field
-    field-requires
-    slice-aggregate-text
-    text-requires
-    same-length
-    returns)
+    tie.close (tie.spec slice-aggregate-field field-requires slice-aggregate-text text-requires same-length returns)

@@ -121,23 +121,6 @@ returns-6 c =
 
 pub read-spec : {M : Type 1} → statement M
 read-spec =
-    tie.close
-    (tie.spec
-    frame-requires
-    enum-known-l
-    enum-told
-    refused-requires
-    returns
-    read-orbit-requires
-    refused-requires-2
-    returns-2
-    read-nodes-requires
-    refused-requires-3
-    returns-3
-    read-arcs-requires
-    refused-requires-4
-    returns-4
-    read-arcs-requires-2
-    refused-requires-5
-    returns-5
-    returns-6)
+    tie.close (tie.spec frame-requires enum-known-l enum-told refused-requires returns read-orbit-requires refused-requires-2 returns-2
+    read-nodes-requires refused-requires-3 returns-3 read-arcs-requires refused-requires-4 returns-4 read-arcs-requires-2 refused-requires-5
+    returns-5 returns-6)

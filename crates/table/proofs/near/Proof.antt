@@ -40,13 +40,4 @@ returns c =
 
 pub near-spec : {M : Type 1} → statement M
 near-spec =
-    tie.close
-    (tie.spec
-    link-requires
-    link-requires-2
-    cast-front
-    front-requires
-    state-requires
-    word-requires
-    cast-result
-    returns)
+    tie.close (tie.spec link-requires link-requires-2 cast-front front-requires state-requires word-requires cast-result returns)

@@ -61,17 +61,4 @@ returns-3 c = passes _ _ _ _ (c .before .loop .inv) (c .loop-test .left)
 
 pub survey-spec : {M : Type 1} → statement M
 survey-spec =
-    tie.close
-    (tie.spec
-    Inv-loop
-    μ-loop
-    loop-holds
-    state-requires
-    returns
-    dart-requires
-    returns-2
-    add-live
-    add-x
-    loop-less
-    loop-again
-    returns-3)
+    tie.close (tie.spec Inv-loop μ-loop loop-holds state-requires returns dart-requires returns-2 add-live add-x loop-less loop-again returns-3)

@@ -98,25 +98,5 @@ returns-8 c =
 
 pub frame-spec : {M : Type 1} → statement M
 frame-spec =
-    tie.close
-    (tie.spec
-    returns
-    sub-left
-    two-requires
-    cast-map
-    returns-2
-    add-if3
-    two-requires-2
-    cast-scheme
-    returns-3
-    add-if4
-    add-if4-2
-    two-requires-3
-    cast-darts
-    sub-if4
-    mul-if4
-    returns-4
-    returns-5
-    returns-6
-    returns-7
-    returns-8)
+    tie.close (tie.spec returns sub-left two-requires cast-map returns-2 add-if3 two-requires-2 cast-scheme returns-3 add-if4 add-if4-2
+    two-requires-3 cast-darts sub-if4 mul-if4 returns-4 returns-5 returns-6 returns-7 returns-8)

@@ -37,14 +37,4 @@ returns c =
 
 pub edit-spec : {M : Type 1} → statement M
 edit-spec =
-    tie.close
-    (tie.spec
-    add-start
-    add-end
-    sub-edit
-    part-edit-start
-    part-edit-end
-    edit-requires
-    same-length
-    same-length-2
-    returns)
+    tie.close (tie.spec add-start add-end sub-edit part-edit-start part-edit-end edit-requires same-length same-length-2 returns)

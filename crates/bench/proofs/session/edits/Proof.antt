@@ -10,7 +10,9 @@ use Rattle.bench.proofs.session.edits.Statement.{statement}
 use Rattle.bench.proofs.session.edits.Tie as tie
 
 abbrev Inv-loop : tie.InvT-loop
-Inv-loop input layout n slots table₀ store₀ out₀ darts from₀ at₀ k₀ table store out from at k = (k ≤ darts) × (darts ≡ layout .darts) × Going input layout slots k table store out₀ out (from .at) at × (length table ≡ length table₀) × (length store ≡ length store₀) × (length out ≡ length out₀)
+Inv-loop input layout n slots table₀ store₀ out₀ darts from₀ at₀ k₀ table store out from at k =
+    (k ≤ darts) × (darts ≡ layout .darts) × Going input layout slots k table store out₀ out (from .at) at × (length table ≡ length table₀)
+    × (length store ≡ length store₀) × (length out ≡ length out₀)
 
 abbrev μ-loop : tie.MeasureT-loop
 μ-loop input layout n slots table₀ store₀ out₀ darts from₀ at₀ k₀ table store out from at k = darts - k
@@ -55,10 +57,12 @@ loop-again c =
     let e = c .before .before .before .before .before .before .before .before .before in
     let d = c .before .before .before .before .before .before .before .before .before .before .before .before in
     let q = c .before .before .before .before .before .before .before .before .before .before .before .before .before .before .loop in
-    let s = c .before .before .before .before .before .before .before .before .before .before .before .before .before .before .before .before .before .before .before .before .before in (
+    let s = c .before .before .before .before .before .before .before .before .before .before .before .before .before .before .before .before .before
+    .before .before .before .before in (
       omega (arith, c .before .before .before .before .before .before .before .before .before .before .before .before .before .loop-test .taken),
       refl,
-      going-more _ _ (s .pre .0) _ _ (s .pre .1 .0) _ _ _ _ _ _ _ (q .inv .2) _ (d .two .ensures .value) _ (e .edit .ensures .0) (d .two .ensures .small) _ _ _ _ _
+      going-more _ _ (s .pre .0) _ _ (s .pre .1 .0) _ _ _ _ _ _ _ (q .inv .2) _ (d .two .ensures .value) _ (e .edit .ensures .0)
+          (d .two .ensures .small) _ _ _ _ _
           (d .two .ensures .next) (e .edit .ensures .1 .0) (e .edit .ensures .1 .1) (w .dart-line .ensures),
       e .edit .kept .1 .1 .1 .1 .0 ∙ q .inv .3,
       e .edit .kept .1 .1 .1 .1 .1 .0 ∙ q .inv .4,
@@ -83,20 +87,5 @@ returns c =
 
 pub edits-spec : {M : Type 1} → statement M
 edits-spec =
-    tie.close
-    (tie.spec
-    Inv-loop
-    μ-loop
-    add-t14
-    add-t15
-    loop-holds
-    two-requires
-    edit-requires
-    dart-line-requires
-    add-k
-    loop-less
-    loop-again
-    same-length
-    same-length-2
-    same-length-3
-    returns)
+    tie.close (tie.spec Inv-loop μ-loop add-t14 add-t15 loop-holds two-requires edit-requires dart-line-requires add-k loop-less loop-again
+    same-length same-length-2 same-length-3 returns)

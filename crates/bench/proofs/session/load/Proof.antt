@@ -31,5 +31,4 @@ returns c =
 
 pub load-spec : {M : Type 1} → statement M
 load-spec =
-    tie.close
-    (tie.spec add-end sub-read part-read-start part-read-end read-requires same-length returns)
+    tie.close (tie.spec add-end sub-read part-read-start part-read-end read-requires same-length returns)

@@ -121,21 +121,5 @@ returns-2 c =
 
 pub session-spec : {M : Type 1} → statement M
 session-spec =
-    tie.close
-    (tie.spec
-    shared-slice-read-wide
-    wide-requires
-    load-requires
-    number-requires
-    refused-line-requires
-    same-length
-    same-length-2
-    returns
-    edits-requires
-    tally-requires
-    tally-requires-2
-    last-line-requires
-    same-length-3
-    same-length-4
-    same-length-5
-    returns-2)
+    tie.close (tie.spec shared-slice-read-wide wide-requires load-requires number-requires refused-line-requires same-length same-length-2
+    returns edits-requires tally-requires tally-requires-2 last-line-requires same-length-3 same-length-4 same-length-5 returns-2)

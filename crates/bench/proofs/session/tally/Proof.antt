@@ -31,7 +31,12 @@ state-requires c κs = search needs
 add-found : tie.Need-add-found Inv-loop μ-loop
 add-found c =
     let l = c .before .before .before in
-    omega (arith, l .loop .inv .1, count-le (l .loop .x) (λ y. eqb (view (l .before .before .args .slots) (now (l .before .before .args .table)) .state y) (l .before .before .args .s)))
+    omega (
+      arith,
+      l .loop .inv .1,
+      count-le (l .loop .x)
+          (λ y. eqb (view (l .before .before .args .slots) (now (l .before .before .args .table)) .state y) (l .before .before .args .s)),
+    )
 
 add-x : tie.Need-add-x Inv-loop μ-loop
 add-x c = omega arith
@@ -58,14 +63,4 @@ returns c =
 
 pub tally-spec : {M : Type 1} → statement M
 tally-spec =
-    tie.close
-    (tie.spec
-    Inv-loop
-    μ-loop
-    loop-holds
-    state-requires
-    add-found
-    add-x
-    loop-less
-    loop-again
-    returns)
+    tie.close (tie.spec Inv-loop μ-loop loop-holds state-requires add-found add-x loop-less loop-again returns)

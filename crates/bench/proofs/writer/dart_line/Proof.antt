@@ -35,7 +35,14 @@ field-requires : tie.Need-field-requires
 field-requires c κs =
     let d = c .before .before .before .before .before in
     let s = d .before .before .before .before in
-    omega (arith, s .pre, d .decimal .ensures .after, d .decimal .kept .0, whole (s .args .dart) (s .args .a) (c .number .result) (d .before .before .shown .result) (c .number .ensures) (d .before .before .shown .ensures))
+    omega (
+      arith,
+      s .pre,
+      d .decimal .ensures .after,
+      d .decimal .kept .0,
+      whole (s .args .dart) (s .args .a) (c .number .result)
+          (d .before .before .shown .result) (c .number .ensures) (d .before .before .shown .ensures),
+    )
 
 slice-aggregate-field-2 : tie.Need-slice-aggregate-field-2
 slice-aggregate-field-2 c = search needs
@@ -45,7 +52,8 @@ field-requires-2 c κs =
     let f = c .before .before .before .before in
     let d = f .before .before .before .before .before .before in
     let s = d .before .before .before .before in
-    let e = whole (s .args .dart) (s .args .a) (f .before .number .result) (d .before .before .shown .result) (f .before .number .ensures) (d .before .before .shown .ensures) in
+    let e = whole (s .args .dart) (s .args .a) (f .before .number .result) (d .before .before .shown .result) (f .before .number .ensures)
+    (d .before .before .shown .ensures) in
     omega (arith, s .pre, e, f .field .ensures .after, f .field .kept .0, d .decimal .ensures .after, d .decimal .kept .0)
 
 slice-aggregate-field-3 : tie.Need-slice-aggregate-field-3
@@ -57,8 +65,19 @@ field-requires-3 c κs =
     let f = g .before .before .before .before .before in
     let d = f .before .before .before .before .before .before in
     let s = d .before .before .before .before in
-    let e = whole (s .args .dart) (s .args .a) (f .before .number .result) (d .before .before .shown .result) (f .before .number .ensures) (d .before .before .shown .ensures) in
-    omega (arith, s .pre, e, g .field2 .ensures .after, g .field2 .kept .0, f .field .ensures .after, f .field .kept .0, d .decimal .ensures .after, d .decimal .kept .0)
+    let e = whole (s .args .dart) (s .args .a) (f .before .number .result) (d .before .before .shown .result) (f .before .number .ensures)
+    (d .before .before .shown .ensures) in
+    omega (
+      arith,
+      s .pre,
+      e,
+      g .field2 .ensures .after,
+      g .field2 .kept .0,
+      f .field .ensures .after,
+      f .field .kept .0,
+      d .decimal .ensures .after,
+      d .decimal .kept .0,
+    )
 
 slice-aggregate-field-4 : tie.Need-slice-aggregate-field-4
 slice-aggregate-field-4 c = search needs
@@ -70,8 +89,21 @@ field-requires-4 c κs =
     let f = g .before .before .before .before .before in
     let d = f .before .before .before .before .before .before in
     let s = d .before .before .before .before in
-    let e = whole (s .args .dart) (s .args .a) (f .before .number .result) (d .before .before .shown .result) (f .before .number .ensures) (d .before .before .shown .ensures) in
-    omega (arith, s .pre, e, h .field3 .ensures .after, h .field3 .kept .0, g .field2 .ensures .after, g .field2 .kept .0, f .field .ensures .after, f .field .kept .0, d .decimal .ensures .after, d .decimal .kept .0)
+    let e = whole (s .args .dart) (s .args .a) (f .before .number .result) (d .before .before .shown .result) (f .before .number .ensures)
+    (d .before .before .shown .ensures) in
+    omega (
+      arith,
+      s .pre,
+      e,
+      h .field3 .ensures .after,
+      h .field3 .kept .0,
+      g .field2 .ensures .after,
+      g .field2 .kept .0,
+      f .field .ensures .after,
+      f .field .kept .0,
+      d .decimal .ensures .after,
+      d .decimal .kept .0,
+    )
 
 slice-aggregate-text : tie.Need-slice-aggregate-text
 slice-aggregate-text c = search needs
@@ -84,8 +116,23 @@ text-requires c κs =
     let f = g .before .before .before .before .before in
     let d = f .before .before .before .before .before .before in
     let s = d .before .before .before .before in
-    let e = whole (s .args .dart) (s .args .a) (f .before .number .result) (d .before .before .shown .result) (f .before .number .ensures) (d .before .before .shown .ensures) in
-    omega (arith, s .pre, e, i .field4 .ensures .after, i .field4 .kept .0, h .field3 .ensures .after, h .field3 .kept .0, g .field2 .ensures .after, g .field2 .kept .0, f .field .ensures .after, f .field .kept .0, d .decimal .ensures .after, d .decimal .kept .0)
+    let e = whole (s .args .dart) (s .args .a) (f .before .number .result) (d .before .before .shown .result) (f .before .number .ensures)
+    (d .before .before .shown .ensures) in
+    omega (
+      arith,
+      s .pre,
+      e,
+      i .field4 .ensures .after,
+      i .field4 .kept .0,
+      h .field3 .ensures .after,
+      h .field3 .kept .0,
+      g .field2 .ensures .after,
+      g .field2 .kept .0,
+      f .field .ensures .after,
+      f .field .kept .0,
+      d .decimal .ensures .after,
+      d .decimal .kept .0,
+    )
 
 same-length : tie.Need-same-length
 same-length c = search needs
@@ -103,20 +150,6 @@ returns c =
 
 pub dart-line-spec : {M : Type 1} → statement M
 dart-line-spec =
-    tie.close
-    (tie.spec
-    shown-requires
-    decimal-requires
-    slice-aggregate-field
-    number-requires
-    field-requires
-    slice-aggregate-field-2
-    field-requires-2
-    slice-aggregate-field-3
-    field-requires-3
-    slice-aggregate-field-4
-    field-requires-4
-    slice-aggregate-text
-    text-requires
-    same-length
-    returns)
+    tie.close (tie.spec shown-requires decimal-requires slice-aggregate-field number-requires field-requires slice-aggregate-field-2
+    field-requires-2 slice-aggregate-field-3 field-requires-3 slice-aggregate-field-4 field-requires-4 slice-aggregate-text text-requires
+    same-length returns)

@@ -29,7 +29,16 @@ text-requires c κs =
     let g = c .before .before .before .before in
     let f = g .before .before .before .before .before in
     let s = f .before .before .before .before in
-    omega (arith, s .pre, f .field .ensures .after, f .field .kept .0, g .field2 .ensures .after, g .field2 .kept .0, last-length (s .args .live) (s .args .unused))
+    omega (
+      arith,
+      s .pre,
+      f .field .ensures .after,
+      f .field .kept .0,
+      g .field2 .ensures .after,
+      g .field2 .kept .0,
+      last-length (s .args .live)
+          (s .args .unused),
+    )
 
 same-length : tie.Need-same-length
 same-length c = search needs
@@ -41,13 +50,5 @@ returns c =
 
 pub last-line-spec : {M : Type 1} → statement M
 last-line-spec =
-    tie.close
-    (tie.spec
-    slice-aggregate-field
-    field-requires
-    slice-aggregate-field-2
-    field-requires-2
-    slice-aggregate-text
-    text-requires
-    same-length
-    returns)
+    tie.close (tie.spec slice-aggregate-field field-requires slice-aggregate-field-2 field-requires-2 slice-aggregate-text text-requires
+    same-length returns)

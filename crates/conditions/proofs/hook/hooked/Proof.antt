@@ -56,19 +56,5 @@ returns-3 c = let l = c .before .loop .inv in hook-whole _ _ _ _ _ (c .before .b
 
 pub hooked-spec : {M : Type 1} → statement M
 hooked-spec =
-    tie.close
-    (tie.spec
-    Inv-loop
-    μ-loop
-    element-copy-out-if1
-    returns
-    loop-holds
-    mul-if2
-    add-if2
-    element-copy-out-if2
-    element-copy-out-if2-2
-    returns-2
-    add-p
-    loop-less
-    loop-again
-    returns-3)
+    tie.close (tie.spec Inv-loop μ-loop element-copy-out-if1 returns loop-holds mul-if2 add-if2 element-copy-out-if2 element-copy-out-if2-2
+    returns-2 add-p loop-less loop-again returns-3)

@@ -53,16 +53,5 @@ returns-2 c = let l = c .before .loop .inv in found-none _ _ _ (l .0) (c .loop-t
 
 pub unreached-spec : {M : Type 1} → statement M
 unreached-spec =
-    tie.close
-    (tie.spec
-    Inv-loop
-    μ-loop
-    loop-holds
-    element-copy-out-if1
-    element-copy-out-if2
-    cast-t13
-    returns
-    add-s
-    loop-less
-    loop-again
+    tie.close (tie.spec Inv-loop μ-loop loop-holds element-copy-out-if1 element-copy-out-if2 cast-t13 returns add-s loop-less loop-again
     returns-2)

@@ -34,5 +34,4 @@ returns c = let l = c .before .loop .inv in let same : c .before .loop .a ≡ c 
 
 pub grow-spec : {M : Type 1} → statement M
 grow-spec =
-    tie.close
-    (tie.spec Inv-loop μ-loop loop-holds join-requires add-a loop-less loop-again returns)
+    tie.close (tie.spec Inv-loop μ-loop loop-holds join-requires add-a loop-less loop-again returns)

@@ -97,19 +97,5 @@ returns-4 c =
 
 pub join-spec : {M : Type 1} → statement M
 join-spec =
-    tie.close
-    (tie.spec
-    part-requires
-    part-requires-2
-    part-requires-3
-    element-copy-out-if1
-    element-copy-out-if2
-    returns
-    push-requires
-    add-result
-    returns-2
-    element-copy-out-if3
-    push-requires-2
-    add-result-2
-    returns-3
-    returns-4)
+    tie.close (tie.spec part-requires part-requires-2 part-requires-3 element-copy-out-if1 element-copy-out-if2 returns push-requires add-result
+    returns-2 element-copy-out-if3 push-requires-2 add-result-2 returns-3 returns-4)

@@ -57,15 +57,5 @@ returns-3 c =
 
 pub meet-spec : {M : Type 1} → statement M
 meet-spec =
-    tie.close
-    (tie.spec
-    mul-wide
-    add-wide
-    element-copy-out-wide
-    wide-requires
-    returns
-    element-copy-out-if2
-    returns-2
-    push-requires
-    add-result
+    tie.close (tie.spec mul-wide add-wide element-copy-out-wide wide-requires returns element-copy-out-if2 returns-2 push-requires add-result
     returns-3)

@@ -31,13 +31,4 @@ returns c = (refl, (refl, (refl, refl)))
 
 pub push-spec : {M : Type 1} → statement M
 push-spec =
-    tie.close
-    (tie.spec
-    cast-node
-    element-write-node
-    cast-parent
-    element-write-parent
-    cast-dim
-    element-write-dim
-    element-write-reached
-    returns)
+    tie.close (tie.spec cast-node element-write-node cast-parent element-write-parent cast-dim element-write-dim element-write-reached returns)

@@ -43,14 +43,5 @@ returns-2 c =
 
 pub reach-of-spec : {M : Type 1} → statement M
 reach-of-spec =
-    tie.close
-    (tie.spec
-    array-write-reached
-    walk-requires
-    unreached-requires
-    enum-told
-    pass-requires
-    unreached-requires-2
-    enum-told-2
-    returns
+    tie.close (tie.spec array-write-reached walk-requires unreached-requires enum-told pass-requires unreached-requires-2 enum-told-2 returns
     returns-2)

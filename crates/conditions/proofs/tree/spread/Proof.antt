@@ -32,5 +32,4 @@ returns c = c .before .loop .inv .1
 
 pub spread-spec : {M : Type 1} → statement M
 spread-spec =
-    tie.close
-    (tie.spec Inv-loop μ-loop loop-holds meet-requires add-i loop-less loop-again returns)
+    tie.close (tie.spec Inv-loop μ-loop loop-holds meet-requires add-i loop-less loop-again returns)

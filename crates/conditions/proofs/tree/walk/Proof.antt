@@ -43,15 +43,4 @@ returns c = c .before .loop .inv
 
 pub walk-spec : {M : Type 1} → statement M
 walk-spec =
-    tie.close
-    (tie.spec
-    Inv-loop
-    μ-loop
-    loop-holds
-    element-copy-out-wide
-    wide-requires
-    spread-requires
-    add-k
-    loop-less
-    loop-again
-    returns)
+    tie.close (tie.spec Inv-loop μ-loop loop-holds element-copy-out-wide wide-requires spread-requires add-k loop-less loop-again returns)

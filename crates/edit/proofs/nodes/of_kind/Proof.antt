@@ -54,16 +54,4 @@ returns c =
 
 pub of-kind-spec : {M : Type 1} → statement M
 of-kind-spec =
-    tie.close
-    (tie.spec
-    Inv-loop
-    μ-loop
-    loop-holds
-    element-copy-out-if1
-    cast-node
-    array-write-node
-    add-size
-    add-s
-    loop-less
-    loop-again
-    returns)
+    tie.close (tie.spec Inv-loop μ-loop loop-holds element-copy-out-if1 cast-node array-write-node add-size add-s loop-less loop-again returns)

@@ -103,22 +103,5 @@ returns-5 c =
 
 pub apply-at-spec : {M : Type 1} → statement M
 apply-at-spec =
-    tie.close
-    (tie.spec
-    wide-requires
-    returns
-    survey-requires
-    enum-known-found
-    enum-told
-    same-length
-    returns-2
-    same-length-2
-    returns-3
-    state-requires
-    same-length-3
-    returns-4
-    sub-apply
-    apply-requires
-    same-length-4
-    same-length-5
-    returns-5)
+    tie.close (tie.spec wide-requires returns survey-requires enum-known-found enum-told same-length returns-2 same-length-2 returns-3
+    state-requires same-length-3 returns-4 sub-apply apply-requires same-length-4 same-length-5 returns-5)

@@ -62,17 +62,4 @@ returns-3 c =
 
 pub ascending-spec : {M : Type 1} → statement M
 ascending-spec =
-    tie.close
-    (tie.spec
-    Inv-loop
-    μ-loop
-    loop-holds
-    two-requires
-    cast-x
-    returns
-    returns-2
-    add-low
-    add-k
-    loop-less
-    loop-again
-    returns-3)
+    tie.close (tie.spec Inv-loop μ-loop loop-holds two-requires cast-x returns returns-2 add-low add-k loop-less loop-again returns-3)

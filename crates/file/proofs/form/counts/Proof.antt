@@ -42,15 +42,4 @@ returns-2 c =
 
 pub counts-spec : {M : Type 1} → statement M
 counts-spec =
-    tie.close
-    (tie.spec
-    mul-t7
-    add-t8
-    two-requires
-    cast-if1
-    returns
-    mul-t8
-    add-t7
-    two-requires-2
-    cast-result
-    returns-2)
+    tie.close (tie.spec mul-t7 add-t8 two-requires cast-if1 returns mul-t8 add-t7 two-requires-2 cast-result returns-2)

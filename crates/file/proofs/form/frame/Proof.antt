@@ -43,15 +43,4 @@ returns-5 c =
 
 pub frame-spec : {M : Type 1} → statement M
 frame-spec =
-    tie.close
-    (tie.spec
-    returns
-    head-requires
-    returns-2
-    two-requires
-    cast-darts
-    size-requires
-    returns-3
-    counts-requires
-    returns-4
-    returns-5)
+    tie.close (tie.spec returns head-requires returns-2 two-requires cast-darts size-requires returns-3 counts-requires returns-4 returns-5)

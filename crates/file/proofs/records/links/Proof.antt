@@ -73,15 +73,5 @@ returns-2 c =
 
 pub links-spec : {M : Type 1} → statement M
 links-spec =
-    tie.close
-    (tie.spec
-    link-requires
-    link-requires-2
-    link-requires-3
-    cast-put-link
-    put-link-requires
-    link-requires-4
-    same-length
-    returns
-    same-length-2
-    returns-2)
+    tie.close (tie.spec link-requires link-requires-2 link-requires-3 cast-put-link put-link-requires link-requires-4 same-length returns
+    same-length-2 returns-2)

@@ -58,19 +58,5 @@ returns-3 c = part-links _ _ _ _ _ _ _ _ (c .before .before .before .before .enu
 
 pub dart-spec : {M : Type 1} → statement M
 dart-spec =
-    tie.close
-    (tie.spec
-    enum-told
-    cast-put-two
-    put-two-requires
-    enum-told-2
-    tag-requires
-    put-four-requires
-    enum-told-3
-    links-requires
-    same-length
-    returns
-    same-length-2
-    returns-2
-    same-length-3
-    returns-3)
+    tie.close (tie.spec enum-told cast-put-two put-two-requires enum-told-2 tag-requires put-four-requires enum-told-3 links-requires
+    same-length returns same-length-2 returns-2 same-length-3 returns-3)

@@ -30,10 +30,26 @@ link-requires : tie.Need-link-requires
 link-requires c κs = search needs
 
 link-requires-2 : tie.Need-link-requires-2
-link-requires-2 c κs = (search needs, (search needs, search needs, link-room _ _ _ _ 1 _ _ (one (c .before .before .before)) (omega (arith, two-le (c .before .before .before .before .before .before .before .pre .0)))))
+link-requires-2 c κs = (
+  search needs,
+  (
+    search needs,
+    search needs,
+    link-room _ _ _ _ 1 _ _ (one (c .before .before .before))
+        (omega (arith, two-le (c .before .before .before .before .before .before .before .pre .0))),
+  ),
+)
 
 link-requires-3 : tie.Need-link-requires-3
-link-requires-3 c κs = (search needs, (search needs, search needs, link-room _ _ _ _ 2 _ _ (two (c .before .before .before)) (omega (arith, two-le (c .before .before .before .before .before .before .before .before .before .before .before .pre .0)))))
+link-requires-3 c κs = (
+  search needs,
+  (
+    search needs,
+    search needs,
+    link-room _ _ _ _ 2 _ _ (two (c .before .before .before))
+        (omega (arith, two-le (c .before .before .before .before .before .before .before .before .before .before .before .pre .0))),
+  ),
+)
 
 same-length : tie.Need-same-length
 same-length c = search needs
@@ -55,17 +71,9 @@ returns-2 : tie.Need-returns-2
 returns-2 c =
     let t = c .before .before .before .before .before .before .before in
     links-all _ _ _ _ 4 _ _ (link-more _ _ _ _ 3 _ _ (three t) _ _ (c .before .before .link4 .ensures)) _
-    (ap suc (sym (not-two (c .before .before .before .before .before .before .before .before .before .before .before .before .before .before .before .before .before .before .before .pre .0) (c .before .before .before .before .if1 .left))))
+    (ap suc (sym (not-two (c .before .before .before .before .before .before .before .before .before .before .before .before .before .before .before
+    .before .before .before .before .pre .0) (c .before .before .before .before .if1 .left))))
 
 pub links-spec : {M : Type 1} → statement M
 links-spec =
-    tie.close
-    (tie.spec
-    link-requires
-    link-requires-2
-    link-requires-3
-    same-length
-    returns
-    link-requires-4
-    same-length-2
-    returns-2)
+    tie.close (tie.spec link-requires link-requires-2 link-requires-3 same-length returns link-requires-4 same-length-2 returns-2)

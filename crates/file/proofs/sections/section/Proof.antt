@@ -79,17 +79,5 @@ returns c =
 
 pub section-spec : {M : Type 1} → statement M
 section-spec =
-    tie.close
-    (tie.spec
-    Inv-loop
-    μ-loop
-    cast-put-two
-    put-two-requires
-    loop-holds
-    state-requires
-    dart-requires
-    add-x
-    loop-less
-    loop-again
-    same-length
-    returns)
+    tie.close (tie.spec Inv-loop μ-loop cast-put-two put-two-requires loop-holds state-requires dart-requires add-x loop-less loop-again
+    same-length returns)

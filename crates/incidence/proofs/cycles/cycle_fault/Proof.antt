@@ -126,32 +126,6 @@ returns-2 c =
 
 pub cycle-fault-spec : {M : Type 1} → statement M
 cycle-fault-spec =
-    tie.close
-    (tie.spec
-    Inv-loop
-    μ-loop
-    Inv-nodes
-    μ-nodes
-    pair-count-requires
-    nodes-holds
-    loop-holds
-    mul-i
-    mul-i-2
-    array-read-i
-    mul-j
-    add-j
-    mul-j-2
-    array-read-j
-    element-copy-out-pair-ok
-    pair-ok-requires
-    cast-t29
-    cast-t30
-    cast-t31
-    add-k
-    loop-less
-    loop-again
-    add-s
-    nodes-less
-    nodes-again
-    returns
-    returns-2)
+    tie.close (tie.spec Inv-loop μ-loop Inv-nodes μ-nodes pair-count-requires nodes-holds loop-holds mul-i mul-i-2 array-read-i mul-j add-j
+    mul-j-2 array-read-j element-copy-out-pair-ok pair-ok-requires cast-t29 cast-t30 cast-t31 add-k loop-less loop-again add-s nodes-less
+    nodes-again returns returns-2)

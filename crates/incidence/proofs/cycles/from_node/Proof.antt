@@ -28,5 +28,4 @@ returns-4 c = node-place _ _ _ _ _ (c .before .before .if1 .left) (c .before .if
 
 pub from-node-spec : {M : Type 1} → statement M
 from-node-spec =
-    tie.close
-    (tie.spec code-requires code-requires-2 returns returns-2 returns-3 code-requires-3 returns-4)
+    tie.close (tie.spec code-requires code-requires-2 returns returns-2 returns-3 code-requires-3 returns-4)

@@ -41,15 +41,5 @@ returns-3 c =
 
 pub from-place-spec : {M : Type 1} → statement M
 from-place-spec =
-    tie.close
-    (tie.spec
-    code-requires
-    returns
-    returns-2
-    sub-wide
-    element-copy-out-wide
-    wide-requires
-    element-copy-out-wide-2
-    wide-requires-2
-    apart-requires
-    returns-3)
+    tie.close (tie.spec code-requires returns returns-2 sub-wide element-copy-out-wide wide-requires element-copy-out-wide-2 wide-requires-2
+    apart-requires returns-3)

@@ -39,13 +39,4 @@ returns-3 c =
 
 pub on-cycle-spec : {M : Type 1} → statement M
 on-cycle-spec =
-    tie.close
-    (tie.spec
-    code-requires
-    code-requires-2
-    from-node-requires
-    returns
-    returns-2
-    code-requires-3
-    from-place-requires
-    returns-3)
+    tie.close (tie.spec code-requires code-requires-2 from-node-requires returns returns-2 code-requires-3 from-place-requires returns-3)

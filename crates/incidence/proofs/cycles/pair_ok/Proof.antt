@@ -54,17 +54,5 @@ returns-5 c =
 
 pub pair-ok-spec : {M : Type 1} → statement M
 pair-ok-spec =
-    tie.close
-    (tie.spec
-    returns
-    on-cycle-requires
-    returns-2
-    on-cycle-requires-2
-    on-cycle-requires-3
-    returns-3
-    code-requires
-    code-requires-2
-    returns-4
-    code-requires-3
-    code-requires-4
-    returns-5)
+    tie.close (tie.spec returns on-cycle-requires returns-2 on-cycle-requires-2 on-cycle-requires-3 returns-3 code-requires code-requires-2
+    returns-4 code-requires-3 code-requires-4 returns-5)

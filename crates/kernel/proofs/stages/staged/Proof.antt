@@ -68,14 +68,4 @@ returns-3 c = stage-refused _ _ _ _ _ (its-fault _ _ (answer-is (c .before .befo
 
 pub staged-spec : {M : Type 1} → statement M
 staged-spec =
-    tie.close
-    (tie.spec
-    read-requires
-    returns
-    judge-requires
-    enum-told
-    apply-at-requires
-    same-length
-    same-length-2
-    returns-2
-    returns-3)
+    tie.close (tie.spec read-requires returns judge-requires enum-told apply-at-requires same-length same-length-2 returns-2 returns-3)

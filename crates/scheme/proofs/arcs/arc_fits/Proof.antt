@@ -45,16 +45,5 @@ returns-6 c =
 
 pub arc-fits-spec : {M : Type 1} → statement M
 arc-fits-spec =
-    tie.close
-    (tie.spec
-    key-requires
-    returns
-    returns-2
-    returns-3
-    returns-4
-    wide-requires
-    element-copy-out-if5
-    returns-5
-    wide-requires-2
-    element-copy-out-result
-    returns-6)
+    tie.close (tie.spec key-requires returns returns-2 returns-3 returns-4 wide-requires element-copy-out-if5 returns-5 wide-requires-2
+    element-copy-out-result returns-6)

@@ -41,14 +41,4 @@ returns c = stored-all _ _ _ _ _ _ (c .before .loop .inv .2) (omega arith)
 
 pub copy-spec : {M : Type 1} → statement M
 copy-spec =
-    tie.close
-    (tie.spec
-    Inv-loop
-    μ-loop
-    loop-holds
-    take-requires
-    element-write-arcs
-    add-j
-    loop-less
-    loop-again
-    returns)
+    tie.close (tie.spec Inv-loop μ-loop loop-holds take-requires element-write-arcs add-j loop-less loop-again returns)

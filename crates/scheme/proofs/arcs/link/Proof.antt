@@ -34,12 +34,4 @@ returns-2 c =
 
 pub link-spec : {M : Type 1} → statement M
 link-spec =
-    tie.close
-    (tie.spec
-    wide-requires
-    wide-requires-2
-    aim-requires
-    wide-requires-3
-    aim-requires-2
-    returns
-    returns-2)
+    tie.close (tie.spec wide-requires wide-requires-2 aim-requires wide-requires-3 aim-requires-2 returns returns-2)

@@ -130,22 +130,5 @@ returns-2 c =
 
 pub read-arcs-spec : {M : Type 1} → statement M
 read-arcs-spec =
-    tie.close
-    (tie.spec
-    Inv-loop
-    μ-loop
-    take-requires
-    wide-requires
-    mul-copy
-    copy-requires
-    loop-holds
-    arc-requires
-    arc-fits-requires
-    returns
-    key-requires
-    add-low
-    link-requires
-    add-a
-    loop-less
-    loop-again
-    returns-2)
+    tie.close (tie.spec Inv-loop μ-loop take-requires wide-requires mul-copy copy-requires loop-holds arc-requires arc-fits-requires returns
+    key-requires add-low link-requires add-a loop-less loop-again returns-2)

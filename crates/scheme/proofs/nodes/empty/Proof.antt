@@ -52,14 +52,4 @@ returns-2 c = (all-ends _ _ _ (c .before .loop .inv .2) (omega arith) (omega ari
 
 pub empty-spec : {M : Type 1} → statement M
 empty-spec =
-    tie.close
-    (tie.spec
-    Inv-loop
-    μ-loop
-    loop-holds
-    take-requires
-    returns
-    add-p
-    loop-less
-    loop-again
-    returns-2)
+    tie.close (tie.spec Inv-loop μ-loop loop-holds take-requires returns add-p loop-less loop-again returns-2)

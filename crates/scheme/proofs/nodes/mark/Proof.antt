@@ -49,15 +49,5 @@ returns-4 c =
 
 pub mark-spec : {M : Type 1} → statement M
 mark-spec =
-    tie.close
-    (tie.spec
-    returns
-    returns-2
-    wide-requires
-    add-at
-    element-copy-out-if3
-    returns-3
-    cast-targets
-    add-targets
-    element-write-targets
+    tie.close (tie.spec returns returns-2 wide-requires add-at element-copy-out-if3 returns-3 cast-targets add-targets element-write-targets
     returns-4)

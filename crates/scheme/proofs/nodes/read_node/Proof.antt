@@ -89,14 +89,5 @@ returns-4 c =
 
 pub read-node-spec : {M : Type 1} → statement M
 read-node-spec =
-    tie.close
-    (tie.spec
-    take-requires
-    returns
-    returns-2
-    element-write-kinds
-    wide-requires
-    read-side-requires
-    returns-3
-    read-side-requires-2
+    tie.close (tie.spec take-requires returns returns-2 element-write-kinds wide-requires read-side-requires returns-3 read-side-requires-2
     returns-4)

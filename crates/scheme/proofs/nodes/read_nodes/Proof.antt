@@ -73,16 +73,4 @@ returns-2 c =
 
 pub read-nodes-spec : {M : Type 1} → statement M
 read-nodes-spec =
-    tie.close
-    (tie.spec
-    Inv-loop
-    μ-loop
-    take-requires
-    wide-requires
-    loop-holds
-    read-node-requires
-    returns
-    add-s
-    loop-less
-    loop-again
-    returns-2)
+    tie.close (tie.spec Inv-loop μ-loop take-requires wide-requires loop-holds read-node-requires returns add-s loop-less loop-again returns-2)

@@ -101,19 +101,5 @@ returns-3 c =
 
 pub read-orbit-spec : {M : Type 1} → statement M
 read-orbit-spec =
-    tie.close
-    (tie.spec
-    Inv-loop
-    μ-loop
-    take-requires
-    wide-requires
-    loop-holds
-    take-requires-2
-    returns
-    returns-2
-    element-write-orbit
-    add-low
-    add-p
-    loop-less
-    loop-again
-    returns-3)
+    tie.close (tie.spec Inv-loop μ-loop take-requires wide-requires loop-holds take-requires-2 returns returns-2 element-write-orbit add-low
+    add-p loop-less loop-again returns-3)

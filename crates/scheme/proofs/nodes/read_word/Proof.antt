@@ -90,17 +90,5 @@ returns-2 c =
 
 pub read-word-spec : {M : Type 1} → statement M
 read-word-spec =
-    tie.close
-    (tie.spec
-    Inv-loop
-    μ-loop
-    loop-holds
-    take-requires
-    mark-requires
-    returns
-    add-words
-    element-write-words
-    add-p
-    loop-less
-    loop-again
+    tie.close (tie.spec Inv-loop μ-loop loop-holds take-requires mark-requires returns add-words element-write-words add-p loop-less loop-again
     returns-2)

@@ -70,18 +70,5 @@ returns-5 c =
 
 pub count-spec : {M : Type 1} → statement M
 count-spec =
-    tie.close
-    (tie.spec
-    byte-requires
-    enum-known-count
-    enum-told
-    returns
-    returns-2
-    returns-3
-    wide-requires
-    wide-requires-2
-    mul-room
-    sub-if3
-    returns-4
-    add-t12
-    returns-5)
+    tie.close (tie.spec byte-requires enum-known-count enum-told returns returns-2 returns-3 wide-requires wide-requires-2 mul-room sub-if3
+    returns-4 add-t12 returns-5)
