@@ -8,18 +8,19 @@ use native.Mathlib.Omega.{arith}
 use lib.ListN.{length}
 use lib.Dec.{eqb, leb}
 use borrow.Author.Tests.{le-leb, lt-leb, eq-eqb, ne-eqb}
-use Rattle.base.specs.Test.{_and_, _or_}
+use Rattle.base.specs.Test.{_and_}
 use Rattle.base.specs.Below.{countBelow}
 use Rattle.base.specs.First.{someIf, _orElse_}
 use Rattle.base.proofs.BelowLaws.{count-le}
 use Rattle.base.proofs.ListLaws.{sets-start}
 use Rattle.model.specs.Answer.{number}
-use Rattle.model.specs.Map.{tableSize, view, live, unused, maxSlots}
+use Rattle.model.specs.Map.{view, live, unused, maxSlots}
 use Rattle.model.specs.Calls.{sizesOk, readFaultAt, readFault, readAnswer}
 use Rattle.bench.specs.Bench.{lastLine, mapLength, framed, mapSlots, mapAnswer, tableAfter, runLines, printed, mostDarts}
 use Rattle.lines.specs.Lines.{refusedLine}
 use Rattle.lines.proofs.LineLaws.{refused-few}
 use Rattle.model.specs.declared.Answer.the-variants.{BadCall}
+use Rattle.model.proofs.SizeLaws.{sizes-iff}
 use Rattle.cursor.specs.Places.{Put}
 use Rattle.cursor.proofs.PlaceLaws.{put-then}
 use Rattle.bench.specs.Input.{Laid}
@@ -28,7 +29,7 @@ use Rattle.bench.specs.declared.framing.Layout.{Layout}
 use Rattle.bench.proofs.FramingLaws.{laid-framed, dart-count}
 use Rattle.bench.proofs.SessionLaws.{is-map}
 use Rattle.bench.proofs.ShortLaws.{last-few}
-use Rattle.base.proofs.TestLaws.{and-no-right}
+use Rattle.base.proofs.TestLaws.{impossible, and-no-right}
 
 pub printed-fault : (b : List ℕ) → framed b ≡ false → printed b ≡ refusedLine 11
 unfolding printed _and_
@@ -38,8 +39,7 @@ printed-fault b e = rw e refl
 many-slots : (n N : ℕ) (t b : List ℕ) → maxSlots < N → readAnswer n N t b ≡ BadCall
 unfolding readAnswer readFault readFaultAt someIf _orElse_ _and_
 many-slots n N t b h =
-    let over : sizesOk n N t ≡ false = ap (λ (x : Bool). x and eqb (length t) (tableSize N))
-    (ap (λ (x : Bool). (eqb n 2 or eqb n 3) and leb 1 N and x) (lt-leb N maxSlots h) ∙ and-no-right ((eqb n 2 or eqb n 3) and leb 1 N) refl) in
+    let over : sizesOk n N t ≡ false = impossible _ (λ e. omega (arith, sizes-iff n N t .0 e .few)) in
     rw over refl
 
 module _ (b : List ℕ) (l : Layout) (laid : Laid b l) where

@@ -9,12 +9,12 @@ use mathlib.Core.List.{List, [], _++_}
 use native.Mathlib.Omega.{arith}
 use lib.ListN.{length, getD, take, drop, replicate, length-replicate}
 use lib.Seq.{take-append-seam}
-use lib.Dec.{eqb, ltb, leb}
+use lib.Dec.{ltb}
 use borrow.Author.Tests.{eq-eqb, ne-eqb}
-use Rattle.base.specs.Test.{_and_, _or_}
+use Rattle.base.specs.Test.{_and_}
 use Rattle.base.specs.First.{someIf, there, _orElse_}
 use Rattle.base.proofs.FirstLaws.{or-else-none}
-use Rattle.model.specs.Map.{Map, State, view, tableOf, tableSize, maxSlots}
+use Rattle.model.specs.Map.{Map, State, view, tableOf, tableSize}
 use Rattle.model.specs.WellFormed.{WellFormed, wellFormed}
 use Rattle.model.specs.Edit.{edited}
 use Rattle.model.specs.File.{file, fileMap}
@@ -61,7 +61,9 @@ module _ (n N : ℕ) (t : List ℕ) where
 
     -- another table of as many words has its sizes right too
     pub sizes-too : (u : List ℕ) → length u ≡ length t → sizesOk n N u ≡ true
-    sizes-too u e = ap (λ (k : ℕ). (eqb n 2 or eqb n 3) and leb 1 N and leb N maxSlots and eqb k (tableSize N)) e ∙ s
+    sizes-too u e =
+        let z = sizes-iff n N t .0 s in
+        sizes-iff n N u .1 (record { dimension = z .dimension; some = z .some; few = z .few; long = e ∙ z .long })
 
     -- the table of a well-formed map of N slots holds it
     pub words-hold : (m : Map) → m .slots ≡ N → WellFormed n m → Holds n N (tableOf m)

@@ -25,7 +25,7 @@ siteWith m S d O = record { map = m; scheme = S; dart = d; orbit = O }
 abbrev pub siteAt : Map → Scheme → ℕ → Site
 siteAt m S d = siteWith m S d (orbit m (S .places) (orbitDim S) d)
 
--- the scheme is accepted, the map is well-formed for it, and the dart is live: none of the refusals 2 to 8 is left
+-- what is asked of a site before the match: the scheme is accepted, the map is well-formed for it, and the dart is live
 pub record Sound (E : Site) : Type 0 where
   pub accepted : Accepted (E .scheme)
   pub well : WellFormed (E .scheme .n) (E .map)
