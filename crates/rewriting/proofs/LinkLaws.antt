@@ -1,15 +1,18 @@
 -- The laws of `links`, save `rewrite`: what its loops read and write in a turn.
 -- Assumes nothing.
 use Prim.Native.Nat.{ℕ, _+_, _*_, _-_, _≤_, _<_}
-use mathlib.Core.Path.{_≡_, ap, ap₂, _∙_}
+use mathlib.Core.Path.{_≡_, refl, ap, ap₂, _∙_}
+use mathlib.Core.Logic.{⊎-elim}
 use mathlib.Core.List.{List}
 use native.Mathlib.Omega.{arith}
 use lib.ListN.{getD}
-use borrow.Author.Tests.{lt-ltb, le-ltb, eq-eqb, ne-eqb}
+use lib.Dec.{ltb}
+use borrow.Author.Tests.{lt-ltb, le-ltb, ltb-false, eq-eqb, ne-eqb}
+use Rattle.base.proofs.TestLaws.{true-or-false}
 use Rattle.model.specs.Map.{Link, put}
 use Rattle.table.specs.Words.{blanked}
 use Rattle.orbit.specs.Store.{next, dartAt}
-use Rattle.rewriting.specs.Links.{overwritten, erased, followed, clearedBy, HoldsSlots, Turnable}
+use Rattle.rewriting.specs.Links.{placeBy, overwritten, erased, followed, clearedBy, HoldsSlots, Turnable}
 
 -- a link put by other names of its slot and its value, and a record of zeros by another name of its slot
 pub put-at : (t t′ : List ℕ) (i v w x y : ℕ) → t′ ≡ put t (Link i) x v → x ≡ y → v ≡ w → t′ ≡ put t (Link i) y w
@@ -28,16 +31,30 @@ pub slot-at : {N base size : ℕ} {store : List ℕ} (s : HoldsSlots N store bas
 unfolding dartAt
 slot-at s r x h e = rw e (s .slot r h)
 
-module _ (N : ℕ) (store : List ℕ) (r p q : ℕ) (e : q ≡ getD store (4 * N + 4 * r + p) 0) where
-  pub place-at : (size : ℕ) → Turnable N store size p → r < size → q < size
-  unfolding next
-  place-at size t h = rw e (t .place r h)
+module _ (N : ℕ) (store : List ℕ) (code r : ℕ) where
+  pub place-same : code < 16 → r ≡ placeBy N store code r
+  unfolding placeBy
+  place-same h = rw (lt-ltb code 16 h) refl
 
-  pub turned-at : (base : ℕ) → getD store (base + q) 0 ≡ dartAt store base (next N store r p)
-  unfolding next dartAt
-  turned-at base = ap (λ (z : ℕ). getD store (base + z) 0) e
+  pub place-by : (q : ℕ) → 16 ≤ code → q ≡ getD store (4 * N + 4 * r + (code - 16)) 0 → q ≡ placeBy N store code r
+  unfolding placeBy next
+  place-by q h e = rw (le-ltb code 16 h) e
+
+  pub place-below : (size : ℕ) → (16 ≤ code → Turnable N store size (code - 16)) → r < size → placeBy N store code r < size
+  unfolding placeBy
+  place-below size t h = ⊎-elim (λ e. rw e h) (λ e. rw e (t (ltb-false code 16 e) .place r h)) (true-or-false (ltb code 16))
 
 -- ---- an arc by its code
+
+module _ (N : ℕ) (store : List ℕ) (size i base to code : ℕ) (t t′ : List ℕ)
+    (e : t′ ≡ overwritten i (dartAt store base) (λ r. dartAt store to (placeBy N store code r)) size t) where
+  pub straight : code < 16 → t′ ≡ overwritten i (dartAt store base) (dartAt store to) size t
+  unfolding placeBy
+  straight h = e ∙ rw (lt-ltb code 16 h) refl
+
+  pub turned : 16 ≤ code → t′ ≡ overwritten i (dartAt store base) (λ r. dartAt store to (next N store r (code - 16))) size t
+  unfolding placeBy
+  turned h = e ∙ rw (le-ltb code 16 h) refl
 
 module _ (N : ℕ) (store : List ℕ) (size : ℕ) (cols : List ℕ) (i base code : ℕ) (t t′ : List ℕ) where
   pub by-node : code < 16 → t′ ≡ overwritten i (dartAt store base) (dartAt store (getD cols code 0)) size t

@@ -20,6 +20,10 @@ use Rattle.rewriting.specs.Darts.{Darts, Given}
 
 -- ---- what is written
 
+-- the place of which an arc with that code takes the dart at place r
+unfoldable pub placeBy : ℕ → List ℕ → ℕ → ℕ → ℕ
+placeBy N store code r = cond (ltb code 16) r (next N store r (code - 16))
+
 -- the i-links of the slots `at 0` .. `at (n - 1)` become `v 0` .. `v (n - 1)`
 unfoldable pub overwritten : ℕ → (ℕ → ℕ) → (ℕ → ℕ) → ℕ → List ℕ → List ℕ
 overwritten i at v n = steps n (λ r t. put t (Link i) (at r) (v r))

@@ -5,16 +5,27 @@ use orbit::store::word;
 use table::words::blank;
 use table::words::put_link;
 ghost use mathlib.Core.Path.{_≡_};
-ghost use Prim.Native.Nat.{_+_, _*_, _≤_, _<_};
+ghost use Prim.Native.Nat.{_+_, _*_, _-_, _≤_, _<_};
 ghost use lib.ListN.{length};
 ghost use Rattle.model.specs.Map.{tableOf};
 ghost use Rattle.model.specs.Edit.{edited};
 ghost use Rattle.table.specs.Words.{Sized};
-ghost use Rattle.orbit.specs.Store.{next, dartAt};
+ghost use Rattle.orbit.specs.Store.{dartAt};
 ghost use Rattle.orbit.specs.At.{site};
-ghost use Rattle.rewriting.specs.Links.{overwritten, erased, followed, relinked, cleared, HoldsSlots, Turnable, Legible, Columns, Codes, BeforeRewriting};
+ghost use Rattle.rewriting.specs.Links.{placeBy, overwritten, erased, followed, relinked, cleared, HoldsSlots, Turnable, Legible, Columns, Codes, BeforeRewriting};
 
-// The i-links of the darts of one node become the darts of another node, for the same orbit darts.
+// The place of which an arc takes the dart at place r: r itself where its code is a node, and by a position, that to which the link leads.
+fn place(slots: usize, store: &[u32], code: usize, r: usize) -> usize
+    requires { ⌜ (16 ≤ code → 4 * slots + 4 * r + (code - 16) < length (now store)) ⌝ }
+    ensures { λ q. ⌜ q ≡ placeBy slots (now (store .entry)) code r ⌝ }
+{
+    if code < 16 {
+        return r;
+    }
+    word(store, 4 * slots + 4 * r + (code - 16))
+}
+
+// The i-links of the darts of one node become the darts of a node, in the column at `to`, each at its place by the arc's code.
 fn join(
     slots: usize,
     table: &mut [u32],
@@ -23,43 +34,20 @@ fn join(
     i: usize,
     from: usize,
     to: usize,
+    code: usize,
 )
     requires { ⌜ Sized slots (now table) ⌝ }
     requires { ⌜ HoldsSlots slots (now store) from size ⌝ }
     requires { ⌜ (to + size ≤ length (now store)) × (i ≤ 3) ⌝ }
+    requires { ⌜ (16 ≤ code → Turnable slots (now store) size (code - 16)) ⌝ }
     ensures { λ _. ⌜ now (table .exit) ≡ overwritten i (dartAt (now (store .entry)) from)
-        (dartAt (now (store .entry)) to) size (now (table .entry)) ⌝ }
+        (λ r. dartAt (now (store .entry)) to (placeBy slots (now (store .entry)) code r)) size (now (table .entry)) ⌝ }
 {
     let mut r = 0;
     while r < size {
         let x = word(store, from + r);
-        put_link(slots, table, i, x, store[to + r]);
-        r += 1;
-    }
-}
-
-// The i-links of the darts of one node become the node's darts for the orbit darts to which the links at position p lead.
-fn turn(
-    slots: usize,
-    table: &mut [u32],
-    store: &[u32],
-    size: usize,
-    i: usize,
-    base: usize,
-    p: usize,
-)
-    requires { ⌜ Sized slots (now table) ⌝ }
-    requires { ⌜ HoldsSlots slots (now store) base size ⌝ }
-    requires { ⌜ Turnable slots (now store) size p ⌝ }
-    requires { ⌜ i ≤ 3 ⌝ }
-    ensures { λ _. ⌜ now (table .exit) ≡ overwritten i (dartAt (now (store .entry)) base)
-        (λ r. dartAt (now (store .entry)) base (next slots (now (store .entry)) r p)) size (now (table .entry)) ⌝ }
-{
-    let mut r = 0;
-    while r < size {
-        let x = word(store, base + r);
-        let q = word(store, 4 * slots + 4 * r + p);
-        put_link(slots, table, i, x, store[base + q]);
+        let q = place(slots, store, code, r);
+        put_link(slots, table, i, x, store[to + q]);
         r += 1;
     }
 }
@@ -97,9 +85,9 @@ fn follow(
         i base code (now (table .entry)) ⌝ }
 {
     if code < 16 {
-        join(slots, table, store, size, i, base, cols[code]);
+        join(slots, table, store, size, i, base, cols[code], code);
     } else if code < 255 {
-        turn(slots, table, store, size, i, base, code - 16);
+        join(slots, table, store, size, i, base, base, code);
     }
 }
 

@@ -1,8 +1,9 @@
 -- `rewriting::links::follow` meets its contract. Each return is one of the kinds of arcs.
 -- Assumes nothing.
 use mathlib.Core.Path.{refl}
+use native.Mathlib.Omega.{arith}
 use borrow.Author.Needs.{needs}
-use Rattle.rewriting.proofs.LinkLaws.{by-node, by-position, by-none}
+use Rattle.rewriting.proofs.LinkLaws.{straight, turned, by-node, by-position, by-none}
 use Rattle.rewriting.proofs.links.follow.Statement.{statement}
 use Rattle.rewriting.proofs.links.follow.Tie as tie
 
@@ -15,18 +16,21 @@ element-copy-out-join c = search needs
 join-requires : tie.Need-join-requires
 join-requires c κs =
     let pre = c .before .before .before .before .before .pre in
-    (pre .0, (pre .1 .0, (pre .1 .1 .0 .node (c .before .before .if1 .taken), pre .1 .1 .1)))
+    let h = c .before .before .if1 .taken in
+    (pre .0, (pre .1 .0, ((pre .1 .1 .0 .node h, pre .1 .1 .1), λ l. absurd (omega arith))))
 
-turn-requires : tie.Need-turn-requires
-turn-requires c κs =
+join-requires-2 : tie.Need-join-requires-2
+join-requires-2 c κs =
     let pre = c .before .before .before .before .before .pre in
-    (pre .0, (pre .1 .0, (pre .1 .1 .0 .position (c .before .before .if1 .left) (c .before .if2 .taken), pre .1 .1 .1)))
+    (pre .0, (pre .1 .0, ((pre .1 .0 .inside, pre .1 .1 .1), λ l. pre .1 .1 .0 .position l (c .before .if2 .taken))))
 
 same-length : tie.Need-same-length
 same-length c = search needs
 
 returns : tie.Need-returns
-returns c = by-node _ _ _ _ _ _ _ _ _ (c .before .before .before .before .before .if1 .taken) (c .before .before .join .ensures)
+returns c =
+    let h = c .before .before .before .before .before .if1 .taken in
+    by-node _ _ _ _ _ _ _ _ _ h (straight _ _ _ _ _ _ _ _ _ (c .before .before .join .ensures) h)
 
 same-length-2 : tie.Need-same-length-2
 same-length-2 c = search needs
@@ -34,7 +38,8 @@ same-length-2 c = search needs
 returns-2 : tie.Need-returns-2
 returns-2 c =
     let b = c .before .before .before .before in
-    by-position _ _ _ _ _ _ _ _ _ (b .before .if1 .left) (b .if2 .taken) (c .before .before .turn .ensures)
+    let h = b .before .if1 .left in
+    by-position _ _ _ _ _ _ _ _ _ h (b .if2 .taken) (turned _ _ _ _ _ _ _ _ _ (c .before .before .join2 .ensures) h)
 
 returns-3 : tie.Need-returns-3
 returns-3 c = by-none _ _ _ _ _ _ _ _ _ (c .if2 .left) refl
@@ -46,7 +51,7 @@ follow-spec =
     mul-join
     element-copy-out-join
     join-requires
-    turn-requires
+    join-requires-2
     same-length
     returns
     same-length-2

@@ -1,22 +1,24 @@
 -- `rewriting::links::join` meets its contract. The loop's invariant: the links are written for the first r darts.
 -- Assumes nothing.
-use Prim.Native.Nat.{_-_}
-use mathlib.Core.Path.{refl}
+use Prim.Native.Nat.{_-_, _<_}
+use mathlib.Core.Path.{ap}
+use native.Mathlib.Omega.{arith}
 use borrow.Author.Needs.{needs}
+use denote.Ref.{now}
 use Rattle.model.specs.Map.{Link, put}
 use Rattle.table.proofs.StageLaws.{Stage, stage-none, stage-more, stage-length, stage-done}
 use Rattle.orbit.specs.Store.{dartAt}
-use Rattle.rewriting.specs.Links.{overwritten}
-use Rattle.rewriting.proofs.LinkLaws.{put-at, slot-at}
+use Rattle.rewriting.specs.Links.{placeBy, overwritten}
+use Rattle.rewriting.proofs.LinkLaws.{put-at, slot-at, place-below}
 use Rattle.rewriting.proofs.links.join.Statement.{statement}
 use Rattle.rewriting.proofs.links.join.Tie as tie
 
 abbrev Inv-loop : tie.InvT-loop
-Inv-loop slots table₀ store size i from to r₀ table r =
-    Stage slots table₀ (λ k t. put t (Link i) (dartAt store from k) (dartAt store to k)) size r table
+Inv-loop slots table₀ store size i from to code r₀ table r =
+    Stage slots table₀ (λ k t. put t (Link i) (dartAt store from k) (dartAt store to (placeBy slots store code k))) size r table
 
 abbrev μ-loop : tie.MeasureT-loop
-μ-loop slots table₀ store size i from to r₀ table r = size - r
+μ-loop slots table₀ store size i from to code r₀ table r = size - r
 
 loop-holds : tie.Need-loop-holds Inv-loop μ-loop
 loop-holds c = stage-none (c .before .before .pre .0)
@@ -27,21 +29,32 @@ add-word c = search needs
 word-requires : tie.Need-word-requires Inv-loop μ-loop
 word-requires c κs = search needs
 
+place-requires : tie.Need-place-requires Inv-loop μ-loop
+place-requires c κs = λ h.
+    let t = c .before .before .before .before .before .pre .1 .1 .1 h in
+    omega (arith, t .long, t .fits, t .position, c .before .loop-test .taken)
+
+-- the place that the code gives
+below : (c : tie.After-place Inv-loop μ-loop) → c .place .result < c .before .before .before .before .before .before .args .size
+below c =
+    let s = c .before .before .before .before .before .before in
+    rw (c .place .ensures) (place-below _ _ _ _ _ (s .pre .1 .1 .1) (c .before .before .loop-test .taken))
+
 add-put-link : tie.Need-add-put-link Inv-loop μ-loop
-add-put-link c = search needs
+add-put-link c = omega (arith, below (c .before))
 
 mul-put-link : tie.Need-mul-put-link Inv-loop μ-loop
-mul-put-link c = search needs
+mul-put-link c = omega (arith, below (c .before))
 
 shared-slice-read-put-link : tie.Need-shared-slice-read-put-link Inv-loop μ-loop
-shared-slice-read-put-link c = search needs
+shared-slice-read-put-link c = omega (arith, below (c .before .before))
 
 put-link-requires : tie.Need-put-link-requires Inv-loop μ-loop
 put-link-requires c κs =
-    let w = c .before .before in
+    let w = c .before .before .before in
     let l = w .before .before in
     let pre = l .before .before .before .pre in
-    (l .loop .inv .sized, (slot-at (pre .1 .0) _ _ (w .before .loop-test .taken) (w .word .ensures), pre .1 .1 .1))
+    (l .loop .inv .sized, (slot-at (pre .1 .0) _ _ (w .before .loop-test .taken) (w .word .ensures), pre .1 .1 .0 .1))
 
 add-r : tie.Need-add-r Inv-loop μ-loop
 add-r c = search needs
@@ -52,10 +65,12 @@ loop-less c = search needs
 loop-again : tie.Need-loop-again Inv-loop μ-loop
 unfolding dartAt
 loop-again c =
-    let w = c .before .before .before .before .before in
+    let p = c .before .before .before .before .before in
+    let w = p .before in
     let l = w .before .before in
+    let a = l .before .before .before .args in
     stage-more (l .loop .inv) (w .before .loop-test .taken) (c .before .before .put-link .kept .1 .0)
-    (put-at _ _ _ _ _ _ _ (c .before .before .put-link .ensures) (w .word .ensures) refl)
+    (put-at _ _ _ _ _ _ _ (c .before .before .put-link .ensures) (w .word .ensures) (ap (dartAt (now (a .store)) (a .to)) (p .place .ensures)))
 
 same-length : tie.Need-same-length Inv-loop μ-loop
 same-length c = stage-length (c .before .loop .inv) (c .before .before .before .before .pre .0)
@@ -73,6 +88,7 @@ join-spec =
     loop-holds
     add-word
     word-requires
+    place-requires
     add-put-link
     mul-put-link
     shared-slice-read-put-link
