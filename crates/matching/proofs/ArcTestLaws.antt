@@ -80,7 +80,8 @@ module _ (m : Map) (s : List ℕ) (size : ℕ) (dims cols : List ℕ) (j i from 
     unfolding explicitTest
     explicit-tree ne x d q = sym (or-left _ (or-right _ (and-of (rw (ne-eqb j 0 ne)) (rw (← d) (eq-eqb x i q)))))
 
-    pub explicit-tested : (r : Bool) → to ≤ from → ((j ≡ 0) ⊎ (getD dims j 0 ≡ i → ⊥)) → r ≡ follows m s size i from to (λ q. q) → r ≡ explicitTest m s size dims cols j i from t
+    pub explicit-tested : (r : Bool) → to ≤ from → ((j ≡ 0) ⊎ (getD dims j 0 ≡ i → ⊥)) → r ≡ follows m s size i from to (λ q. q) → r
+        ≡ explicitTest m s size dims cols j i from t
     unfolding explicitTest _or_
     explicit-tested r h other f = rw (← e, le-ltb from to h, not-tree other) f
 
@@ -97,7 +98,8 @@ module _ (m : Map) (s : List ℕ) (size : ℕ) (dims cols : List ℕ) (j i from 
     unfolding codeTest implicitTest _or_
     code-hook h z = rw (ne-eqb code 255 some, le-ltb code 16 h, eq-eqb j 0 z)
 
-    pub code-implicit : (r : Bool) → 16 ≤ code → (j ≡ 0 → ⊥) → r ≡ follows m s size i from from (λ q. next (m .slots) s q (code - 16)) → r ≡ codeTest m s size dims cols j i from code
+    pub code-implicit : (r : Bool) → 16 ≤ code → (j ≡ 0 → ⊥) → r ≡ follows m s size i from from (λ q. next (m .slots) s q (code - 16)) → r
+        ≡ codeTest m s size dims cols j i from code
     unfolding codeTest implicitTest _or_
     code-implicit r h ne e = rw (ne-eqb code 255 some, le-ltb code 16 h, ne-eqb j 0 ne) e
 
@@ -124,7 +126,8 @@ module _ (m : Map) (s : List ℕ) (size : ℕ) (nodes dims codes cols : List ℕ
     unfolding arcsTest
     arcs-stop h bound l = all-stops _ k bound l (sym e ∙ h)
 
-  pub arcs-done : (k bound : ℕ) → k ≤ bound → bound ≤ k → arcsTest m s size nodes dims codes cols k ≡ true → true ≡ arcsTest m s size nodes dims codes cols bound
+  pub arcs-done : (k bound : ℕ) → k ≤ bound → bound ≤ k → arcsTest m s size nodes dims codes cols k ≡ true → true
+      ≡ arcsTest m s size nodes dims codes cols bound
   unfolding arcsTest
   arcs-done k bound h l e = all-ends _ k bound e h l
 

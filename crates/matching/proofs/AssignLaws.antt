@@ -344,7 +344,8 @@ module _ {N : ℕ} {t s : List ℕ} {size : ℕ} {nodes parents dims : List ℕ}
           ap (m .link i) (found-is u v e)
           ∙ by-cases (ℕ-discrete v 0)
           (λ z. subst (λ (x : ℕ). m .link (word S left x p) (at x r) ≡ at x (next N s′ r p)) (sym z)
-          (ap₂ (λ (x y : ℕ). m .link x y) (accepted .hooks 0 (first-hook S) .word p k) (hook-at r (rank-below u e)) ∙ sym (g .1) ∙ sym (hook-at (next N s′ r p) (g .0))))
+          (ap₂ (λ (x y : ℕ). m .link x y) (accepted .hooks 0 (first-hook S) .word p k) (hook-at r (rank-below u e)) ∙ sym (g .1)
+          ∙ sym (hook-at (next N s′ r p) (g .0))))
           (λ ne. turn-at v i p r h l ne few (rank-below u e) (implicit-at S left single v i p h k low refl))
           ∙ sym (found-at v (next N s′ r p) (g .0)) ∙ ap (λ (x : ℕ). found x v) to;
       different = λ u b e v h l x c f w k o same.

@@ -120,12 +120,14 @@ module _ (m : Map) (i from : ℕ) (s : List ℕ) (end : ℕ) where
           let N = m .slots in
           let fits = p .taken .fits in
           let t : Taken N (pushed N s′ (end + r) y) (end + r + 1) = subst (λ (z : List ℕ). Taken N z (end + r + 1)) (p .is) (p .taken) in
-          let place-other : (e : ℕ) → e ≢ end + r → place N s″ e ≡ place N s′ e = λ e ne. ap (λ (z : List ℕ). place N z e) (p .is) ∙ pushed-place-other N s′ (end + r) y e l ne in
+          let place-other : (e : ℕ) → e ≢ end + r → place N s″ e ≡ place N s′ e =
+          λ e ne. ap (λ (z : List ℕ). place N z e) (p .is) ∙ pushed-place-other N s′ (end + r) y e l ne in
           record {
             taken = let same : end + (r + 1) ≡ end + r + 1 = omega arith in rw same (p .taken);
             longer = record {
               places = λ e h. place-other e (λ q. absurd (omega arith)) ∙ c .longer .places e h;
-              rest = λ k h. ap (λ (z : List ℕ). getD z k 0) (p .is) ∙ pushed-other N s′ (end + r) y k (λ q. absurd (omega arith)) (λ q. absurd (omega arith)) ∙ c .longer .rest k h;
+              rest = λ k h. ap (λ (z : List ℕ). getD z k 0) (p .is)
+                  ∙ pushed-other N s′ (end + r) y k (λ q. absurd (omega arith)) (λ q. absurd (omega arith)) ∙ c .longer .rest k h;
             };
             darts = λ q h. by-cases (ℕ-discrete q r)
                 (λ e. rw e (ap (λ (z : List ℕ). place N z (end + r)) (p .is) ∙ pushed-place N s′ (end + r) y (c .taken) l ∙ at))

@@ -46,8 +46,11 @@ module _ (S : Scheme) (A : Accepted S) where
       root = T .root;
       onLeft = λ k h. (T .below k h, entry-left k h);
       arc = λ k l h.
-          let b = T .branch k l h in
-          (subst (λ (i : ℕ). i ≤ S .n) (b .joined .dimIs) (A .shaped .sides left .dims (b .joined .arc) (b .joined .below)), end-arc (b .joined .arc) _ _ _ (b .joined .below) (b .joined .dimIs) (b .joined .ends));
+          let b = T .branch k l h in (
+            subst (λ (i : ℕ). i ≤ S .n) (b .joined .dimIs) (A .shaped .sides left .dims (b .joined .arc) (b .joined .below)),
+            end-arc (b .joined .arc)
+                _ _ _ (b .joined .below) (b .joined .dimIs) (b .joined .ends),
+          );
       earlier = λ k l h. let b = T .branch k l h in (b .earlier, b .before, b .parentIs);
       once = T .once;
       every = λ s h l. T .entry s (reached-found S (A .shaped) (A .reach s h l));

@@ -150,8 +150,11 @@ module _ (N : ℕ) (s : List ℕ) (end y : ℕ) where
             let at : mark (pushed N s end y) x - 1 ≡ end = omega arith in
             (omega arith, ap (place N (pushed N s end y)) at ∙ pushed-place ∙ sym q))
             (λ ne. let mx : mark (pushed N s end y) x ≡ mark s x = pushed-mark-other x h ne in
-            let f = t .found x h (omega arith) in
-            (omega (arith, f .0), ap (λ (z : ℕ). place N (pushed N s end y) (z - 1)) mx ∙ pushed-place-other (mark s x - 1) l (λ q. absurd (omega (arith, f .0))) ∙ f .1));
+            let f = t .found x h (omega arith) in (
+              omega (arith, f .0),
+              ap (λ (z : ℕ). place N (pushed N s end y) (z - 1)) mx
+                  ∙ pushed-place-other (mark s x - 1) l (λ q. absurd (omega (arith, f .0))) ∙ f .1,
+            ));
         total = omega (arith, more, t .total);
       }
 

@@ -90,7 +90,8 @@ module _ (m : Map) (dim : ℕ → ℕ) (head : ℕ) (s : List ℕ) (tail : ℕ) 
         links = below-more _ p
             (λ q l.
             let w = x .links q l in
-            let same : getD b (4 * m .slots + 4 * head + q) 0 ≡ getD a (4 * m .slots + 4 * head + q) 0 = f .others _ (omega arith) (λ z. absurd (omega arith)) in
+            let same : getD b (4 * m .slots + 4 * head + q) 0 ≡ getD a (4 * m .slots + 4 * head + q) 0 =
+            f .others _ (omega arith) (λ z. absurd (omega arith)) in
             (omega (arith, w .0), ap (place (m .slots) b) same ∙ h .places _ (w .0) ∙ w .1))
             (f .leads .0, f .leads .1 ∙ led);
         earlier = λ r q l u. f .others _ (omega arith) (λ z. absurd (omega arith)) ∙ x .earlier r q l u;

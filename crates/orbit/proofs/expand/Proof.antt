@@ -90,8 +90,11 @@ loop-less c = omega arith
 loop-again : tie.Need-loop-again Inv-loop μ-loop
 loop-again c =
     let k = c .before .before .before .before in
-    let l = k .before .before in
-    (expanded-more _ _ _ _ _ _ _ _ _ _ _ _ (omega arith) (x-is (l .before .before)) (k .link .ensures) (l .before .loop .inv .0) (c .before .before .follow .ensures), omega arith)
+    let l = k .before .before in (
+      expanded-more _ _ _ _ _ _ _ _ _ _ _ _ (omega arith) (x-is (l .before .before)) (k .link .ensures) (l .before .loop .inv .0)
+          (c .before .before .follow .ensures),
+      omega arith,
+    )
 
 same-length : tie.Need-same-length Inv-loop μ-loop
 same-length c = omega arith
@@ -101,23 +104,5 @@ returns c = let e : c .before .loop .p ≡ start (c .before .before) .args .k = 
 
 pub expand-spec : {M : Type 1} → statement M
 expand-spec =
-    tie.close
-    (tie.spec
-    Inv-loop
-    μ-loop
-    add-word
-    word-requires
-    mul-at
-    mul-at-2
-    add-at
-    loop-holds
-    element-copy-out-i
-    cast-i
-    link-requires
-    add-follow
-    follow-requires
-    add-p
-    loop-less
-    loop-again
-    same-length
-    returns)
+    tie.close (tie.spec Inv-loop μ-loop add-word word-requires mul-at mul-at-2 add-at loop-holds element-copy-out-i cast-i link-requires
+    add-follow follow-requires add-p loop-less loop-again same-length returns)

@@ -57,15 +57,5 @@ returns-2 c =
 
 pub follow-spec : {M : Type 1} → statement M
 follow-spec =
-    tie.close
-    (tie.spec
-    word-requires
-    sub-keep
-    keep-requires
-    same-length
-    returns
-    push-requires
-    keep-requires-2
-    add-result
-    same-length-2
+    tie.close (tie.spec word-requires sub-keep keep-requires same-length returns push-requires keep-requires-2 add-result same-length-2
     returns-2)

@@ -61,15 +61,4 @@ returns c =
 
 pub walk-spec : {M : Type 1} → statement M
 walk-spec =
-    tie.close
-    (tie.spec
-    Inv-loop
-    μ-loop
-    push-requires
-    loop-holds
-    expand-requires
-    add-head
-    loop-less
-    loop-again
-    same-length
-    returns)
+    tie.close (tie.spec Inv-loop μ-loop push-requires loop-holds expand-requires add-head loop-less loop-again same-length returns)

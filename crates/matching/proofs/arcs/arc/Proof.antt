@@ -48,8 +48,10 @@ explicit-requires c κs =
     let k = c .before .before .before in
     let w = k .before .before in
     let a = w .before .before .before .before in
-    let f = a .pre .0 in
-    (firm-explicit _ _ _ _ _ _ _ _ f _ _ (a .pre .1 .0) (a .pre .1 .1) _ (w .wide .ensures .0) _ (k .wide2 .ensures .0) (c .if2 .taken), (omega (arith, f .entries), c .if2 .taken))
+    let f = a .pre .0 in (
+      firm-explicit _ _ _ _ _ _ _ _ f _ _ (a .pre .1 .0) (a .pre .1 .1) _ (w .wide .ensures .0) _ (k .wide2 .ensures .0) (c .if2 .taken),
+      (omega (arith, f .entries), c .if2 .taken),
+    )
 
 returns-2 : tie.Need-returns-2
 returns-2 c =
@@ -73,7 +75,8 @@ turned-requires c κs =
     let k = e .before in
     let w = k .before .before in
     let a = w .before .before .before .before in
-    firm-implicit _ _ _ _ _ _ _ _ (a .pre .0) _ _ (a .pre .1 .0) (a .pre .1 .1) _ (w .wide .ensures .0) _ (k .wide2 .ensures .0) (c .before .if2 .left) (e .if1 .left)
+    firm-implicit _ _ _ _ _ _ _ _ (a .pre .0) _ _ (a .pre .1 .0) (a .pre .1 .1) _ (w .wide .ensures .0) _ (k .wide2 .ensures .0)
+    (c .before .if2 .left) (e .if1 .left)
 
 returns-4 : tie.Need-returns-4
 returns-4 c =
@@ -86,19 +89,5 @@ returns-4 c =
 
 pub arc-spec : {M : Type 1} → statement M
 arc-spec =
-    tie.close
-    (tie.spec
-    element-copy-out-wide
-    wide-requires
-    mul-wide
-    add-wide
-    element-copy-out-wide-2
-    wide-requires-2
-    returns
-    mul-from
-    element-copy-out-from
-    explicit-requires
-    returns-2
-    returns-3
-    turned-requires
-    returns-4)
+    tie.close (tie.spec element-copy-out-wide wide-requires mul-wide add-wide element-copy-out-wide-2 wide-requires-2 returns mul-from
+    element-copy-out-from explicit-requires returns-2 returns-3 turned-requires returns-4)

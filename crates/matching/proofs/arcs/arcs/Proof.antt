@@ -46,15 +46,4 @@ returns-2 c =
 
 pub arcs-spec : {M : Type 1} → statement M
 arcs-spec =
-    tie.close
-    (tie.spec
-    Inv-loop
-    μ-loop
-    loop-holds
-    mul-loop
-    arc-requires
-    returns
-    add-k
-    loop-less
-    loop-again
-    returns-2)
+    tie.close (tie.spec Inv-loop μ-loop loop-holds mul-loop arc-requires returns add-k loop-less loop-again returns-2)

@@ -35,13 +35,4 @@ returns-3 c =
 
 pub explicit-spec : {M : Type 1} → statement M
 explicit-spec =
-    tie.close
-    (tie.spec
-    mul-to
-    element-copy-out-to
-    returns
-    element-copy-out-wide
-    wide-requires
-    returns-2
-    straight-requires
-    returns-3)
+    tie.close (tie.spec mul-to element-copy-out-to returns element-copy-out-wide wide-requires returns-2 straight-requires returns-3)

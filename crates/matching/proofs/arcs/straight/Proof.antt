@@ -41,7 +41,8 @@ word-requires-2 c κs = search needs
 returns : tie.Need-returns Inv-loop μ-loop
 returns c =
     let w = c .before .before .before in
-    follows-stop _ _ _ _ _ _ _ _ _ _ (w .word .ensures) (c .before .before .link .ensures) (c .before .word2 .ensures) _ (omega (arith, w .before .loop-test .taken)) (ne-eqb _ _ (c .if1 .taken))
+    follows-stop _ _ _ _ _ _ _ _ _ _ (w .word .ensures) (c .before .before .link .ensures) (c .before .word2 .ensures) _
+    (omega (arith, w .before .loop-test .taken)) (ne-eqb _ _ (c .if1 .taken))
 
 add-r : tie.Need-add-r Inv-loop μ-loop
 add-r c = search needs
@@ -51,8 +52,11 @@ loop-less c = omega arith
 
 loop-again : tie.Need-loop-again Inv-loop μ-loop
 loop-again c =
-    let w = c .before .before .before in
-    (omega arith, follows-more _ _ _ _ _ _ _ _ _ _ (w .word .ensures) (c .before .before .link .ensures) (c .before .word2 .ensures) (c .if1 .left) (w .before .before .loop .inv .1))
+    let w = c .before .before .before in (
+      omega arith,
+      follows-more _ _ _ _ _ _ _ _ _ _ (w .word .ensures) (c .before .before .link .ensures) (c .before .word2 .ensures) (c .if1 .left)
+          (w .before .before .loop .inv .1),
+    )
 
 returns-2 : tie.Need-returns-2 Inv-loop μ-loop
 returns-2 c =
@@ -61,18 +65,5 @@ returns-2 c =
 
 pub straight-spec : {M : Type 1} → statement M
 straight-spec =
-    tie.close
-    (tie.spec
-    Inv-loop
-    μ-loop
-    loop-holds
-    add-word
-    word-requires
-    link-requires
-    add-word-2
-    word-requires-2
-    returns
-    add-r
-    loop-less
-    loop-again
-    returns-2)
+    tie.close (tie.spec Inv-loop μ-loop loop-holds add-word word-requires link-requires add-word-2 word-requires-2 returns add-r loop-less
+    loop-again returns-2)

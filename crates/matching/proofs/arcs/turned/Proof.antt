@@ -87,23 +87,5 @@ returns-2 c =
 
 pub turned-spec : {M : Type 1} → statement M
 turned-spec =
-    tie.close
-    (tie.spec
-    Inv-loop
-    μ-loop
-    loop-holds
-    mul-word
-    mul-word-2
-    add-word
-    add-word-2
-    word-requires
-    add-word-3
-    word-requires-2
-    link-requires
-    add-word-4
-    word-requires-3
-    returns
-    add-r
-    loop-less
-    loop-again
-    returns-2)
+    tie.close (tie.spec Inv-loop μ-loop loop-holds mul-word mul-word-2 add-word add-word-2 word-requires add-word-3 word-requires-2
+    link-requires add-word-4 word-requires-3 returns add-r loop-less loop-again returns-2)

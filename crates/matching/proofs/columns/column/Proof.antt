@@ -21,7 +21,8 @@ below c =
     let l = c .before .before .before in
     let a = l .before .before .before .before in
     let inside = a .pre .1 .1 .0 in
-    column-below _ _ _ _ _ _ _ (l .before .loop .inv .1) (inside .2) (omega arith) _ _ (c .before .word .ensures) (c .link .ensures) _ (l .loop-test .taken) (a .pre .1 .1 .1)
+    column-below _ _ _ _ _ _ _ (l .before .loop .inv .1) (inside .2) (omega arith) _ _ (c .before .word .ensures) (c .link .ensures) _
+    (l .loop-test .taken) (a .pre .1 .1 .1)
 
 loop-holds : tie.Need-loop-holds Inv-loop μ-loop
 loop-holds c = (omega arith, column-none _ _ _ _ _ (c .before .before .pre .1 .0))
@@ -50,7 +51,8 @@ returns c =
     let k = c .before .before .before in
     let l = k .before .before .before in
     let inside = l .before .before .before .before .pre .1 .1 .0 in
-    column-clash _ _ _ _ _ _ _ (l .before .loop .inv .1) (inside .2) (omega arith) _ _ (k .before .word .ensures) (k .link .ensures) _ _ (l .loop-test .taken) (c .before .word2 .ensures) (c .if1 .taken)
+    column-clash _ _ _ _ _ _ _ (l .before .loop .inv .1) (inside .2) (omega arith) _ _ (k .before .word .ensures) (k .link .ensures) _ _
+    (l .loop-test .taken) (c .before .word2 .ensures) (c .if1 .taken)
 
 add-push : tie.Need-add-push Inv-loop μ-loop
 add-push c = search needs
@@ -73,8 +75,11 @@ loop-again c =
     let p = c .before .before in
     let k = p .before .before .before .before .before in
     let l = k .before .before .before in
-    let inside = l .before .before .before .before .pre .1 .1 .0 in
-    (omega arith, column-more _ _ _ _ _ _ _ (l .before .loop .inv .1) (inside .2) (omega arith) _ _ (k .before .word .ensures) (k .link .ensures) _ (below k) (p .push .ensures))
+    let inside = l .before .before .before .before .pre .1 .1 .0 in (
+      omega arith,
+      column-more _ _ _ _ _ _ _ (l .before .loop .inv .1) (inside .2) (omega arith) _ _ (k .before .word .ensures) (k .link .ensures) _
+          (below k) (p .push .ensures),
+    )
 
 same-length-2 : tie.Need-same-length-2 Inv-loop μ-loop
 same-length-2 c = search needs
@@ -86,21 +91,5 @@ returns-2 c =
 
 pub column-spec : {M : Type 1} → statement M
 column-spec =
-    tie.close
-    (tie.spec
-    Inv-loop
-    μ-loop
-    loop-holds
-    add-word
-    word-requires
-    link-requires
-    word-requires-2
-    same-length
-    returns
-    add-push
-    push-requires
-    add-r
-    loop-less
-    loop-again
-    same-length-2
-    returns-2)
+    tie.close (tie.spec Inv-loop μ-loop loop-holds add-word word-requires link-requires word-requires-2 same-length returns add-push
+    push-requires add-r loop-less loop-again same-length-2 returns-2)

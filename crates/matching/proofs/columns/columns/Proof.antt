@@ -128,29 +128,6 @@ returns-2 c =
 
 pub columns-spec : {M : Type 1} → statement M
 columns-spec =
-    tie.close
-    (tie.spec
-    Inv-loop
-    μ-loop
-    element-write-cols
-    loop-holds
-    element-copy-out-wide
-    wide-requires
-    mul-from
-    element-copy-out-from
-    element-copy-out-wide-2
-    wide-requires-2
-    column-requires
-    same-length
-    returns
-    add-cols
-    element-copy-out-wide-3
-    wide-requires-3
-    mul-cols
-    element-write-cols-2
-    add-end
-    add-k
-    loop-less
-    loop-again
-    same-length-2
-    returns-2)
+    tie.close (tie.spec Inv-loop μ-loop element-write-cols loop-holds element-copy-out-wide wide-requires mul-from element-copy-out-from
+    element-copy-out-wide-2 wide-requires-2 column-requires same-length returns add-cols element-copy-out-wide-3 wide-requires-3 mul-cols
+    element-write-cols-2 add-end add-k loop-less loop-again same-length-2 returns-2)

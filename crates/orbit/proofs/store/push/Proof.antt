@@ -23,7 +23,8 @@ same-length c = search needs
 returns : tie.Need-returns
 returns c =
     let b = c .before .before .before .before .before .before .before .before .before in
-    push-done _ _ _ _ (b .pre .1 .0) (b .pre .1 .1 .0) (b .pre .1 .1 .1) (c .before .before .before .before .before .before .keep .ensures) (c .before .before .keep2 .ensures)
+    push-done _ _ _ _ (b .pre .1 .0) (b .pre .1 .1 .0) (b .pre .1 .1 .1) (c .before .before .before .before .before .before .keep .ensures)
+    (c .before .before .keep2 .ensures)
 
 pub push-spec : {M : Type 1} → statement M
 push-spec =

@@ -32,5 +32,4 @@ returns c =
 
 pub unmark-spec : {M : Type 1} → statement M
 unmark-spec =
-    tie.close
-    (tie.spec slice-relend-prefix-clear slice-aggregate-clear clear-requires same-length returns)
+    tie.close (tie.spec slice-relend-prefix-clear slice-aggregate-clear clear-requires same-length returns)

@@ -60,17 +60,5 @@ returns c = stage-done (c .before .loop .inv) (c .loop-test .left)
 
 pub clear-spec : {M : Type 1} → statement M
 clear-spec =
-    tie.close
-    (tie.spec
-    Inv-loop
-    μ-loop
-    loop-holds
-    element-copy-out-if1
-    mul-erase
-    element-copy-out-erase
-    erase-requires
-    add-v
-    loop-less
-    loop-again
-    same-length
-    returns)
+    tie.close (tie.spec Inv-loop μ-loop loop-holds element-copy-out-if1 mul-erase element-copy-out-erase erase-requires add-v loop-less
+    loop-again same-length returns)

@@ -53,16 +53,4 @@ returns c = stage-done (c .before .loop .inv) (c .loop-test .left)
 
 pub erase-spec : {M : Type 1} → statement M
 erase-spec =
-    tie.close
-    (tie.spec
-    Inv-loop
-    μ-loop
-    loop-holds
-    add-word
-    word-requires
-    blank-requires
-    add-r
-    loop-less
-    loop-again
-    same-length
-    returns)
+    tie.close (tie.spec Inv-loop μ-loop loop-holds add-word word-requires blank-requires add-r loop-less loop-again same-length returns)

@@ -46,14 +46,4 @@ returns-3 c = by-none _ _ _ _ _ _ _ _ _ (c .if2 .left) refl
 
 pub follow-spec : {M : Type 1} → statement M
 follow-spec =
-    tie.close
-    (tie.spec
-    mul-join
-    element-copy-out-join
-    join-requires
-    join-requires-2
-    same-length
-    returns
-    same-length-2
-    returns-2
-    returns-3)
+    tie.close (tie.spec mul-join element-copy-out-join join-requires join-requires-2 same-length returns same-length-2 returns-2 returns-3)

@@ -81,20 +81,5 @@ returns c = stage-done (c .before .loop .inv) (c .loop-test .left)
 
 pub join-spec : {M : Type 1} → statement M
 join-spec =
-    tie.close
-    (tie.spec
-    Inv-loop
-    μ-loop
-    loop-holds
-    add-word
-    word-requires
-    place-requires
-    add-put-link
-    mul-put-link
-    shared-slice-read-put-link
-    put-link-requires
-    add-r
-    loop-less
-    loop-again
-    same-length
-    returns)
+    tie.close (tie.spec Inv-loop μ-loop loop-holds add-word word-requires place-requires add-put-link mul-put-link shared-slice-read-put-link
+    put-link-requires add-r loop-less loop-again same-length returns)

@@ -65,19 +65,5 @@ returns c = stage-done (c .before .loop .inv) (c .loop-test .left)
 
 pub relink-spec : {M : Type 1} → statement M
 relink-spec =
-    tie.close
-    (tie.spec
-    Inv-loop
-    μ-loop
-    loop-holds
-    mul-loop
-    mul-follow
-    element-copy-out-follow
-    element-copy-out-wide
-    wide-requires
-    follow-requires
-    add-k
-    loop-less
-    loop-again
-    same-length
-    returns)
+    tie.close (tie.spec Inv-loop μ-loop loop-holds mul-loop mul-follow element-copy-out-follow element-copy-out-wide wide-requires
+    follow-requires add-k loop-less loop-again same-length returns)

@@ -90,21 +90,5 @@ returns c = λ B. passed-all (B .grant) (c .before .loop .inv B) (c .loop-test .
 
 pub block-spec : {M : Type 1} → statement M
 block-spec =
-    tie.close
-    (tie.spec
-    Inv-loop
-    μ-loop
-    loop-holds
-    cast-t
-    shl-rest
-    sub-rest
-    mul-u
-    add-u
-    word-requires
-    sub-r
-    row-requires
-    loop-less
-    loop-again
-    same-length
-    same-length-2
-    returns)
+    tie.close (tie.spec Inv-loop μ-loop loop-holds cast-t shl-rest sub-rest mul-u add-u word-requires sub-r row-requires loop-less loop-again
+    same-length same-length-2 returns)

@@ -28,10 +28,12 @@ mul-cols : tie.Need-mul-cols Inv-loop μ-loop
 mul-cols c = search needs
 
 mul-cols-2 : tie.Need-mul-cols-2 Inv-loop μ-loop
-mul-cols-2 c = let l = c .before .before in omega (arith, l .before .pre .0 .slots, column-fits _ _ _ _ (l .before .pre .0) (l .loop .a) (c .before .loop-test .taken))
+mul-cols-2 c = let l = c .before .before in
+    omega (arith, l .before .pre .0 .slots, column-fits _ _ _ _ (l .before .pre .0) (l .loop .a) (c .before .loop-test .taken))
 
 add-cols : tie.Need-add-cols Inv-loop μ-loop
-add-cols c = let l = c .before .before in omega (arith, l .before .pre .0 .slots, column-fits _ _ _ _ (l .before .pre .0) (l .loop .a) (c .before .loop-test .taken))
+add-cols c = let l = c .before .before in
+    omega (arith, l .before .pre .0 .slots, column-fits _ _ _ _ (l .before .pre .0) (l .loop .a) (c .before .loop-test .taken))
 
 mul-cols-3 : tie.Need-mul-cols-3 Inv-loop μ-loop
 mul-cols-3 c = let l = c .before .before in omega (arith, l .before .pre .0 .below (l .loop .a) (c .before .loop-test .taken))
@@ -59,19 +61,5 @@ returns c =
 
 pub columns-spec : {M : Type 1} → statement M
 columns-spec =
-    tie.close
-    (tie.spec
-    Inv-loop
-    μ-loop
-    loop-holds
-    element-copy-out-s
-    cast-s
-    mul-cols
-    mul-cols-2
-    add-cols
-    mul-cols-3
-    element-write-cols
-    add-a
-    loop-less
-    loop-again
-    returns)
+    tie.close (tie.spec Inv-loop μ-loop loop-holds element-copy-out-s cast-s mul-cols mul-cols-2 add-cols mul-cols-3 element-write-cols add-a
+    loop-less loop-again returns)

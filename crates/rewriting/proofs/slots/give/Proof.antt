@@ -83,20 +83,5 @@ returns-2 c =
 
 pub give-spec : {M : Type 1} → statement M
 give-spec =
-    tie.close
-    (tie.spec
-    Inv-loop
-    μ-loop
-    columns-requires
-    returns
-    mark-bits-requires
-    loop-holds
-    mul-digits
-    array-read-digits
-    block-requires
-    add-w
-    loop-less
-    loop-again
-    same-length
-    same-length-2
-    returns-2)
+    tie.close (tie.spec Inv-loop μ-loop columns-requires returns mark-bits-requires loop-holds mul-digits array-read-digits block-requires add-w
+    loop-less loop-again same-length same-length-2 returns-2)

@@ -1,4 +1,5 @@
--- `rewriting::slots::lowest` meets its contract. The loop's invariant is `Scanned`: no slot from `from` to before y is unused. Each test that fails takes it one slot on.
+-- `rewriting::slots::lowest` meets its contract. The loop's invariant is `Scanned`: no slot from `from` to before y is unused. Each test that fails
+-- takes it one slot on.
 -- Assumes nothing.
 use Prim.Native.Nat.{ℕ, _+_, _-_, _≤_, _<_}
 use mathlib.Core.Path.{refl}
@@ -36,7 +37,8 @@ past-4 : (c : tie.Else4 Inv-loop μ-loop) → Past (c .before .before .before .b
 past-4 c = scan-more (past-3 (c .before .before)) _ _ (c .before .state4 .ensures) (c .if4 .left) (omega arith)
 
 -- so y + k can be tested
-inside : (l : tie.At-loop Inv-loop μ-loop) (k : ℕ) → Past l k → Sized (start l .args .slots) (now (start l .args .table)) × (l .loop .y + k < start l .args .slots)
+inside : (l : tie.At-loop Inv-loop μ-loop) (k : ℕ) → Past l k → Sized (start l .args .slots) (now (start l .args .table))
+    × (l .loop .y + k < start l .args .slots)
 inside l k p = (start l .pre .0, scan-inside p (start l .pre .1))
 
 fits : (l : tie.At-loop Inv-loop μ-loop) (k : ℕ) → Past l k → (l .loop .y + k < start l .args .slots) × (start l .args .slots ≤ maxSlots)
@@ -70,7 +72,8 @@ add-result-2 : tie.Need-add-result-2 Inv-loop μ-loop
 add-result-2 c = omega (arith, fits (c .before .before .before .before .before .before) 2 (past-2 (c .before .before)))
 
 returns-2 : tie.Need-returns-2 Inv-loop μ-loop
-returns-2 c = scan-found (past-2 (c .before .before)) _ (start (c .before .before .before .before .before .before) .pre .1) (c .before .state3 .ensures) (c .if3 .taken)
+returns-2 c = scan-found (past-2 (c .before .before)) _ (start (c .before .before .before .before .before .before) .pre .1)
+    (c .before .state3 .ensures) (c .if3 .taken)
 
 add-state-3 : tie.Need-add-state-3 Inv-loop μ-loop
 add-state-3 c = omega (arith, fits (c .before .before .before .before .before .before) 3 (past-3 c))
@@ -82,7 +85,8 @@ add-result-3 : tie.Need-add-result-3 Inv-loop μ-loop
 add-result-3 c = omega (arith, fits (c .before .before .before .before .before .before .before .before) 3 (past-3 (c .before .before)))
 
 returns-3 : tie.Need-returns-3 Inv-loop μ-loop
-returns-3 c = scan-found (past-3 (c .before .before)) _ (start (c .before .before .before .before .before .before .before .before) .pre .1) (c .before .state4 .ensures) (c .if4 .taken)
+returns-3 c = scan-found (past-3 (c .before .before)) _ (start (c .before .before .before .before .before .before .before .before) .pre .1)
+    (c .before .state4 .ensures) (c .if4 .taken)
 
 add-y : tie.Need-add-y Inv-loop μ-loop
 add-y c = omega (arith, fits (c .before .before .before .before .before .before .before .before) 4 (past-4 c))
@@ -98,25 +102,5 @@ returns-4 c = let l = c .before .before in scan-found (l .loop .inv) _ (start l 
 
 pub lowest-spec : {M : Type 1} → statement M
 lowest-spec =
-    tie.close
-    (tie.spec
-    Inv-loop
-    μ-loop
-    loop-holds
-    state-requires
-    add-state
-    state-requires-2
-    add-result
-    returns
-    add-state-2
-    state-requires-3
-    add-result-2
-    returns-2
-    add-state-3
-    state-requires-4
-    add-result-3
-    returns-3
-    add-y
-    loop-less
-    loop-again
-    returns-4)
+    tie.close (tie.spec Inv-loop μ-loop loop-holds state-requires add-state state-requires-2 add-result returns add-state-2 state-requires-3
+    add-result-2 returns-2 add-state-3 state-requires-4 add-result-3 returns-3 add-y loop-less loop-again returns-4)

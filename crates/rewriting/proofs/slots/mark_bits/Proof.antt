@@ -71,20 +71,5 @@ returns c =
 
 pub mark-bits-spec : {M : Type 1} → statement M
 mark-bits-spec =
-    tie.close
-    (tie.spec
-    Inv-loop
-    μ-loop
-    loop-holds
-    add-word
-    word-requires
-    mul-bits
-    element-copy-out-bits
-    shl-bits
-    add-bits
-    mul-bits-2
-    element-write-bits
-    add-r
-    loop-less
-    loop-again
-    returns)
+    tie.close (tie.spec Inv-loop μ-loop loop-holds add-word word-requires mul-bits element-copy-out-bits shl-bits add-bits mul-bits-2
+    element-write-bits add-r loop-less loop-again returns)

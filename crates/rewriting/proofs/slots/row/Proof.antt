@@ -103,23 +103,5 @@ returns c = let l = c .before in λ T. turn-done T (l .loop .inv .0) (c .loop-te
 
 pub row-spec : {M : Type 1} → statement M
 row-spec =
-    tie.close
-    (tie.spec
-    Inv-loop
-    μ-loop
-    tag-requires
-    loop-holds
-    lowest-requires
-    revive-requires
-    mul-keep
-    mul-keep-2
-    add-keep
-    add-keep-2
-    keep-requires
-    add-from
-    add-a
-    loop-less
-    loop-again
-    same-length
-    same-length-2
-    returns)
+    tie.close (tie.spec Inv-loop μ-loop tag-requires loop-holds lowest-requires revive-requires mul-keep mul-keep-2 add-keep add-keep-2
+    keep-requires add-from add-a loop-less loop-again same-length same-length-2 returns)
