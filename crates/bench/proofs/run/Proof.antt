@@ -20,19 +20,10 @@ laid c = laid-of _ _ _ (c .layout .given .1) (c .before .before .frame .ensures)
 frame-requires : tie.Need-frame-requires
 frame-requires c κs = search needs
 
-enum-known-layout : tie.Need-enum-known-layout
-enum-known-layout c = search needs
-
-enum-told : tie.Need-enum-told
-enum-told c = search needs
-
 refused-line-requires : tie.Need-refused-line-requires
 refused-line-requires c κs =
     let s = c .before .before .before .before .before .before in
     refused-room (now (s .args .input)) (now (s .args .out)) 11 (omega arith) (s .pre)
-
-same-length : tie.Need-same-length
-same-length c = search needs
 
 returns : tie.Need-returns
 returns c =
@@ -45,9 +36,6 @@ refused-line-requires-2 : tie.Need-refused-line-requires-2
 refused-line-requires-2 c κs =
     let s = c .before .before .before .before .before .before .before .before .before in
     refused-room (now (s .args .input)) (now (s .args .out)) 11 (omega arith) (s .pre)
-
-same-length-2 : tie.Need-same-length-2
-same-length-2 c = search needs
 
 returns-2 : tie.Need-returns-2
 returns-2 c =
@@ -62,9 +50,6 @@ refused-line-requires-3 : tie.Need-refused-line-requires-3
 refused-line-requires-3 c κs =
     let s = c .before .before .before .before .before .before .before .before .before .before .before in
     refused-room (now (s .args .input)) (now (s .args .out)) _ (omega arith) (s .pre)
-
-same-length-3 : tie.Need-same-length-3
-same-length-3 c = search needs
 
 returns-3 : tie.Need-returns-3
 returns-3 c =
@@ -115,9 +100,6 @@ session-requires c κs =
       ),
     )
 
-same-length-4 : tie.Need-same-length-4
-same-length-4 c = search needs
-
 returns-4 : tie.Need-returns-4
 returns-4 c =
     let s = c .before .before .before .before in
@@ -126,7 +108,7 @@ returns-4 c =
 
 pub run-spec : {M : Type 1} → statement M
 run-spec =
-    tie.close (tie.spec frame-requires enum-known-layout enum-told refused-line-requires same-length returns refused-line-requires-2
-    same-length-2 returns-2 two-requires refused-line-requires-3 same-length-3 returns-3 size-requires cast-places mul-places
-    array-borrow-prefix-table slice-aggregate-session array-borrow-prefix-store slice-aggregate-session-2 session-requires same-length-4
-    returns-4)
+    tie.close (tie.spec frame-requires (λ c. search needs) (λ c. search needs) refused-line-requires (λ c. search needs) returns
+    refused-line-requires-2 (λ c. search needs) returns-2 two-requires refused-line-requires-3 (λ c. search needs) returns-3 size-requires
+    cast-places mul-places array-borrow-prefix-table slice-aggregate-session array-borrow-prefix-store slice-aggregate-session-2 session-requires
+    (λ c. search needs) returns-4)

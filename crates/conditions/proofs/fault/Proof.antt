@@ -8,14 +8,8 @@ use Rattle.conditions.proofs.fault.Tie as tie
 hook-fault-requires : tie.Need-hook-fault-requires
 hook-fault-requires c κs = search needs
 
-enum-known-hook : tie.Need-enum-known-hook
-enum-known-hook c = search needs
-
 returns : tie.Need-returns
 returns c = fault-hook _ _ _ _ _ _ _ _ _ _ _ _ (c .before .before .before .hook-fault .ensures) _ (c .before .hook .given .1)
-
-enum-told : tie.Need-enum-told
-enum-told c = search needs
 
 arcs-fault-requires : tie.Need-arcs-fault-requires
 arcs-fault-requires c κs = search needs
@@ -25,4 +19,4 @@ returns-2 c = fault-arcs _ _ _ _ _ _ _ _ _ _ _ _ (c .before .before .before .hoo
 
 pub fault-spec : {M : Type 1} → statement M
 fault-spec =
-    tie.close (tie.spec hook-fault-requires enum-known-hook returns enum-told arcs-fault-requires returns-2)
+    tie.close (tie.spec hook-fault-requires (λ c. search needs) returns (λ c. search needs) arcs-fault-requires returns-2)

@@ -46,12 +46,6 @@ assign-requires c κs =
     let w = walking (here b) (places l .wide .ensures .0) (l .walk .ensures .0) (l .walk .ensures .1) in
     match-ready (here b) w (b .pre .1 .1 .0) _ refl
 
-same-length : tie.Need-same-length
-same-length c = search needs
-
-same-length-2 : tie.Need-same-length-2
-same-length-2 c = search needs
-
 returns : tie.Need-returns
 returns c =
     let a = c .before .before .before in
@@ -76,9 +70,6 @@ settle-requires c κs =
     settle-ready (here b) w (p .0) (a .assign .ensures .at (match-ready (here b) w (p .0) _ refl)) (not-false _ (e .if1 .left))
     (n .wide2 .ensures .0) (p .1 .0)
 
-same-length-3 : tie.Need-same-length-3
-same-length-3 c = search needs
-
 same-length-4 : tie.Need-same-length-4
 same-length-4 c =
     let r = c .before .before .before .before in
@@ -102,5 +93,5 @@ returns-2 c =
 
 pub apply-spec : {M : Type 1} → statement M
 apply-spec =
-    tie.close (tie.spec unmark-requires wide-requires walk-requires assign-requires same-length same-length-2 returns wide-requires-2
-    settle-requires same-length-3 same-length-4 returns-2)
+    tie.close (tie.spec unmark-requires wide-requires walk-requires assign-requires (λ c. search needs) (λ c. search needs) returns
+    wide-requires-2 settle-requires (λ c. search needs) same-length-4 returns-2)

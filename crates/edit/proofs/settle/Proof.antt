@@ -67,12 +67,6 @@ mul-t30 c = record { fits = omega (arith, gone-few (room-left (given (c .before 
 cast-t31 : tie.Need-cast-t31
 cast-t31 c = record { fits = omega (arith, gone-few (room-left (given (c .before .before .before)) .before)) }
 
-same-length : tie.Need-same-length
-same-length c = search needs
-
-same-length-2 : tie.Need-same-length-2
-same-length-2 c = search needs
-
 returns-2 : tie.Need-returns-2
 returns-2 c =
     let r = c .before .before .before in
@@ -86,4 +80,4 @@ returns-2 c =
 pub settle-spec : {M : Type 1} → statement M
 settle-spec =
     tie.close (tie.spec of-kind-requires of-kind-requires-2 mul-if1 returns give-requires rewrite-requires cast-t28 mul-t14 cast-t29 mul-t30
-    cast-t31 same-length same-length-2 returns-2)
+    cast-t31 (λ c. search needs) (λ c. search needs) returns-2)

@@ -15,14 +15,8 @@ clear-requires c κs = search needs
 frame-requires : tie.Need-frame-requires
 frame-requires c κs = three-le (c .before .before .before .before .before .before .pre .0)
 
-enum-known-found : tie.Need-enum-known-found
-enum-known-found c = search needs
-
 ascending-requires : tie.Need-ascending-requires
 ascending-requires c κs = darts-fit _ _ _ _ (c .before .before .before .frame .ensures) _ (c .before .found .given .1)
-
-same-length : tie.Need-same-length
-same-length c = search needs
 
 returns : tie.Need-returns
 returns c =
@@ -46,20 +40,11 @@ fill-requires c κs =
       ),
     )
 
-enum-told : tie.Need-enum-told
-enum-told c = search needs
-
-same-length-2 : tie.Need-same-length-2
-same-length-2 c = search needs
-
 returns-2 : tie.Need-returns-2
 returns-2 c =
     let a = c .before .before .before .before .before in
     load-done _ _ _ _ (a .before .before .before .before .frame .ensures) _ (a .before .before .found .given .1) _ (a .ascending .ensures) _ _
     (c .before .before .before .before .if1 .left) (c .before .before .fill .ensures)
-
-same-length-3 : tie.Need-same-length-3
-same-length-3 c = search needs
 
 returns-3 : tie.Need-returns-3
 returns-3 c =
@@ -68,5 +53,5 @@ returns-3 c =
 
 pub load-spec : {M : Type 1} → statement M
 load-spec =
-    tie.close (tie.spec clear-requires frame-requires enum-known-found ascending-requires same-length returns fill-requires enum-told
-    same-length-2 returns-2 same-length-3 returns-3)
+    tie.close (tie.spec clear-requires frame-requires (λ c. search needs) ascending-requires (λ c. search needs) returns fill-requires
+    (λ c. search needs) (λ c. search needs) returns-2 (λ c. search needs) returns-3)

@@ -60,9 +60,6 @@ section-requires-3 c κs =
     let a = c .before .before .before .before .before .before .before .before .before .before .before .before .before .before .before .pre in
     (a .0, (a .1 .0, (a .1 .1 .0, section-room _ _ (small (a .0)) Links _ (a .1 .1 .0) _ (a .1 .1 .1) _ _ (tagged (c .before .before .before)))))
 
-same-length : tie.Need-same-length
-same-length c = search needs
-
 returns : tie.Need-returns
 returns c =
     let e = c .before .before in
@@ -71,4 +68,4 @@ returns c =
 
 pub write-spec : {M : Type 1} → statement M
 write-spec =
-    tie.close (tie.spec head-requires section-requires section-requires-2 section-requires-3 same-length returns)
+    tie.close (tie.spec head-requires section-requires section-requires-2 section-requires-3 (λ c. search needs) returns)

@@ -42,23 +42,11 @@ rights-told c = counted _ _ 0 64 3 (lefts-told (before-rights c) .1) refl refl (
 head-requires : tie.Need-head-requires
 head-requires c κs = search needs
 
-enum-known-n : tie.Need-enum-known-n
-enum-known-n c = search needs
-
-enum-told : tie.Need-enum-told
-enum-told c = search needs
-
 returns : tie.Need-returns
 returns c = rw (c .enum-told .given .1) at (c .before .before .head .ensures)
 
 count-requires : tie.Need-count-requires
 count-requires c κs = search needs
-
-enum-known-lcount : tie.Need-enum-known-lcount
-enum-known-lcount c = search needs
-
-enum-told-2 : tie.Need-enum-told-2
-enum-told-2 c = search needs
 
 returns-2 : tie.Need-returns-2
 returns-2 c = let h = head-told (c .before .before .before) in no-arcs _ left
@@ -66,12 +54,6 @@ returns-2 c = let h = head-told (c .before .before .before) in no-arcs _ left
 
 count-requires-2 : tie.Need-count-requires-2
 count-requires-2 c κs = search needs
-
-enum-known-rcount : tie.Need-enum-known-rcount
-enum-known-rcount c = search needs
-
-enum-told-3 : tie.Need-enum-told-3
-enum-told-3 c = search needs
 
 returns-3 : tie.Need-returns-3
 returns-3 c = let h = lefts-told (c .before .before .before) in no-arcs _ right
@@ -101,5 +83,5 @@ returns-5 c =
 
 pub frame-spec : {M : Type 1} → statement M
 frame-spec =
-    tie.close (tie.spec head-requires enum-known-n enum-told returns count-requires enum-known-lcount enum-told-2 returns-2 count-requires-2
-    enum-known-rcount enum-told-3 returns-3 returns-4 returns-5)
+    tie.close (tie.spec head-requires (λ c. search needs) (λ c. search needs) returns count-requires (λ c. search needs) (λ c. search needs)
+    returns-2 count-requires-2 (λ c. search needs) (λ c. search needs) returns-3 returns-4 returns-5)

@@ -38,12 +38,6 @@ places-told c =
 byte-requires : tie.Need-byte-requires
 byte-requires c κs = search needs
 
-enum-known-n : tie.Need-enum-known-n
-enum-known-n c = search needs
-
-enum-told : tie.Need-enum-told
-enum-told c = search needs
-
 returns : tie.Need-returns
 returns c = no-bytes _ (ended _ (c .before .before .byte .ensures) (c .enum-told .given .1))
 
@@ -59,12 +53,6 @@ add-count c = search needs
 count-requires : tie.Need-count-requires
 count-requires c κs = search needs
 
-enum-known-places : tie.Need-enum-known-places
-enum-known-places c = search needs
-
-enum-told-2 : tie.Need-enum-told-2
-enum-told-2 c = search needs
-
 returns-4 : tie.Need-returns-4
 returns-4 c = let t = took (c .before .before .before .before .before) in no-places _
     (uncounted _ 1 0 _ 1 (t .2) (ap (λ (n : ℕ). n + 1) (t .1)) refl (c .before .before .count .ensures) (c .enum-told2 .given .1))
@@ -77,12 +65,6 @@ add-count-2 c = let p = places-told c in let f = p .2 in let t = took (before-pl
 
 count-requires-2 : tie.Need-count-requires-2
 count-requires-2 c κs = search needs
-
-enum-known-nodes : tie.Need-enum-known-nodes
-enum-known-nodes c = search needs
-
-enum-told-3 : tie.Need-enum-told-3
-enum-told-3 c = search needs
 
 returns-5 : tie.Need-returns-5
 returns-5 c = let p = places-told (c .before .before .before) in no-nodes _
@@ -111,5 +93,6 @@ returns-6 c =
 
 pub head-spec : {M : Type 1} → statement M
 head-spec =
-    tie.close (tie.spec byte-requires enum-known-n enum-told returns returns-2 returns-3 add-count count-requires enum-known-places enum-told-2
-    returns-4 mul-count add-count-2 count-requires-2 enum-known-nodes enum-told-3 returns-5 returns-6)
+    tie.close (tie.spec byte-requires (λ c. search needs) (λ c. search needs) returns returns-2 returns-3 add-count count-requires
+    (λ c. search needs) (λ c. search needs) returns-4 mul-count add-count-2 count-requires-2 (λ c. search needs) (λ c. search needs) returns-5
+    returns-6)

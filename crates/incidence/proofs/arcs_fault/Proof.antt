@@ -11,16 +11,10 @@ wide-requires c κs = search needs
 unbalanced-requires : tie.Need-unbalanced-requires
 unbalanced-requires c κs = search needs
 
-enum-known-bad : tie.Need-enum-known-bad
-enum-known-bad c = search needs
-
 returns : tie.Need-returns
 returns c =
     let u = c .before .before .before in
     answer-incidence _ _ _ _ _ _ _ _ _ (u .before .wide .ensures .0) _ (u .unbalanced .ensures) _ (c .before .bad .given .1)
-
-enum-told : tie.Need-enum-told
-enum-told c = search needs
 
 cycle-fault-requires : tie.Need-cycle-fault-requires
 cycle-fault-requires c κs = search needs
@@ -33,4 +27,4 @@ returns-2 c =
 
 pub arcs-fault-spec : {M : Type 1} → statement M
 arcs-fault-spec =
-    tie.close (tie.spec wide-requires unbalanced-requires enum-known-bad returns enum-told cycle-fault-requires returns-2)
+    tie.close (tie.spec wide-requires unbalanced-requires (λ c. search needs) returns (λ c. search needs) cycle-fault-requires returns-2)

@@ -19,17 +19,11 @@ sized c = sym (c .before .sizes .ensures) ∙ not-false _ (c .if1 .left)
 sizes-requires : tie.Need-sizes-requires
 sizes-requires c κs = search needs
 
-same-length : tie.Need-same-length
-same-length c = search needs
-
 returns : tie.Need-returns
 returns c = edit-bad-sizes _ _ _ _ _ _ (sym (c .before .sizes .ensures) ∙ not-true _ (c .if1 .taken))
 
 mul-if2 : tie.Need-mul-if2
 mul-if2 c = search needs
-
-same-length-2 : tie.Need-same-length-2
-same-length-2 c = search needs
 
 returns-2 : tie.Need-returns-2
 returns-2 c = edit-bad-store _ _ _ _ _ _ (c .if2 .taken)
@@ -44,12 +38,6 @@ staged-requires c κs =
 clear-requires : tie.Need-clear-requires
 clear-requires c κs = search needs
 
-same-length-3 : tie.Need-same-length-3
-same-length-3 c = search needs
-
-same-length-4 : tie.Need-same-length-4
-same-length-4 c = search needs
-
 returns-3 : tie.Need-returns-3
 returns-3 c =
     let k = c .before .before in
@@ -60,5 +48,5 @@ returns-3 c =
 
 pub edit-spec : {M : Type 1} → statement M
 edit-spec =
-    tie.close (tie.spec sizes-requires same-length returns mul-if2 same-length-2 returns-2 staged-requires clear-requires same-length-3
-    same-length-4 returns-3)
+    tie.close (tie.spec sizes-requires (λ c. search needs) returns mul-if2 (λ c. search needs) returns-2 staged-requires clear-requires
+    (λ c. search needs) (λ c. search needs) returns-3)

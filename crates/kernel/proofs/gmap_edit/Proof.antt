@@ -14,16 +14,10 @@ edit-requires c κs = search needs
 pack-requires : tie.Need-pack-requires
 pack-requires c κs = let e = c .before .before .before .before in subst Small (sym (answers-same (e .edit .ensures .answer))) (edit-small _ _ _ _ _ _)
 
-same-length : tie.Need-same-length
-same-length c = search needs
-
-same-length-2 : tie.Need-same-length-2
-same-length-2 c = search needs
-
 returns : tie.Need-returns
 returns c =
     let p = c .before .before .before .before .before .edit .ensures in
     record { word = c .pack .ensures ∙ ap packed (answers-same (p .answer)); table = p .table; cleared = p .cleared }
 
 pub gmap-edit-spec : {M : Type 1} → statement M
-gmap-edit-spec = tie.close (tie.spec edit-requires pack-requires same-length same-length-2 returns)
+gmap-edit-spec = tie.close (tie.spec edit-requires pack-requires (λ c. search needs) (λ c. search needs) returns)

@@ -14,11 +14,8 @@ read-requires c κs = search needs
 pack-requires : tie.Need-pack-requires
 pack-requires c κs = subst Small (sym (answers-same (c .before .before .read .ensures .answer))) (read-small _ _ _ _)
 
-same-length : tie.Need-same-length
-same-length c = search needs
-
 returns : tie.Need-returns
 returns c = let r = c .before .before .before .read .ensures in record { word = c .pack .ensures ∙ ap packed (answers-same (r .answer)); table = r .table }
 
 pub gmap-read-spec : {M : Type 1} → statement M
-gmap-read-spec = tie.close (tie.spec read-requires pack-requires same-length returns)
+gmap-read-spec = tie.close (tie.spec read-requires pack-requires (λ c. search needs) returns)

@@ -14,11 +14,8 @@ write-requires c κs = search needs
 pack-requires : tie.Need-pack-requires
 pack-requires c κs = subst Small (sym (answers-same (c .before .before .write .ensures .answer))) (write-small _ _ _ _)
 
-same-length : tie.Need-same-length
-same-length c = search needs
-
 returns : tie.Need-returns
 returns c = let r = c .before .before .before .write .ensures in record { word = c .pack .ensures ∙ ap packed (answers-same (r .answer)); output = r .output }
 
 pub gmap-write-spec : {M : Type 1} → statement M
-gmap-write-spec = tie.close (tie.spec write-requires pack-requires same-length returns)
+gmap-write-spec = tie.close (tie.spec write-requires pack-requires (λ c. search needs) returns)

@@ -23,17 +23,11 @@ formed c = sym (c .before .before .before .load .ensures .0) ∙ not-false _ (c 
 sizes-requires : tie.Need-sizes-requires
 sizes-requires c κs = search needs
 
-same-length : tie.Need-same-length
-same-length c = search needs
-
 returns : tie.Need-returns
 returns c = read-kept (read-1 _ _ _ _ (sym (c .before .sizes .ensures) ∙ not-true _ (c .if1 .taken)))
 
 load-requires : tie.Need-load-requires
 load-requires c κs = let a = c .before .before .before .before .before .before .args in sizes-read (a .n) (a .slots) (now (a .table)) (sized (c .before))
-
-same-length-2 : tie.Need-same-length-2
-same-length-2 c = search needs
 
 returns-2 : tie.Need-returns-2
 returns-2 c =
@@ -45,17 +39,8 @@ survey-requires c κs =
     let l = c .before .before .before .before in
     filled-sizes _ _ _ _ (sized (l .before .before)) _ (formed (c .before)) (l .load .ensures .1)
 
-enum-told : tie.Need-enum-told
-enum-told c = search needs
-
-enum-told-2 : tie.Need-enum-told-2
-enum-told-2 c = search needs
-
 clear-requires : tie.Need-clear-requires
 clear-requires c κs = search needs
-
-same-length-3 : tie.Need-same-length-3
-same-length-3 c = search needs
 
 returns-3 : tie.Need-returns-3
 returns-3 c =
@@ -63,9 +48,6 @@ returns-3 c =
     let l = s .before .before .before .before .before in
     read-kept (read-0 _ _ _ _ (sized (l .before .before)) _ (formed (s .before .before)) (l .load .ensures .1)
     (survey-live _ _ _ (s .survey .ensures) (c .enum-told .given .0 .0) (c .enum-told .given .1) .0))
-
-same-length-4 : tie.Need-same-length-4
-same-length-4 c = search needs
 
 returns-4 : tie.Need-returns-4
 returns-4 c =
@@ -76,5 +58,5 @@ returns-4 c =
 
 pub read-spec : {M : Type 1} → statement M
 read-spec =
-    tie.close (tie.spec sizes-requires same-length returns load-requires same-length-2 returns-2 survey-requires enum-told enum-told-2
-    clear-requires same-length-3 returns-3 same-length-4 returns-4)
+    tie.close (tie.spec sizes-requires (λ c. search needs) returns load-requires (λ c. search needs) returns-2 survey-requires (λ c. search needs)
+    (λ c. search needs) clear-requires (λ c. search needs) returns-3 (λ c. search needs) returns-4)

@@ -32,9 +32,6 @@ returns c = write-kept (write-1 _ _ _ _ (sym (c .before .sizes .ensures) ∙ not
 survey-requires : tie.Need-survey-requires
 survey-requires c κs = let a = c .before .before .before .before .args in sizes-read (a .n) (a .slots) (now (a .table)) (sized c)
 
-enum-known-found : tie.Need-enum-known-found
-enum-known-found c = search needs
-
 size-requires : tie.Need-size-requires
 size-requires c κs =
     let a = c .before .before .before .before .before .before .before .before .args in
@@ -65,12 +62,6 @@ write-requires c κs =
 cast-t17 : tie.Need-cast-t17
 cast-t17 c = omega (arith, c .before .before .before .before .before .size .ensures .1)
 
-enum-told : tie.Need-enum-told
-enum-told c = search needs
-
-same-length : tie.Need-same-length
-same-length c = search needs
-
 returns-3 : tie.Need-returns-3
 returns-3 c =
     let b = c .before .before .before .before in
@@ -85,5 +76,5 @@ returns-4 c = write-kept (write-7 _ _ _ _ (sized (c .before .before .before))
 
 pub write-spec : {M : Type 1} → statement M
 write-spec =
-    tie.close (tie.spec sizes-requires returns survey-requires enum-known-found size-requires returns-2 write-requires cast-t17 enum-told
-    same-length returns-3 returns-4)
+    tie.close (tie.spec sizes-requires returns survey-requires (λ c. search needs) size-requires returns-2 write-requires cast-t17
+    (λ c. search needs) (λ c. search needs) returns-3 returns-4)

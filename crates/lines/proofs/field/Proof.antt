@@ -17,11 +17,8 @@ decimal-requires c κs =
     let s = t .before .before .before .before in
     room-left (now (s .args .out)) _ (now (s .args .lead)) (decimal (s .args .v)) _ _ (t .text .ensures) (s .pre)
 
-same-length : tie.Need-same-length
-same-length c = search needs
-
 returns : tie.Need-returns
 returns c = put-then _ _ _ _ _ _ _ _ (c .before .before .before .before .before .before .text .ensures) (c .before .before .decimal .ensures)
 
 pub field-spec : {M : Type 1} → statement M
-field-spec = tie.close (tie.spec text-requires decimal-requires same-length returns)
+field-spec = tie.close (tie.spec text-requires decimal-requires (λ c. search needs) returns)

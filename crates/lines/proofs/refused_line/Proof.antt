@@ -21,12 +21,9 @@ text-requires c κs =
     let s = f .before .before .before .before in
     omega (arith, s .pre, f .field .ensures .after, f .field .kept .0, refused-length (s .args .number))
 
-same-length : tie.Need-same-length
-same-length c = search needs
-
 returns : tie.Need-returns
 returns c = refused-put _ _ _ _ _ _ _ (c .before .before .before .before .before .before .before .field .ensures) (c .before .before .text .ensures)
 
 pub refused-line-spec : {M : Type 1} → statement M
 refused-line-spec =
-    tie.close (tie.spec slice-aggregate-field field-requires slice-aggregate-text text-requires same-length returns)
+    tie.close (tie.spec slice-aggregate-field field-requires slice-aggregate-text text-requires (λ c. search needs) returns)

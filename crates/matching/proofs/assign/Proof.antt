@@ -9,9 +9,6 @@ use Rattle.matching.proofs.assign.Tie as tie
 columns-requires : tie.Need-columns-requires
 columns-requires c κs = search needs
 
-same-length : tie.Need-same-length
-same-length c = search needs
-
 returns : tie.Need-returns
 returns c =
     let k = c .before .before .before in
@@ -24,9 +21,6 @@ arcs-requires c κs =
     let p = k .before .before .before .before .before .pre in
     firm (p .ready) (k .columns .ensures .done (not-false _ (e .if1 .left))) (p .coded)
 
-same-length-2 : tie.Need-same-length-2
-same-length-2 c = search needs
-
 returns-2 : tie.Need-returns-2
 returns-2 c =
     let e = c .before .before .before in
@@ -35,4 +29,4 @@ returns-2 c =
 
 pub assign-spec : {M : Type 1} → statement M
 assign-spec =
-    tie.close (tie.spec columns-requires same-length returns arcs-requires same-length-2 returns-2)
+    tie.close (tie.spec columns-requires (λ c. search needs) returns arcs-requires (λ c. search needs) returns-2)

@@ -23,9 +23,6 @@ keep-requires c κs =
     let a = b .args in
     omega (arith, mark-le (a .slots) (now (a .store)) (a .end) (b .pre .1 .0) (a .y) (b .pre .1 .1 .0))
 
-same-length : tie.Need-same-length
-same-length c = search needs
-
 returns : tie.Need-returns
 unfolding mark
 returns c =
@@ -46,9 +43,6 @@ keep-requires-2 c κs = search needs
 add-result : tie.Need-add-result
 add-result c = search needs
 
-same-length-2 : tie.Need-same-length-2
-same-length-2 c = search needs
-
 returns-2 : tie.Need-returns-2
 returns-2 c =
     let u = c .before .before .before .before .before .before in
@@ -57,5 +51,5 @@ returns-2 c =
 
 pub follow-spec : {M : Type 1} → statement M
 follow-spec =
-    tie.close (tie.spec word-requires sub-keep keep-requires same-length returns push-requires keep-requires-2 add-result same-length-2
-    returns-2)
+    tie.close (tie.spec word-requires sub-keep keep-requires (λ c. search needs) returns push-requires keep-requires-2 add-result
+    (λ c. search needs) returns-2)

@@ -35,12 +35,6 @@ nodes c = sym (c .before .before .read-nodes .ensures .0) ∙ not-false _ (c .if
 frame-requires : tie.Need-frame-requires
 frame-requires c κs = search needs
 
-enum-known-l : tie.Need-enum-known-l
-enum-known-l c = search needs
-
-enum-told : tie.Need-enum-told
-enum-told c = search needs
-
 refused-requires : tie.Need-refused-requires
 refused-requires c κs = search needs
 
@@ -121,6 +115,6 @@ returns-6 c =
 
 pub read-spec : {M : Type 1} → statement M
 read-spec =
-    tie.close (tie.spec frame-requires enum-known-l enum-told refused-requires returns read-orbit-requires refused-requires-2 returns-2
-    read-nodes-requires refused-requires-3 returns-3 read-arcs-requires refused-requires-4 returns-4 read-arcs-requires-2 refused-requires-5
-    returns-5 returns-6)
+    tie.close (tie.spec frame-requires (λ c. search needs) (λ c. search needs) refused-requires returns read-orbit-requires refused-requires-2
+    returns-2 read-nodes-requires refused-requires-3 returns-3 read-arcs-requires refused-requires-4 returns-4 read-arcs-requires-2
+    refused-requires-5 returns-5 returns-6)

@@ -50,12 +50,6 @@ none-shown NoRoom h = (refl, refl, refl)
 none-shown BadFile h = (refl, refl, refl)
 none-shown ShortOutput h = (refl, refl, refl)
 
-enum-known-a : tie.Need-enum-known-a
-enum-known-a c = search needs
-
-enum-known-a-2 : tie.Need-enum-known-a-2
-enum-known-a-2 c = search needs
-
 returns : tie.Need-returns
 returns c = rw (c .before .a .given .1) (refl, refl, refl)
 
@@ -66,4 +60,4 @@ returns-3 : tie.Need-returns-3
 returns-3 c = none-shown (c .before .args .a) (c .match .keys3)
 
 pub shown-spec : {M : Type 1} → statement M
-shown-spec = tie.close (tie.spec enum-known-a enum-known-a-2 returns returns-2 returns-3)
+shown-spec = tie.close (tie.spec (λ c. search needs) (λ c. search needs) returns returns-2 returns-3)

@@ -23,12 +23,6 @@ part-edit-end c = search needs
 edit-requires : tie.Need-edit-requires
 edit-requires c κs = search needs
 
-same-length : tie.Need-same-length
-same-length c = search needs
-
-same-length-2 : tie.Need-same-length-2
-same-length-2 c = search needs
-
 returns : tie.Need-returns
 returns c =
     let r = c .before .before .before .before in
@@ -37,4 +31,4 @@ returns c =
 
 pub edit-spec : {M : Type 1} → statement M
 edit-spec =
-    tie.close (tie.spec add-start add-end sub-edit part-edit-start part-edit-end edit-requires same-length same-length-2 returns)
+    tie.close (tie.spec add-start add-end sub-edit part-edit-start part-edit-end edit-requires (λ c. search needs) (λ c. search needs) returns)

@@ -20,9 +20,6 @@ part-read-end c = search needs
 read-requires : tie.Need-read-requires
 read-requires c κs = search needs
 
-same-length : tie.Need-same-length
-same-length c = search needs
-
 returns : tie.Need-returns
 returns c =
     let r = c .before .before in
@@ -31,4 +28,4 @@ returns c =
 
 pub load-spec : {M : Type 1} → statement M
 load-spec =
-    tie.close (tie.spec add-end sub-read part-read-start part-read-end read-requires same-length returns)
+    tie.close (tie.spec add-end sub-read part-read-start part-read-end read-requires (λ c. search needs) returns)

@@ -54,12 +54,6 @@ refused-line-requires c κs =
     refused-room (now (s .args .input)) (now (s .args .out)) _
     (few (c .before .before .before .before .before .load .result) _ (c .before .before .number .ensures)) (s .pre .1 .1 .1)
 
-same-length : tie.Need-same-length
-same-length c = search needs
-
-same-length-2 : tie.Need-same-length-2
-same-length-2 c = search needs
-
 returns : tie.Need-returns
 returns c =
     let k = c .before .before .before .before .before in
@@ -96,15 +90,6 @@ last-line-requires c κs =
     last-room (now (s .args .input)) (e .edits .last .1 .1 .1 .1 .1 .1 .0) _ (s .args .layout .darts) _ _ (e .edits .ensures .1 .0) (s .pre .0 .dartsFit)
     (tally-few _ _ _ (c .before .before .before .tally .ensures) small) (tally-few _ _ _ (c .before .tally2 .ensures) small) room
 
-same-length-3 : tie.Need-same-length-3
-same-length-3 c = search needs
-
-same-length-4 : tie.Need-same-length-4
-same-length-4 c = search needs
-
-same-length-5 : tie.Need-same-length-5
-same-length-5 c = search needs
-
 returns-2 : tie.Need-returns-2
 returns-2 c =
     let e = c .before .before .before .before .before .before .before .before .before .before .before .before .before .before in
@@ -121,5 +106,6 @@ returns-2 c =
 
 pub session-spec : {M : Type 1} → statement M
 session-spec =
-    tie.close (tie.spec shared-slice-read-wide wide-requires load-requires number-requires refused-line-requires same-length same-length-2
-    returns edits-requires tally-requires tally-requires-2 last-line-requires same-length-3 same-length-4 same-length-5 returns-2)
+    tie.close (tie.spec shared-slice-read-wide wide-requires load-requires number-requires refused-line-requires (λ c. search needs)
+    (λ c. search needs) returns edits-requires tally-requires tally-requires-2 last-line-requires (λ c. search needs) (λ c. search needs)
+    (λ c. search needs) returns-2)

@@ -134,9 +134,6 @@ text-requires c κs =
       d .decimal .kept .0,
     )
 
-same-length : tie.Need-same-length
-same-length c = search needs
-
 returns : tie.Need-returns
 returns c =
     let i = c .before .before .before .before .before .before .before in
@@ -152,4 +149,4 @@ pub dart-line-spec : {M : Type 1} → statement M
 dart-line-spec =
     tie.close (tie.spec shown-requires decimal-requires slice-aggregate-field number-requires field-requires slice-aggregate-field-2
     field-requires-2 slice-aggregate-field-3 field-requires-3 slice-aggregate-field-4 field-requires-4 slice-aggregate-text text-requires
-    same-length returns)
+    (λ c. search needs) returns)

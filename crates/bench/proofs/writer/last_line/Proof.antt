@@ -40,9 +40,6 @@ text-requires c κs =
           (s .args .unused),
     )
 
-same-length : tie.Need-same-length
-same-length c = search needs
-
 returns : tie.Need-returns
 returns c =
     let g = c .before .before .before .before .before .before .before in
@@ -51,4 +48,4 @@ returns c =
 pub last-line-spec : {M : Type 1} → statement M
 last-line-spec =
     tie.close (tie.spec slice-aggregate-field field-requires slice-aggregate-field-2 field-requires-2 slice-aggregate-text text-requires
-    same-length returns)
+    (λ c. search needs) returns)

@@ -15,9 +15,6 @@ walk-requires c κs = tree-start _
 unreached-requires : tie.Need-unreached-requires
 unreached-requires c κs = search needs
 
-enum-told : tie.Need-enum-told
-enum-told c = search needs
-
 pass-requires : tie.Need-pass-requires
 pass-requires c κs =
     let w = c .before .before .before .before .before .before .before .before in
@@ -26,9 +23,6 @@ pass-requires c κs =
 
 unreached-requires-2 : tie.Need-unreached-requires-2
 unreached-requires-2 c κs = search needs
-
-enum-told-2 : tie.Need-enum-told-2
-enum-told-2 c = search needs
 
 returns : tie.Need-returns
 returns c = search needs
@@ -43,5 +37,5 @@ returns-2 c =
 
 pub reach-of-spec : {M : Type 1} → statement M
 reach-of-spec =
-    tie.close (tie.spec array-write-reached walk-requires unreached-requires enum-told pass-requires unreached-requires-2 enum-told-2 returns
-    returns-2)
+    tie.close (tie.spec array-write-reached walk-requires unreached-requires (λ c. search needs) pass-requires unreached-requires-2
+    (λ c. search needs) returns returns-2)

@@ -12,13 +12,10 @@ put-two-requires c κs = search needs
 put-two-requires-2 : tie.Need-put-two-requires-2
 put-two-requires-2 c κs = put-room 2 _ _ _ _ _ (c .before .before .before .put-two .ensures) 2 (omega arith)
 
-same-length : tie.Need-same-length
-same-length c = search needs
-
 returns : tie.Need-returns
 returns c =
     let p = c .before .before in
     put-join 2 2 _ _ _ _ _ _ _ (p .before .before .before .before .put-two .ensures) (p .put-two2 .ensures)
 
 pub put-four-spec : {M : Type 1} → statement M
-put-four-spec = tie.close (tie.spec put-two-requires put-two-requires-2 same-length returns)
+put-four-spec = tie.close (tie.spec put-two-requires put-two-requires-2 (λ c. search needs) returns)

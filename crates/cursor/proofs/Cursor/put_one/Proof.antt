@@ -14,11 +14,8 @@ slice-write-out c = search needs
 add-t8 : tie.Need-add-t8
 add-t8 c = search needs
 
-same-length : tie.Need-same-length
-same-length c = search needs
-
 returns : tie.Need-returns
 returns c = put-one-byte _ _ _
 
 pub put-one-spec : {M : Type 1} → statement M
-put-one-spec = tie.close (tie.spec cast-out slice-write-out add-t8 same-length returns)
+put-one-spec = tie.close (tie.spec cast-out slice-write-out add-t8 (λ c. search needs) returns)

@@ -43,32 +43,17 @@ returns c = other-dimension _ (c .before .wide .ensures) (c .if1 .taken)
 survey-requires : tie.Need-survey-requires
 survey-requires c κs = search needs
 
-enum-known-found : tie.Need-enum-known-found
-enum-known-found c = search needs
-
-enum-told : tie.Need-enum-told
-enum-told c = search needs
-
-same-length : tie.Need-same-length
-same-length c = search needs
-
 returns-2 : tie.Need-returns-2
 returns-2 c =
     let f = c .before .before in
     let e = f .before .before in
     bad-table (sym (e .before .wide .ensures) ∙ e .if1 .left) (survey-broken _ _ _ (f .survey .ensures) (c .enum-told .given .1))
 
-same-length-2 : tie.Need-same-length-2
-same-length-2 c = search needs
-
 returns-3 : tie.Need-returns-3
 returns-3 c = dart-out (same (c .before)) (well (c .before)) (c .if2 .taken)
 
 state-requires : tie.Need-state-requires
 state-requires c κs = search needs
-
-same-length-3 : tie.Need-same-length-3
-same-length-3 c = search needs
 
 returns-4 : tie.Need-returns-4
 returns-4 c =
@@ -87,12 +72,6 @@ apply-requires c κs =
     let h = sound (same k) (well k) (e .if2 .left) (sym (d .before .state .ensures) ∙ d .if3 .left) (p .1 .0) in
     (p .1 .1 .1 .0, (h, (p .1 .1 .0, (free k .1, p .1 .1 .1 .1))))
 
-same-length-4 : tie.Need-same-length-4
-same-length-4 c = search needs
-
-same-length-5 : tie.Need-same-length-5
-same-length-5 c = search needs
-
 returns-5 : tie.Need-returns-5
 returns-5 c =
     let r = c .before .before .before .before in
@@ -103,5 +82,6 @@ returns-5 c =
 
 pub apply-at-spec : {M : Type 1} → statement M
 apply-at-spec =
-    tie.close (tie.spec wide-requires returns survey-requires enum-known-found enum-told same-length returns-2 same-length-2 returns-3
-    state-requires same-length-3 returns-4 sub-apply apply-requires same-length-4 same-length-5 returns-5)
+    tie.close (tie.spec wide-requires returns survey-requires (λ c. search needs) (λ c. search needs) (λ c. search needs) returns-2
+    (λ c. search needs) returns-3 state-requires (λ c. search needs) returns-4 sub-apply apply-requires (λ c. search needs) (λ c. search needs)
+    returns-5)

@@ -85,9 +85,6 @@ put-tag-requires c κs =
       slot (l .before .before .before .before .before .before .before) .1,
     )
 
-same-length : tie.Need-same-length
-same-length c = search needs
-
 returns : tie.Need-returns
 unfolding linkPlace tagPlace
 returns c =
@@ -100,5 +97,5 @@ returns c =
 
 pub enter-spec : {M : Type 1} → statement M
 enter-spec =
-    tie.close (tie.spec mul-t13 add-t14 two-requires cast-x put-state-requires mul-t13-2 add-t14-2 add-t19 mul-t20 mul-t21 add-t22
-    links-requires mul-t22 add-t13 mul-t21-2 add-t20 four-requires put-tag-requires same-length returns)
+    tie.close (tie.spec mul-t13 add-t14 two-requires cast-x put-state-requires mul-t13-2 add-t14-2 add-t19 mul-t20 mul-t21 add-t22 links-requires
+    mul-t22 add-t13 mul-t21-2 add-t20 four-requires put-tag-requires (λ c. search needs) returns)

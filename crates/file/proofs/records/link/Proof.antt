@@ -11,9 +11,6 @@ two-requires c κs = search needs
 put-link-requires : tie.Need-put-link-requires
 put-link-requires c κs = search needs
 
-same-length : tie.Need-same-length
-same-length c = search needs
-
 returns : tie.Need-returns
 returns c =
     let p = c .before .before .before in
@@ -21,4 +18,4 @@ returns c =
     (put-number _ _ _ _ (p .put-link .ensures) (number .value), number .next)
 
 pub link-spec : {M : Type 1} → statement M
-link-spec = tie.close (tie.spec two-requires put-link-requires same-length returns)
+link-spec = tie.close (tie.spec two-requires put-link-requires (λ c. search needs) returns)

@@ -53,15 +53,9 @@ link-requires-4 c κs =
     let e = not-two (a .0) (c .before .if1 .left) in
     (linked-sized _ _ _ _ _ 3 _ _ u _ (a .1 .0), (a .1 .1 .0, omega arith, omega (arith, u .place, a .1 .1 .1, e)))
 
-same-length : tie.Need-same-length
-same-length c = search needs
-
 returns : tie.Need-returns
 returns c = link-flat _ _ _ _ _ _ _ _ (c .before .before .before .before .if1 .taken) (three (c .before .before .before .before .before .before .before))
     (c .before .before .put-link .ensures)
-
-same-length-2 : tie.Need-same-length-2
-same-length-2 c = search needs
 
 returns-2 : tie.Need-returns-2
 returns-2 c =
@@ -73,5 +67,5 @@ returns-2 c =
 
 pub links-spec : {M : Type 1} → statement M
 links-spec =
-    tie.close (tie.spec link-requires link-requires-2 link-requires-3 cast-put-link put-link-requires link-requires-4 same-length returns
-    same-length-2 returns-2)
+    tie.close (tie.spec link-requires link-requires-2 link-requires-3 cast-put-link put-link-requires link-requires-4 (λ c. search needs) returns
+    (λ c. search needs) returns-2)

@@ -6,9 +6,6 @@ use Rattle.file.proofs.SectionLaws.{part-slot, part-tag, part-links, si
 use Rattle.file.proofs.sections.dart.Statement.{statement}
 use Rattle.file.proofs.sections.dart.Tie as tie
 
-enum-told : tie.Need-enum-told
-enum-told c = search needs
-
 cast-put-two : tie.Need-cast-put-two
 cast-put-two c = search needs
 
@@ -16,9 +13,6 @@ put-two-requires : tie.Need-put-two-requires
 put-two-requires c κs =
     let a = c .before .before .before .before .before .args in
     omega (arith, size-slot (a .n) (a .part) (c .before .enum-told .given .1))
-
-enum-told-2 : tie.Need-enum-told-2
-enum-told-2 c = search needs
 
 tag-requires : tie.Need-tag-requires
 tag-requires c κs = search needs
@@ -28,35 +22,23 @@ put-four-requires c κs =
     let a = c .before .before .before .before .before .before .args in
     omega (arith, size-tag (a .n) (a .part) (c .before .before .enum-told2 .given .1))
 
-enum-told-3 : tie.Need-enum-told-3
-enum-told-3 c = search needs
-
 links-requires : tie.Need-links-requires
 links-requires c κs =
     let a = c .before .before .before .before .before .args in
     (search needs, (search needs, (search needs, omega (arith, size-links (a .n) (a .part) (c .before .enum-told3 .given .1)))))
 
-same-length : tie.Need-same-length
-same-length c = search needs
-
 returns : tie.Need-returns
 returns c = part-slot _ _ _ _ _ _ _ _ (c .before .before .before .before .enum-told .given .1) (c .before .before .put-two .ensures)
-
-same-length-2 : tie.Need-same-length-2
-same-length-2 c = search needs
 
 returns-2 : tie.Need-returns-2
 returns-2 c =
     let t = c .before .before .before in
     part-tag _ _ _ _ _ _ _ _ _ (t .before .before .enum-told2 .given .1) (t .tag .ensures) (c .before .before .put-four .ensures)
 
-same-length-3 : tie.Need-same-length-3
-same-length-3 c = search needs
-
 returns-3 : tie.Need-returns-3
 returns-3 c = part-links _ _ _ _ _ _ _ _ (c .before .before .before .before .enum-told3 .given .1) (c .before .before .links .ensures)
 
 pub dart-spec : {M : Type 1} → statement M
 dart-spec =
-    tie.close (tie.spec enum-told cast-put-two put-two-requires enum-told-2 tag-requires put-four-requires enum-told-3 links-requires
-    same-length returns same-length-2 returns-2 same-length-3 returns-3)
+    tie.close (tie.spec (λ c. search needs) cast-put-two put-two-requires (λ c. search needs) tag-requires put-four-requires (λ c. search needs)
+    links-requires (λ c. search needs) returns (λ c. search needs) returns-2 (λ c. search needs) returns-3)

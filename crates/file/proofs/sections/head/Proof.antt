@@ -16,9 +16,6 @@ cast-put-two c = search needs
 put-two-requires : tie.Need-put-two-requires
 put-two-requires c κs = put-room 1 _ _ _ _ _ (c .before .before .before .put-one .ensures) 2 (omega arith)
 
-same-length : tie.Need-same-length
-same-length c = search needs
-
 returns : tie.Need-returns
 unfolding headBytes
 returns c =
@@ -26,4 +23,4 @@ returns c =
     put-then _ _ _ _ _ _ _ _ (p .before .before .before .before .put-one .ensures) (p .put-two .ensures)
 
 pub head-spec : {M : Type 1} → statement M
-head-spec = tie.close (tie.spec put-one-requires cast-put-two put-two-requires same-length returns)
+head-spec = tie.close (tie.spec put-one-requires cast-put-two put-two-requires (λ c. search needs) returns)

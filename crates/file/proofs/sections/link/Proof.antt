@@ -11,13 +11,10 @@ word-requires c κs = search needs
 put-two-requires : tie.Need-put-two-requires
 put-two-requires c κs = search needs
 
-same-length : tie.Need-same-length
-same-length c = search needs
-
 returns : tie.Need-returns
 returns c =
     let w = c .before .before in
     put-value 2 _ _ _ _ (w .before .word .ensures) (w .put-two .ensures)
 
 pub link-spec : {M : Type 1} → statement M
-link-spec = tie.close (tie.spec word-requires put-two-requires same-length returns)
+link-spec = tie.close (tie.spec word-requires put-two-requires (λ c. search needs) returns)

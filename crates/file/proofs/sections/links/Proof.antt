@@ -51,9 +51,6 @@ link-requires-3 c κs = (
   ),
 )
 
-same-length : tie.Need-same-length
-same-length c = search needs
-
 returns : tie.Need-returns
 returns c = links-all _ _ _ _ 3 _ _ (three (c .before .before .before)) _ (ap suc (sym (c .if1 .taken)))
 
@@ -64,9 +61,6 @@ link-requires-4 c κs =
     let e = not-two (a .pre .0) (c .before .if1 .left) in
     (a .pre .1 .0, (a .pre .1 .1 .0, omega arith, link-room _ _ _ _ 3 _ _ (three t) (omega (arith, a .pre .1 .1 .1, e))))
 
-same-length-2 : tie.Need-same-length-2
-same-length-2 c = search needs
-
 returns-2 : tie.Need-returns-2
 returns-2 c =
     let t = c .before .before .before .before .before .before .before in
@@ -76,4 +70,4 @@ returns-2 c =
 
 pub links-spec : {M : Type 1} → statement M
 links-spec =
-    tie.close (tie.spec link-requires link-requires-2 link-requires-3 same-length returns link-requires-4 same-length-2 returns-2)
+    tie.close (tie.spec link-requires link-requires-2 link-requires-3 (λ c. search needs) returns link-requires-4 (λ c. search needs) returns-2)

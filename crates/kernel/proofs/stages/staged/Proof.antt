@@ -39,9 +39,6 @@ returns c = stage-refused _ _ _ _ _ (form-refused _ (form-bad _ _ (c .before .re
 judge-requires : tie.Need-judge-requires
 judge-requires c κs = let e = c .before .before .before .before .before .before .before .before .before in judge-asks _ _ (e .before .read .ensures) (form e)
 
-enum-told : tie.Need-enum-told
-enum-told c = search needs
-
 apply-at-requires : tie.Need-apply-at-requires
 apply-at-requires c κs =
     let j = c .before .before .before .before .before .before in
@@ -49,12 +46,6 @@ apply-at-requires c κs =
     let p = e .before .before .before .before .before .pre in
     let none = no-fault _ _ (answer-is j) (c .before .before .enum-told .given .1) in
     (p .0, (no-fault-accepted _ _ none (scheme-is e), (verdict j .tree, (p .1 .0, p .1 .1))))
-
-same-length : tie.Need-same-length
-same-length c = search needs
-
-same-length-2 : tie.Need-same-length-2
-same-length-2 c = search needs
 
 returns-2 : tie.Need-returns-2
 returns-2 c =
@@ -68,4 +59,5 @@ returns-3 c = stage-refused _ _ _ _ _ (its-fault _ _ (answer-is (c .before .befo
 
 pub staged-spec : {M : Type 1} → statement M
 staged-spec =
-    tie.close (tie.spec read-requires returns judge-requires enum-told apply-at-requires same-length same-length-2 returns-2 returns-3)
+    tie.close (tie.spec read-requires returns judge-requires (λ c. search needs) apply-at-requires (λ c. search needs) (λ c. search needs)
+    returns-2 returns-3)

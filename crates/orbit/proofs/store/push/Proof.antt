@@ -17,9 +17,6 @@ add-keep-2 c = search needs
 keep-requires-2 : tie.Need-keep-requires-2
 keep-requires-2 c κs = search needs
 
-same-length : tie.Need-same-length
-same-length c = search needs
-
 returns : tie.Need-returns
 returns c =
     let b = c .before .before .before .before .before .before .before .before .before in
@@ -28,4 +25,4 @@ returns c =
 
 pub push-spec : {M : Type 1} → statement M
 push-spec =
-    tie.close (tie.spec add-keep keep-requires add-keep-2 keep-requires-2 same-length returns)
+    tie.close (tie.spec add-keep keep-requires add-keep-2 keep-requires-2 (λ c. search needs) returns)

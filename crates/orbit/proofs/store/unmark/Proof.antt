@@ -20,9 +20,6 @@ slice-aggregate-clear c = sym (length-take-le _ _ (c .before .before .pre))
 clear-requires : tie.Need-clear-requires
 clear-requires c κs = search needs
 
-same-length : tie.Need-same-length
-same-length c = search needs
-
 returns : tie.Need-returns
 unfolding unmarked
 returns c =
@@ -32,4 +29,4 @@ returns c =
 
 pub unmark-spec : {M : Type 1} → statement M
 unmark-spec =
-    tie.close (tie.spec slice-relend-prefix-clear slice-aggregate-clear clear-requires same-length returns)
+    tie.close (tie.spec slice-relend-prefix-clear slice-aggregate-clear clear-requires (λ c. search needs) returns)

@@ -24,16 +24,10 @@ join-requires-2 c κs =
     let pre = c .before .before .before .before .before .pre in
     (pre .0, (pre .1 .0, ((pre .1 .0 .inside, pre .1 .1 .1), λ l. pre .1 .1 .0 .position l (c .before .if2 .taken))))
 
-same-length : tie.Need-same-length
-same-length c = search needs
-
 returns : tie.Need-returns
 returns c =
     let h = c .before .before .before .before .before .if1 .taken in
     by-node _ _ _ _ _ _ _ _ _ h (straight _ _ _ _ _ _ _ _ _ (c .before .before .join .ensures) h)
-
-same-length-2 : tie.Need-same-length-2
-same-length-2 c = search needs
 
 returns-2 : tie.Need-returns-2
 returns-2 c =
@@ -46,4 +40,5 @@ returns-3 c = by-none _ _ _ _ _ _ _ _ _ (c .if2 .left) refl
 
 pub follow-spec : {M : Type 1} → statement M
 follow-spec =
-    tie.close (tie.spec mul-join element-copy-out-join join-requires join-requires-2 same-length returns same-length-2 returns-2 returns-3)
+    tie.close (tie.spec mul-join element-copy-out-join join-requires join-requires-2 (λ c. search needs) returns (λ c. search needs) returns-2
+    returns-3)

@@ -15,11 +15,8 @@ clear-requires c κs =
     let R = l .before .before .before .before .pre in
     (record { few = R .sized .few; long = l .relink .kept .1 .0 ∙ R .sized .long }, columns R)
 
-same-length : tie.Need-same-length
-same-length c = search needs
-
 returns : tie.Need-returns
 returns c = λ R. rewritten R _ _ (c .before .before .before .before .before .before .relink .ensures) (c .before .before .clear .ensures)
 
 pub rewrite-spec : {M : Type 1} → statement M
-rewrite-spec = tie.close (tie.spec relink-requires clear-requires same-length returns)
+rewrite-spec = tie.close (tie.spec relink-requires clear-requires (λ c. search needs) returns)

@@ -17,9 +17,6 @@ put-link-requires c κs = search needs
 put-tag-requires : tie.Need-put-tag-requires
 put-tag-requires c κs = search needs
 
-same-length : tie.Need-same-length
-same-length c = search needs
-
 returns : tie.Need-returns
 returns c =
     let b = c .before .before in
@@ -29,4 +26,4 @@ returns c =
 
 pub revive-spec : {M : Type 1} → statement M
 revive-spec =
-    tie.close (tie.spec put-state-requires cast-put-link put-link-requires put-tag-requires same-length returns)
+    tie.close (tie.spec put-state-requires cast-put-link put-link-requires put-tag-requires (λ c. search needs) returns)

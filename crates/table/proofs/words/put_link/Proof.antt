@@ -11,12 +11,9 @@ add-put-at c = search needs
 put-at-requires : tie.Need-put-at-requires
 put-at-requires c κs = search needs
 
-same-length : tie.Need-same-length
-same-length c = search needs
-
 returns : tie.Need-returns
 unfolding put
 returns c = c .before .before .put-at .ensures
 
 pub put-link-spec : {M : Type 1} → statement M
-put-link-spec = tie.close (tie.spec add-put-at put-at-requires same-length returns)
+put-link-spec = tie.close (tie.spec add-put-at put-at-requires (λ c. search needs) returns)

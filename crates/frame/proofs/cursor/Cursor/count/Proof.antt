@@ -26,12 +26,6 @@ room c = ap₂ _*_ (c .before .wide .ensures .0 ∙ took (c .before .before .bef
 byte-requires : tie.Need-byte-requires
 byte-requires c κs = search needs
 
-enum-known-count : tie.Need-enum-known-count
-enum-known-count c = search needs
-
-enum-told : tie.Need-enum-told
-enum-told c = search needs
-
 returns : tie.Need-returns
 unfolding after
 returns c = section-bad _ _ _ _ _ (beyond _ _ _ _ _ (omega (arith, ended _ (c .before .before .byte .ensures) (c .enum-told .given .1))))
@@ -70,5 +64,5 @@ returns-5 c =
 
 pub count-spec : {M : Type 1} → statement M
 count-spec =
-    tie.close (tie.spec byte-requires enum-known-count enum-told returns returns-2 returns-3 wide-requires wide-requires-2 mul-room sub-if3
-    returns-4 add-t12 returns-5)
+    tie.close (tie.spec byte-requires (λ c. search needs) (λ c. search needs) returns returns-2 returns-3 wide-requires wide-requires-2 mul-room
+    sub-if3 returns-4 add-t12 returns-5)
