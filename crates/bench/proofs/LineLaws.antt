@@ -7,8 +7,8 @@ use native.Mathlib.Omega.{arith}
 use lib.ListN.{length, length-append}
 use Rattle.model.specs.Answer.{number}
 use Rattle.model.specs.declared.Answer.{Answer}
-use Rattle.cursor.specs.Places.{Put}
-use Rattle.cursor.proofs.PlaceLaws.{put-then}
+use Rattle.numbers.specs.Places.{Put}
+use Rattle.numbers.proofs.PlaceLaws.{put-then}
 use Rattle.lines.specs.Lines.{decimal, space, lineFeed}
 use Rattle.lines.proofs.LineLaws.{digits}
 use Rattle.bench.specs.Bench.{liveWord, unusedWord, shown, dartLine, lastLine}

@@ -21,8 +21,8 @@ use Rattle.lines.specs.Lines.{refusedLine}
 use Rattle.lines.proofs.LineLaws.{refused-few}
 use Rattle.model.specs.declared.Answer.the-variants.{BadCall}
 use Rattle.model.proofs.SizeLaws.{sizes-iff}
-use Rattle.cursor.specs.Places.{Put}
-use Rattle.cursor.proofs.PlaceLaws.{put-then}
+use Rattle.numbers.specs.Places.{Put}
+use Rattle.numbers.proofs.PlaceLaws.{put-then}
 use Rattle.bench.specs.Input.{Laid}
 use Rattle.bench.specs.Session.{dartLines, longest, Printed, Wrote}
 use Rattle.bench.specs.declared.framing.Layout.{Layout}

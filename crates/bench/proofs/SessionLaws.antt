@@ -21,8 +21,8 @@ use Rattle.model.specs.Calls.{zeros, sizesOk, readAnswer, readTable, editAnswer
 use Rattle.bench.specs.Bench.{mapLength, schemeLength, dartLine, dartAt, answerAt, mapBytes, schemeBytes, mapDimension, mapSlots, mapAnswer, tableAfter}
 use Rattle.model.specs.declared.Answer.{Answer}
 use Rattle.model.proofs.AnswerLaws.{answers-same}
-use Rattle.cursor.specs.Places.{Put}
-use Rattle.cursor.proofs.PlaceLaws.{put-then}
+use Rattle.numbers.specs.Places.{Put}
+use Rattle.numbers.proofs.PlaceLaws.{put-then}
 use Rattle.demands.specs.Promises.{MapEdited, FileRead}
 use Rattle.bench.specs.Input.{countAt, Laid}
 use Rattle.bench.specs.Session.{Asked, Stands, dartLines}

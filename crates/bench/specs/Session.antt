@@ -7,7 +7,7 @@ use lib.ListN.{length, drop, replicate}
 use Rattle.base.specs.Lists.{joined}
 use Rattle.model.specs.Map.{maxSlots}
 use Rattle.bench.specs.Bench.{dartLine, dartAt, answerAt, mapDimension, mapSlots, tableAfter, printed}
-use Rattle.cursor.specs.Places.{Put}
+use Rattle.numbers.specs.Places.{Put}
 
 -- no output is longer: 1,024 lines of at most 23 bytes each, and a last one of at most 22
 abbrev pub longest : ℕ

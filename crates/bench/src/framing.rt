@@ -1,5 +1,5 @@
 // The framing of the input: map file, scheme and dart list, each after a two-byte count, and nothing after them.
-use cursor::Cursor;
+use numbers::Cursor;
 ghost use Rattle.bench.specs.Input.{FramingOf};
 
 // The greatest number of darts in the list.

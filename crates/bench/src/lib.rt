@@ -4,11 +4,11 @@ mod framing;
 mod session;
 mod writer;
 
-use cursor::Cursor;
 use framing::Framing;
 use framing::frame;
 use lines::refused_line;
 use model::MAX_SLOTS;
+use numbers::Cursor;
 use session::session;
 use table::words::RECORD;
 use table::words::size;

@@ -7,7 +7,7 @@ use lines::text;
 use model::Answer;
 ghost use Prim.Native.Nat.{_+_, _≤_};
 ghost use lib.ListN.{length};
-ghost use Rattle.cursor.specs.Places.{Put};
+ghost use Rattle.numbers.specs.Places.{Put};
 ghost use Rattle.bench.specs.Bench.{dartLine, lastLine};
 
 pub fn dart_line(out: &mut [u8], at: usize, dart: u32, a: Answer) -> usize

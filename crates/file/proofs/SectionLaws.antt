@@ -16,12 +16,12 @@ use Rattle.base.proofs.ListLaws.{joined-step, length-joined, length-chosen, set
 use Rattle.base.proofs.DigitLaws.{length-bytes}
 use Rattle.model.specs.Map.{Map, live}
 use Rattle.model.specs.File.{twoBytes, fourBytes, liveDarts, section, file}
-use Rattle.cursor.specs.Places.{Put}
+use Rattle.numbers.specs.Places.{Put}
 use Rattle.file.specs.Form.{fileSize}
 use Rattle.file.specs.Sections.{linkBytes, partBytes, partSize, dartsBytes, sectionBytes, headBytes}
 use Rattle.file.specs.declared.sections.Part.{Part}
 use Rattle.file.specs.declared.sections.Part.the-variants.{Slots, Tags, Links}
-use Rattle.cursor.proofs.PlaceLaws.{put-then, put-length}
+use Rattle.numbers.proofs.PlaceLaws.{put-then, put-length}
 
 -- ---- the links of a dart
 

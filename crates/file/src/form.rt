@@ -1,6 +1,6 @@
 // Whether bytes are a file for n and a number of slots: the frame, and that the slots ascend.
 use crate::size;
-use cursor::Cursor;
+use numbers::Cursor;
 ghost use mathlib.Core.Path.{_≡_};
 ghost use Prim.Native.Nat.{_+_, _*_, _≤_};
 ghost use lib.ListN.{length};

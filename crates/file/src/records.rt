@@ -1,5 +1,5 @@
 // The records of a file's darts, entered into a table.
-use cursor::Cursor;
+use numbers::Cursor;
 use table::words::put_link;
 use table::words::put_state;
 use table::words::put_tag;

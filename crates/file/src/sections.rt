@@ -1,5 +1,5 @@
 // The three sections of a file as they are written: a count, and then something of each live dart.
-use cursor::Cursor;
+use numbers::Cursor;
 use table::words::state;
 use table::words::tag;
 use table::words::word;
@@ -11,7 +11,7 @@ ghost use Rattle.base.specs.Digits.{bytesOf};
 ghost use Rattle.model.specs.Map.{view, maxSlots};
 ghost use Rattle.model.specs.File.{liveDarts};
 ghost use Rattle.table.specs.Words.{Sized};
-ghost use Rattle.cursor.specs.Places.{Put};
+ghost use Rattle.numbers.specs.Places.{Put};
 ghost use Rattle.file.specs.Sections.{linkBytes, partBytes, partSize, sectionBytes, headBytes};
 
 pub enum Part {

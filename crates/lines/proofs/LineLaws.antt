@@ -5,8 +5,8 @@ use mathlib.Core.Path.{_≡_}
 use mathlib.Core.List.{List, _++_}
 use native.Mathlib.Omega.{arith}
 use lib.ListN.{length, length-append}
-use Rattle.cursor.specs.Places.{Put}
-use Rattle.cursor.proofs.PlaceLaws.{put-then}
+use Rattle.numbers.specs.Places.{Put}
+use Rattle.numbers.proofs.PlaceLaws.{put-then}
 use Rattle.lines.specs.Lines.{decimal, space, lineFeed, refusedWord, refusedLine}
 use Rattle.lines.proofs.DecimalLaws.{decimal-short}
 

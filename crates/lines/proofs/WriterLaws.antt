@@ -8,8 +8,8 @@ use native.Mathlib.Omega.{arith}
 use lib.ListN.{length, getD, take, set, length-append}
 use lib.Seq.{sets, take-suc, length-take-le, take-length}
 use Rattle.base.proofs.ListLaws.{sets-sets}
-use Rattle.cursor.specs.Places.{Put}
-use Rattle.cursor.proofs.PlaceLaws.{put-then, put-length}
+use Rattle.numbers.specs.Places.{Put}
+use Rattle.numbers.proofs.PlaceLaws.{put-then, put-length}
 use Rattle.lines.specs.Lines.{decimal}
 use Rattle.lines.proofs.DecimalLaws.{decimal-one, decimal-more}
 

@@ -5,7 +5,7 @@ ghost use mathlib.Core.Path.{_≡_};
 ghost use mathlib.Core.List.{_++_};
 ghost use Prim.Native.Nat.{_+_, _%_, _≤_};
 ghost use lib.ListN.{length};
-ghost use Rattle.cursor.specs.Places.{Put};
+ghost use Rattle.numbers.specs.Places.{Put};
 ghost use Rattle.lines.specs.Lines.{decimal as decimalOf, refusedLine};
 
 // Fixed bytes.

@@ -8,11 +8,11 @@ use native.Mathlib.Omega.{arith}
 use denote.Ref.{now}
 use borrow.Author.Needs.{needs}
 use Rattle.model.specs.Map.{view}
-use Rattle.cursor.specs.Places.{Put}
+use Rattle.numbers.specs.Places.{Put}
 use Rattle.file.specs.Sections.{headBytes, sectionBytes}
 use Rattle.file.specs.declared.sections.Part.the-variants.{Slots, Tags, Links}
 use Rattle.file.proofs.FormLaws.{three-le}
-use Rattle.cursor.proofs.PlaceLaws.{put-then}
+use Rattle.numbers.proofs.PlaceLaws.{put-then}
 use Rattle.file.proofs.SectionLaws.{length-file, fileBefore, section-room, file-put}
 use Rattle.file.proofs.write.Statement.{statement}
 use Rattle.file.proofs.write.Tie as tie

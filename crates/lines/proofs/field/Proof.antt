@@ -3,7 +3,7 @@
 use borrow.Author.Needs.{needs}
 use denote.Ref.{now}
 use Rattle.lines.specs.Lines.{decimal}
-use Rattle.cursor.proofs.PlaceLaws.{put-then}
+use Rattle.numbers.proofs.PlaceLaws.{put-then}
 use Rattle.lines.proofs.WriterLaws.{room-first, room-left}
 use Rattle.lines.proofs.field.Statement.{statement}
 use Rattle.lines.proofs.field.Tie as tie

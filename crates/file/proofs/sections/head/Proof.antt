@@ -3,7 +3,7 @@
 use native.Mathlib.Omega.{arith}
 use borrow.Author.Needs.{needs}
 use Rattle.file.specs.Sections.{headBytes}
-use Rattle.cursor.proofs.PlaceLaws.{put-then, put-room}
+use Rattle.numbers.proofs.PlaceLaws.{put-then, put-room}
 use Rattle.file.proofs.sections.head.Statement.{statement}
 use Rattle.file.proofs.sections.head.Tie as tie
 

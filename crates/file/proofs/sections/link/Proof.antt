@@ -1,7 +1,7 @@
 -- `file::sections::link` meets its contract.
 -- Assumes nothing.
 use borrow.Author.Needs.{needs}
-use Rattle.cursor.proofs.PlaceLaws.{put-value}
+use Rattle.numbers.proofs.PlaceLaws.{put-value}
 use Rattle.file.proofs.sections.link.Statement.{statement}
 use Rattle.file.proofs.sections.link.Tie as tie
 

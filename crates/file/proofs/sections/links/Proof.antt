@@ -7,7 +7,7 @@ use native.Mathlib.Omega.{arith}
 use borrow.Author.Needs.{needs}
 use Rattle.model.specs.Map.{view}
 use Rattle.table.proofs.SlotLaws.{two-le, not-two}
-use Rattle.cursor.specs.Places.{Put}
+use Rattle.numbers.specs.Places.{Put}
 use Rattle.file.specs.Sections.{linkBytes}
 use Rattle.file.proofs.SectionLaws.{link-first, link-more, link-room, links-all}
 use Rattle.file.proofs.sections.links.Statement.{statement}

@@ -7,9 +7,9 @@ use native.Mathlib.Omega.{arith}
 use denote.Ref.{now}
 use borrow.Author.Needs.{needs}
 use Rattle.model.specs.Map.{view}
-use Rattle.cursor.specs.Places.{Put}
+use Rattle.numbers.specs.Places.{Put}
 use Rattle.file.specs.Sections.{dartsBytes}
-use Rattle.cursor.proofs.PlaceLaws.{put-length, put-room}
+use Rattle.numbers.proofs.PlaceLaws.{put-length, put-room}
 use Rattle.file.proofs.SectionLaws.{darts-none, darts-dead, darts-live, darts-room, darts-all, few-live}
 use Rattle.file.proofs.sections.section.Statement.{statement}
 use Rattle.file.proofs.sections.section.Tie as tie

@@ -1,10 +1,10 @@
--- `cursor::Cursor::one` meets its contract.
+-- `numbers::Cursor::one` meets its contract.
 -- Assumes nothing.
 use native.Mathlib.Omega.{arith}
 use borrow.Author.Needs.{needs}
-use Rattle.cursor.proofs.PlaceLaws.{taken-one}
-use Rattle.cursor.proofs.Cursor.one.Statement.{statement}
-use Rattle.cursor.proofs.Cursor.one.Tie as tie
+use Rattle.numbers.proofs.PlaceLaws.{taken-one}
+use Rattle.numbers.proofs.Cursor.one.Statement.{statement}
+use Rattle.numbers.proofs.Cursor.one.Tie as tie
 
 shared-slice-read-wide : tie.Need-shared-slice-read-wide
 shared-slice-read-wide c = search needs

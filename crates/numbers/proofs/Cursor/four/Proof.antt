@@ -1,9 +1,9 @@
--- `cursor::Cursor::four` meets its contract.
+-- `numbers::Cursor::four` meets its contract.
 -- Assumes nothing.
 use borrow.Author.Needs.{needs}
-use Rattle.cursor.proofs.PlaceLaws.{taken-join}
-use Rattle.cursor.proofs.Cursor.four.Statement.{statement}
-use Rattle.cursor.proofs.Cursor.four.Tie as tie
+use Rattle.numbers.proofs.PlaceLaws.{taken-join}
+use Rattle.numbers.proofs.Cursor.four.Statement.{statement}
+use Rattle.numbers.proofs.Cursor.four.Tie as tie
 
 two-requires : tie.Need-two-requires
 two-requires c κs = search needs

@@ -6,7 +6,7 @@ use mathlib.Core.List.{List}
 use lib.ListN.{length}
 use lib.Seq.{sets}
 use Rattle.base.specs.Digits.{numberAt}
-use Rattle.cursor.specs.declared.Number.{Number}
+use Rattle.numbers.specs.declared.Number.{Number}
 
 -- r is the number in the `width` bytes of b from `at` on, and the place after them
 pub record Taken (width : ℕ) (b : List ℕ) (at : ℕ) (r : Number) : Type 0 where

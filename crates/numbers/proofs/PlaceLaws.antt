@@ -11,8 +11,8 @@ use lib.Seq.{length-sets}
 use Rattle.base.specs.Digits.{bytesOf, numberAt}
 use Rattle.base.proofs.DigitLaws.{length-bytes, number-join, bytes-join}
 use Rattle.base.proofs.ListLaws.{sets-sets}
-use Rattle.cursor.specs.Places.{Taken, Put}
-use Rattle.cursor.specs.declared.Number.{Number}
+use Rattle.numbers.specs.Places.{Taken, Put}
+use Rattle.numbers.specs.declared.Number.{Number}
 
 -- ---- read
 

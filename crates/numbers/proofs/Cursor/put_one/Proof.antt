@@ -1,9 +1,9 @@
--- `cursor::Cursor::put_one` meets its contract.
+-- `numbers::Cursor::put_one` meets its contract.
 -- Assumes nothing.
 use borrow.Author.Needs.{needs}
-use Rattle.cursor.proofs.PlaceLaws.{put-one-byte}
-use Rattle.cursor.proofs.Cursor.put_one.Statement.{statement}
-use Rattle.cursor.proofs.Cursor.put_one.Tie as tie
+use Rattle.numbers.proofs.PlaceLaws.{put-one-byte}
+use Rattle.numbers.proofs.Cursor.put_one.Statement.{statement}
+use Rattle.numbers.proofs.Cursor.put_one.Tie as tie
 
 cast-out : tie.Need-cast-out
 cast-out c = search needs

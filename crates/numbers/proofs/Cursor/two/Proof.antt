@@ -1,9 +1,9 @@
--- `cursor::Cursor::two` meets its contract.
+-- `numbers::Cursor::two` meets its contract.
 -- Assumes nothing.
 use borrow.Author.Needs.{needs}
-use Rattle.cursor.proofs.PlaceLaws.{taken-join}
-use Rattle.cursor.proofs.Cursor.two.Statement.{statement}
-use Rattle.cursor.proofs.Cursor.two.Tie as tie
+use Rattle.numbers.proofs.PlaceLaws.{taken-join}
+use Rattle.numbers.proofs.Cursor.two.Statement.{statement}
+use Rattle.numbers.proofs.Cursor.two.Tie as tie
 
 one-requires : tie.Need-one-requires
 one-requires c κs = search needs

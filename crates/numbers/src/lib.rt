@@ -3,7 +3,7 @@ ghost use mathlib.Core.Path.{_≡_};
 ghost use Prim.Native.Nat.{_+_, _≤_};
 ghost use lib.ListN.{length};
 ghost use Rattle.base.specs.Digits.{bytesOf};
-ghost use Rattle.cursor.specs.Places.{Taken, Put};
+ghost use Rattle.numbers.specs.Places.{Taken, Put};
 
 pub struct Cursor {
     pub at: usize,
