@@ -15,7 +15,7 @@ use Rattle.base.proofs.TestLaws.{and-left, and-right, or-cases, or-right, same-
 use Rattle.base.proofs.BelowLaws.{all-at, all-of}
 use Rattle.base.proofs.RowLaws.{digits, row-end, row-cell}
 use Rattle.model.specs.Map.{Map, view}
-use Rattle.model.specs.Scheme.{left, orbitDim, word, arcPart, has}
+use Rattle.model.specs.Scheme.{left, orbitDim, word, arcPart, has, firstHook}
 use Rattle.model.specs.Conditions.{Arc, absent, explicit, implicit, arcAt}
 use Rattle.model.specs.Site.{Site, Sound}
 use Rattle.model.specs.Match.{image, matches, Assignment}
@@ -294,7 +294,7 @@ module _ {N : ℕ} {t s : List ℕ} {size : ℕ} {nodes parents dims : List ℕ}
         ap (λ (x : ℕ). m .link i (at x r)) (sym (y .2)) ∙ way ∙ ap (λ (x : ℕ). at x r) (z .2)
 
     -- an implicit arc
-    turn-at : (v i p r : ℕ) → v < S .nodes → has S left v ≡ true → (v ≡ 0 → ⊥) → i < 4 → r < size → arcAt S left v i ≡ implicit p
+    turn-at : (v i p r : ℕ) → v < S .nodes → has S left v ≡ true → (v ≡ firstHook → ⊥) → i < 4 → r < size → arcAt S left v i ≡ implicit p
         → m .link i (at v r) ≡ at v (next N s′ r p)
     turn-at v i p r h l ne k c e =
         let f = implicit-in v i p h k e in
@@ -342,9 +342,9 @@ module _ {N : ℕ} {t s : List ℕ} {size : ℕ} {nodes parents dims : List ℕ}
           let g = turn r p (rank-below u e) k in
           let to : place N s (next N s′ r p) ≡ m .link (orbitDim S p) u = g .1 ∙ ap (m .link (orbitDim S p)) (rank-place u e) in
           ap (m .link i) (found-is u v e)
-          ∙ by-cases (ℕ-discrete v 0)
+          ∙ by-cases (ℕ-discrete v firstHook)
           (λ z. subst (λ (x : ℕ). m .link (word S left x p) (at x r) ≡ at x (next N s′ r p)) (sym z)
-          (ap₂ (λ (x y : ℕ). m .link x y) (accepted .hooks 0 (first-hook S) .word p k) (hook-at r (rank-below u e)) ∙ sym (g .1)
+          (ap₂ (λ (x y : ℕ). m .link x y) (accepted .hooks firstHook (first-hook S) .word p k) (hook-at r (rank-below u e)) ∙ sym (g .1)
           ∙ sym (hook-at (next N s′ r p) (g .0))))
           (λ ne. turn-at v i p r h l ne few (rank-below u e) (implicit-at S left single v i p h k low refl))
           ∙ sym (found-at v (next N s′ r p) (g .0)) ∙ ap (λ (x : ℕ). found x v) to;

@@ -6,7 +6,7 @@ use mathlib.Core.Bool.{Bool, true, false}
 use mathlib.Core.List.{List}
 use lib.ListN.{length, getD}
 use Rattle.model.specs.Map.{Map, view}
-use Rattle.model.specs.Scheme.{left, has}
+use Rattle.model.specs.Scheme.{left, has, firstHook}
 use Rattle.model.specs.Conditions.{explicit, arcAt}
 use Rattle.model.specs.Match.{matches}
 use Rattle.model.specs.declared.Scheme.{Scheme}
@@ -17,7 +17,7 @@ use Rattle.orbit.specs.At.{At, site, WalkedAt}
 pub record Rooted (S : Scheme) (size : ℕ) (node parent dim : List ℕ) : Type 0 where
   pub some : 1 ≤ size
   pub few : size ≤ 16
-  pub root : getD node 0 0 ≡ 0
+  pub root : getD node 0 0 ≡ firstHook
   pub onLeft : (k : ℕ) → k < size → (getD node k 0 < S .nodes) × (has S left (getD node k 0) ≡ true)
   pub arc : (k : ℕ) → 1 ≤ k → k < size → (getD dim k 0 ≤ S .n) × (arcAt S left (getD parent k 0) (getD dim k 0) ≡ explicit (getD node k 0))
   pub earlier : (k : ℕ) → 1 ≤ k → k < size → (j : ℕ) × (j < k) × (getD node j 0 ≡ getD parent k 0)

@@ -13,7 +13,7 @@ use Rattle.base.specs.Below.{allBelow}
 use Rattle.model.specs.Map.{Map}
 use Rattle.model.specs.WellFormed.{WellFormed}
 use Rattle.model.specs.Reach.{here, step}
-use Rattle.model.specs.Scheme.{left, orbitDim, word, arcs, arcPart, has}
+use Rattle.model.specs.Scheme.{left, orbitDim, word, arcs, arcPart, has, firstHook}
 use Rattle.model.specs.Conditions.{Arc, absent, explicit, implicit, arcAt, touches, far, pathTo}
 use Rattle.model.specs.Site.{Site}
 use Rattle.model.specs.Match.{walk, image, arcHolds, eachPair, onlyPair, matches, Assignment}
@@ -46,9 +46,9 @@ module _ (E : Site) (g : Accepted (E .scheme)) where
   pathLeads : (s : ℕ) → s < S .nodes → has S left s ≡ true → (p : List ℕ) × (pathTo S s ≡ some p) × Path S p s
   pathLeads s h l = found-path S (g .shaped) s h (reached-found S (g .shaped) (g .reach s h l))
 
-  image-zero : (u : ℕ) → image E u 0 ≡ u
+  image-hook : (u : ℕ) → image E u firstHook ≡ u
   unfolding image walk
-  image-zero u = rw (hook-path S (g .shaped) 0 (first-hook S)) refl
+  image-hook u = rw (hook-path S (g .shaped) firstHook (first-hook S)) refl
 
   abbrev gl : SingleSide S left
   gl = g .sides left
@@ -113,7 +113,7 @@ module _ (E : Site) (g : Accepted (E .scheme)) where
               let d = walk-dart u e (p .2) in
               let same = image-walk u s (p .0) (p .1) in
               (subst (λ (x : ℕ). x < m .slots) (sym same) (d .0), ap (m .state) same ∙ d .1);
-          hook = λ u b e. image-zero u;
+          hook = λ u b e. image-hook u;
           explicitArc = λ u b e a k.
               let f = gl .shaped .from a k in
               let t = gl .shaped .to a k in (

@@ -3,7 +3,7 @@
 use Prim.Native.Nat.{ℕ, _<_}
 use mathlib.Core.Path.{_≡_, refl, sym, ap, _∙_, subst}
 use native.Mathlib.Omega.{arith}
-use Rattle.model.specs.Scheme.{left, right}
+use Rattle.model.specs.Scheme.{left, right, firstHook}
 use Rattle.model.specs.Site.{Site}
 use Rattle.model.specs.Match.{Assignment}
 use Rattle.model.specs.Edit.{rank, dartOf, edited}
@@ -26,7 +26,7 @@ module _ {E : Site} (ready : Ready E) where
   assignment : Assignment E D
   assignment = record {
     darts = λ u b e s h l. subst (λ (x : ℕ). (x < m .slots) × (m .state x ≡ 1)) (sym (dart-left E u s l)) (A .darts u b e s h l);
-    hook = λ u b e. dart-left E u 0 (g .hooks 0 (first-hook S) .kind) ∙ A .hook u b e;
+    hook = λ u b e. dart-left E u firstHook (g .hooks firstHook (first-hook S) .kind) ∙ A .hook u b e;
     explicitArc = λ u b e a h.
         let from = g .shaped .sides left .from a h in
         let to = g .shaped .sides left .to a h in
