@@ -5,21 +5,8 @@ use mathlib.Core.Path.{_≡_, refl, sym, ap, ap₂, _∙_, subst}
 use mathlib.Core.Logic.{⊎-elim}
 use mathlib.Core.Bool.{Bool, true, false, cond, true≢false}
 use mathlib.Core.List.{List, [], _∷_, _++_, append-nil}
-use native.Mathlib.Nat.{
-  not-suc-le-zero,
-  le-of-suc-le-suc,
-  add-zero,
-  zero-add,
-  suc-add,
-  add-suc,
-  mul-zero,
-  mul-one,
-  mul-suc,
-  mul-add,
-  mul-le-mul-left,
-  lt-of-lt-of-le,
-  eq-or-lt-of-le,
-}
+use native.Mathlib.Nat.{not-suc-le-zero, le-of-suc-le-suc, add-zero, zero-add, suc-add, add-suc, mul-zero, mul-one, mul-suc, mul-add, mul-le-mul-left}
+use native.Mathlib.Nat.{lt-of-lt-of-le, eq-or-lt-of-le}
 use native.Mathlib.Numerals.{add-one}
 use native.Mathlib.Omega.{arith}
 use lib.ListN.{length, getD, take, drop, set, replicate, length-append, List·getD-append, replicate-append-replicate}

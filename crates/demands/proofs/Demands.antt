@@ -5,31 +5,16 @@ use mathlib.Core.Path.{_≡_, refl, sym, ap, _∙_, subst}
 use mathlib.Core.Logic.{_↔_}
 use mathlib.Core.Bool.{true}
 use mathlib.Core.Option.{Option, none, Option·getD}
-use mathlib.Core.List.{List, [], _∷_, Forall₂, Forall₂·nil, Forall₂·cons}
+use mathlib.Core.List.{List, Forall₂·nil, Forall₂·cons}
 use native.Mathlib.Omega.{arith}
 use Rattle.base.specs.First.{someIf, _orElse_}
 use Rattle.base.proofs.FirstLaws.{or-else-none}
 use Rattle.model.specs.Scheme.{inForm, schemeOf}
-use Rattle.model.specs.Conditions.{schemeFault}
 use Rattle.model.specs.Accepted.{Accepted}
 use Rattle.model.specs.Answer.{number, values, Answers}
 use Rattle.model.specs.Calls.{bytesFault, checkScheme}
-use Rattle.model.specs.Sequence.{
-  AlikeTables,
-  Request,
-  tableCheck,
-  schemeCheck,
-  edit,
-  read,
-  write,
-  Call,
-  SameCall,
-  Outcome,
-  outcomeOf,
-  outcome,
-  Event,
-  AlikeEvents,
-}
+use Rattle.model.specs.Sequence.{AlikeTables, Request, tableCheck, schemeCheck, edit, read, write, SameCall, Outcome, outcomeOf, outcome, Event}
+use Rattle.model.specs.Sequence.{AlikeEvents}
 use Rattle.model.specs.declared.Answer.{Answer}
 use Rattle.model.specs.declared.Answer.the-variants.{Done}
 use Rattle.model.proofs.AnswerLaws.{answers-same}
@@ -39,7 +24,7 @@ use Rattle.model.proofs.CallLaws.{passed}
 use Rattle.model.proofs.SequenceLaws.{eventOf, call-alike}
 use Rattle.demands.specs.Refusals.{Refusal, FirstOf}
 use Rattle.demands.specs.Ours.{ours}
-use Rattle.demands.specs.Runs.{Allowed, Run, end, next, AlikeRuns}
+use Rattle.demands.specs.Runs.{Allowed, end, next, AlikeRuns}
 use Rattle.demands.specs.Demands.{Demand1, Demand2, Demand3}
 use Rattle.demands.proofs.OrderLaws.{table-order, scheme-order, edit-order, read-order, write-order}
 use Rattle.demands.proofs.RefusalLaws.{done-none, bytes-within, refused-edit, edit-one, edit-others, read-one, refused-read, refused-write}

@@ -17,7 +17,7 @@ use Rattle.base.proofs.FirstLaws.{when-at, when-none, or-else-cases, or-else-no
 use Rattle.model.specs.Map.{view}
 use Rattle.model.specs.Scheme.{left, has, isHook, orbitDim, schemeOf}
 use Rattle.model.specs.Shaped.{Shaped}
-use Rattle.model.specs.Conditions.{Reached, pathTo, hookOk, hookFault, incidenceOk, incidenceFault, cycleOk, cycleFault}
+use Rattle.model.specs.Conditions.{pathTo, hookOk, hookFault, incidenceOk, incidenceFault, cycleOk, cycleFault}
 use Rattle.model.specs.Orbit.{orbit}
 use Rattle.model.specs.Match.{matches, Assignment}
 use Rattle.model.specs.Site.{Site, Sound}

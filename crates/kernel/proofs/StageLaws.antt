@@ -1,6 +1,6 @@
 -- The stages of an edit, refusal by refusal.
 -- Assumes nothing.
-use Prim.Native.Nat.{ℕ, suc, _*_, _-_, _≤_, _<_}
+use Prim.Native.Nat.{ℕ, suc, _*_, _-_}
 use mathlib.Core.Path.{_≡_, refl, sym, ap, _∙_, subst}
 use mathlib.Core.Logic.{_⊎_, ⊎-elim}
 use mathlib.Core.Bool.{true, false, not}
@@ -10,27 +10,23 @@ use native.Mathlib.Omega.{arith}
 use types.Run.{OneOf}
 use lib.ListN.{length}
 use lib.Dec.{eqb}
-use borrow.Author.Tests.{eq-eqb, ne-eqb, lt-ltb, le-ltb, not-true, not-false}
+use borrow.Author.Tests.{eq-eqb, ne-eqb, not-true, not-false}
 use Rattle.base.specs.Test.{_and_}
-use Rattle.base.specs.Below.{countBelow}
 use Rattle.base.specs.First.{someIf, _orElse_, there}
 use Rattle.base.proofs.TestLaws.{and-of, and-no-left, and-no-right}
-use Rattle.base.proofs.BelowLaws.{count-same, count-not}
 use Rattle.base.proofs.ListLaws.{length-list}
 use Rattle.model.specs.Answer.{number}
-use Rattle.model.specs.Map.{view, live, unused}
-use Rattle.model.specs.WellFormed.{wellFormed}
+use Rattle.model.specs.Map.{view}
 use Rattle.model.specs.Scheme.{left, right, inForm, wordsOf, schemeOf}
 use Rattle.model.specs.Conditions.{schemeFault}
 use Rattle.model.specs.Twice.{twiceOf}
 use Rattle.model.specs.Accepted.{Accepted}
-use Rattle.model.specs.Site.{Site, siteAt, Sound}
-use Rattle.model.specs.Calls.{zeros, sizesOk, bytesFault, siteFault, storedOk, editFaultAt, editFault, editAnswer, editTable, editStore}
+use Rattle.model.specs.Site.{siteAt}
+use Rattle.model.specs.Calls.{zeros, sizesOk, bytesFault, storedOk, editFaultAt, editFault, editAnswer, editTable, editStore}
 use Rattle.model.specs.declared.Scheme.{Scheme}
 use Rattle.model.specs.declared.Answer.{Answer}
-use Rattle.model.specs.declared.Answer.the-variants.{Done, BadCall, BadForm, OtherDimension, BadTable, NoDart}
+use Rattle.model.specs.declared.Answer.the-variants.{Done, BadCall, BadForm}
 use Rattle.model.proofs.AnswerLaws.{answers-of}
-use Rattle.model.proofs.WellFormedLaws.{wellFormed-iff}
 use Rattle.model.proofs.SchemeLaws.{shaped}
 use Rattle.model.proofs.CallLaws.{bytes-accepted}
 use Rattle.scheme.specs.Reading.{reading}

@@ -6,21 +6,20 @@ use mathlib.Core.Logic.{_⊎_, inl, inr, ⊎-elim}
 use mathlib.Core.Bool.{true, false, true≢false}
 use mathlib.Core.Option.{Option, none, some}
 use native.Mathlib.Omega.{arith}
-use lib.Dec.{eqb}
-use borrow.Author.Tests.{eqb-true, ne-eqb}
+use borrow.Author.Tests.{eqb-true}
 use Rattle.model.specs.Map.{Map, State, Link}
 use Rattle.model.specs.WellFormed.{WellFormed}
-use Rattle.model.specs.Scheme.{left, right, kind, orbitDim, has, deleted, preserved, added}
+use Rattle.model.specs.Scheme.{left, right, orbitDim, has, preserved}
 use Rattle.model.specs.Conditions.{Arc, absent, explicit, implicit, arcAt, onCycle, Cycle, four, oneI, oneJ, apart}
 use Rattle.model.specs.Site.{Site}
 use Rattle.model.specs.Match.{image, arcHolds}
 use Rattle.model.specs.Edit.{Pair, dartOf, pairOf, edited}
-use Rattle.model.specs.declared.Scheme.{Scheme}
 use Rattle.base.proofs.TestLaws.{or-cases, or-left, or-right, true-or-false}
 use Rattle.base.proofs.FirstLaws.{some-not-none}
 use Rattle.model.proofs.ArcLaws.{explicit-end, implicit-from, absent-of, absent-from, no-arc}
 use Rattle.model.proofs.CycleLaws.{cycle-at, cycle-of, not-absent, not-absent′, pass-i, pass-j, none-i, none-j}
 use Rattle.model.proofs.AcceptedLaws.{kind-cases}
+use Rattle.model.proofs.KindLaws.{right-stays, both-preserved, preserved-left, preserved-right, preserved-not-added}
 use Rattle.model.proofs.MatchLaws.{arc-of}
 use Rattle.model.proofs.EditLaws as L
 use Rattle.model.proofs.EditLaws.{Ready}
@@ -28,33 +27,6 @@ use Rattle.model.proofs.RankLaws.{dart-left}
 
 one-not-zero : _≡_ {A = ℕ} 1 0 → ⊥
 one-not-zero e = omega arith
-
--- ---- kinds
-
-module _ (S : Scheme) (s : ℕ) where
-  kind-not : (a b : ℕ) → (a ≡ b → ⊥) → eqb (kind S s) a ≡ true → eqb (kind S s) b ≡ false
-  kind-not a b ne e = ne-eqb (kind S s) b (λ q. ne (sym (eqb-true _ _ e) ∙ q))
-
-  pub right-stays : has S right s ≡ true → deleted S s ≡ false
-  right-stays e = ⊎-elim (kind-not 2 1 (λ q. omega arith)) (kind-not 3 1 (λ q. omega arith)) (or-cases _ _ e)
-
-  both-preserved : has S left s ≡ true → has S right s ≡ true → preserved S s ≡ true
-  both-preserved l r = ⊎-elim
-      (λ e. absurd (true≢false (sym e ∙ right-stays r)))
-      (λ e. e)
-      (or-cases _ _ l)
-
-  pub preserved-left : preserved S s ≡ true → has S left s ≡ true
-  preserved-left e = or-right _ e
-
-  pub preserved-right : preserved S s ≡ true → has S right s ≡ true
-  preserved-right e = or-left _ e
-
-  pub added-right : added S s ≡ true → has S right s ≡ true
-  added-right e = or-right _ e
-
-  pub preserved-not-added : preserved S s ≡ true → added S s ≡ false
-  preserved-not-added e = kind-not 2 3 (λ q. omega arith) e
 
 module _ (E : Site) (w : WellFormed (E .scheme .n) (E .map)) (ready : Ready E) where
   open Site E using (map as m, scheme as S, orbit as O)

@@ -16,6 +16,7 @@ pub mod MatchIff
 pub mod MapLaws
 pub mod RankLaws
 pub mod EditLaws
+pub mod KindLaws
 pub mod KeepLaws
 pub mod SizeLaws
 pub mod CallLaws

@@ -10,7 +10,7 @@ use Rattle.model.specs.Edit.{rank, dartOf, edited}
 use Rattle.model.specs.Rewriting.{Rewriting}
 use Rattle.model.proofs.ArcLaws.{no-arc}
 use Rattle.model.proofs.HookLaws.{first-hook}
-use Rattle.model.proofs.KeepLaws.{right-stays, added-right, preserved-right, preserved-not-added}
+use Rattle.model.proofs.KindLaws.{right-stays, added-right, preserved-right, preserved-not-added}
 use Rattle.model.proofs.RankLaws.{dart-left}
 use Rattle.model.proofs.EditLaws as L
 use Rattle.model.proofs.EditLaws.{Ready}

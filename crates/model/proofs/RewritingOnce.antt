@@ -22,7 +22,7 @@ use Rattle.model.proofs.MapLaws.{words-are, length-words, field-words}
 use Rattle.model.proofs.ArcLaws.{explicit-end, implicit-from, absent-from}
 use Rattle.model.proofs.AcceptedLaws.{at-least-two, kind-cases, left-or-added}
 use Rattle.model.proofs.MatchLaws.{GoodOrbit, assigned}
-use Rattle.model.proofs.KeepLaws.{added-right, preserved-right}
+use Rattle.model.proofs.KindLaws.{added-right, preserved-right}
 use Rattle.model.proofs.RewritingLaws.{rewriting}
 use Rattle.model.proofs.EditLaws.{Ready}
 

@@ -11,24 +11,8 @@ use Rattle.base.specs.Test.{_and_, _or_, _⇒_}
 use Rattle.base.specs.Below.{allBelow, countBelow}
 use Rattle.model.specs.Map.{Map, live, unused}
 use Rattle.model.specs.WellFormed.{WellFormed, wellFormed, linkOk, allPairs}
-use Rattle.base.proofs.TestLaws.{
-  and-left,
-  and-right,
-  and-of,
-  and-assoc,
-  and-no-left,
-  and-no-right,
-  or-cases,
-  or-left,
-  or-right,
-  if-so,
-  if-of,
-  true-or-false,
-  same-test,
-  eqb-same,
-  refuted,
-  impossible,
-}
+use Rattle.base.proofs.TestLaws.{and-left, and-right, and-of, and-assoc, and-no-left, and-no-right, or-cases, or-left, or-right, if-so, if-of}
+use Rattle.base.proofs.TestLaws.{true-or-false, same-test, eqb-same, refuted, impossible}
 use Rattle.base.proofs.BelowLaws.{all-at, all-of, all-step, count-le, count-step}
 use Rattle.model.proofs.WellFormedLaws.{wellFormed-iff}
 use Rattle.table.specs.Slots.{cornerOk, frontOk, insideOk, nearOk, farOk, cornersOk, slotOk, surveyed}

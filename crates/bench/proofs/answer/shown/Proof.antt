@@ -8,23 +8,8 @@ use denote.Enum.Declared.{tagOf}
 use types.Run.{OneOf, miss}
 use Rattle.model.proofs.Answer.{the-type}
 use Rattle.bench.specs.Bench.{shown}
-use Rattle.model.specs.declared.Answer.the-variants.{
-  Done,
-  Edited,
-  Written,
-  BadCall,
-  BadForm,
-  BadHook,
-  BadIncidence,
-  BadCycle,
-  OtherDimension,
-  BadTable,
-  NoDart,
-  NoMatch,
-  NoRoom,
-  BadFile,
-  ShortOutput,
-}
+use Rattle.model.specs.declared.Answer.the-variants.{Done, Edited, Written, BadCall, BadForm, BadHook, BadIncidence, BadCycle, OtherDimension}
+use Rattle.model.specs.declared.Answer.the-variants.{BadTable, NoDart, NoMatch, NoRoom, BadFile, ShortOutput}
 use Rattle.model.specs.declared.Answer.{Answer}
 use Rattle.bench.proofs.answer.shown.Statement.{statement}
 use Rattle.bench.proofs.answer.shown.Tie as tie
