@@ -11,7 +11,6 @@ use types.Run.{OneOf}
 use lib.ListN.{length}
 use lib.Dec.{eqb}
 use borrow.Author.Tests.{eq-eqb, ne-eqb, not-true, not-false}
-use Rattle.base.specs.Test.{_and_}
 use Rattle.base.specs.First.{someIf, _orElse_, there}
 use Rattle.base.proofs.TestLaws.{and-of, and-no-left, and-no-right}
 use Rattle.base.proofs.ListLaws.{length-list}
