@@ -115,7 +115,7 @@ uint64_t gmap_edit(uint32_t n, uint32_t slots, uint32_t *table, size_t table_len
  * the call's: gmap_file_n and gmap_file_slots say which table a file is for.
  * table: the file's map after 0, with unused records all zero; all zero after
  * 11 and 7; unchanged after 1. The old content is never consulted. */
-uint64_t gmap_read(uint32_t n, uint32_t slots, uint32_t *table, size_t table_len,
+uint64_t gmap_load(uint32_t n, uint32_t slots, uint32_t *table, size_t table_len,
                    const uint8_t *file, size_t file_len);
 
 /* Writes the table's map as a file.
@@ -130,7 +130,7 @@ uint64_t gmap_write(uint32_t n, uint32_t slots, const uint32_t *table, size_t ta
  *
  * A file's first byte is n. The next two are its number of slots, the lower byte
  * first. These give what a file says, right or not, and 0 where it is shorter
- * than three bytes; gmap_read answers 1 to a 0. */
+ * than three bytes; gmap_load answers 1 to a 0. */
 
 static inline uint32_t gmap_file_n(const uint8_t *file, size_t file_len) { return file_len < 3 ? 0 : file[0]; }
 static inline uint32_t gmap_file_slots(const uint8_t *file, size_t file_len)

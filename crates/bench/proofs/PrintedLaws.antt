@@ -5,7 +5,7 @@ use mathlib.Core.Path.{_≡_, refl, sym, ap, ap₂, _∙_}
 use mathlib.Core.Bool.{Bool, true, false, cond}
 use mathlib.Core.List.{List, _++_}
 use native.Mathlib.Omega.{arith}
-use lib.ListN.{length}
+use lib.ListN.{length, replicate}
 use lib.Dec.{eqb, leb}
 use borrow.Author.Tests.{le-leb, lt-leb, eq-eqb, ne-eqb}
 use Rattle.base.specs.Test.{_and_}
@@ -14,9 +14,10 @@ use Rattle.base.specs.First.{someIf, _orElse_}
 use Rattle.base.proofs.BelowLaws.{count-le}
 use Rattle.base.proofs.ListLaws.{sets-start}
 use Rattle.model.specs.Answer.{number}
-use Rattle.model.specs.Map.{view, live, unused, maxSlots}
-use Rattle.model.specs.Calls.{sizesOk, readFaultAt, readFault, readAnswer}
-use Rattle.bench.specs.Bench.{lastLine, mapLength, framed, mapSlots, mapAnswer, tableAfter, runLines, printed, mostDarts}
+use Rattle.model.specs.Map.{tableSize, view, live, unused, maxSlots}
+use Rattle.model.specs.Calls.{sizesOk, loadFaultAt, loadFault, loadAnswer}
+use Rattle.bench.specs.Bench.{lastLine, mapLength, mapBytes, framed, mapDimension, mapSlots, mapLoaded, mapAnswer, tableAfter, runLines, printed}
+use Rattle.bench.specs.Bench.{mostDarts}
 use Rattle.lines.specs.Lines.{refusedLine}
 use Rattle.lines.proofs.LineLaws.{refused-few}
 use Rattle.model.specs.declared.Answer.the-variants.{BadCall}
@@ -36,8 +37,8 @@ unfolding printed _and_
 printed-fault b e = rw e refl
 
 -- a table of too many slots is refused
-many-slots : (n N : ℕ) (t b : List ℕ) → maxSlots < N → readAnswer n N t b ≡ BadCall
-unfolding readAnswer readFault readFaultAt someIf _orElse_ _and_
+many-slots : (n N : ℕ) (t b : List ℕ) → maxSlots < N → loadAnswer n N t b ≡ BadCall
+unfolding loadAnswer loadFault loadFaultAt someIf _orElse_ _and_
 many-slots n N t b h =
     let over : sizesOk n N t ≡ false = impossible _ (λ e. omega (arith, sizes-iff n N t .0 e .few)) in
     rw over refl
@@ -50,30 +51,30 @@ module _ (b : List ℕ) (l : Layout) (laid : Laid b l) where
       rw (short, and-no-right (framed b) refl) refl
 
   module _ (long : 3 ≤ l .map) where
-    printed-read : printed b ≡ cond (eqb (number (mapAnswer b)) 0) (runLines b) (refusedLine (number (mapAnswer b)))
+    printed-accepted : printed b ≡ cond (eqb (number (mapAnswer b)) 0) (runLines b) (refusedLine (number (mapAnswer b)))
     unfolding printed _and_
-    printed-read =
+    printed-accepted =
         let fits : leb 3 (mapLength b) ≡ true = rw (is-map b l laid) (le-leb 3 (l .map) long) in
         rw (laid-framed b l laid, fits) refl
 
     pub printed-refused : (number (mapAnswer b) ≡ 0 → ⊥) → printed b ≡ refusedLine (number (mapAnswer b))
-    printed-refused f = printed-read ∙ ap (λ (t : Bool). cond t (runLines b) (refusedLine (number (mapAnswer b)))) (ne-eqb (number (mapAnswer b)) 0 f)
+    printed-refused f = printed-accepted ∙ ap (λ (t : Bool). cond t (runLines b) (refusedLine (number (mapAnswer b)))) (ne-eqb (number (mapAnswer b)) 0 f)
 
     pub printed-many : maxSlots < mapSlots b → printed b ≡ refusedLine 1
-    unfolding mapAnswer
+    unfolding mapAnswer mapLoaded
     printed-many h =
         let one : number (mapAnswer b) ≡ 1 = ap number bad in
         printed-refused (λ z. absurd (omega arith)) ∙ ap refusedLine one
       where
         bad : mapAnswer b ≡ BadCall
-        bad = many-slots _ (mapSlots b) _ _ h
+        bad = rw (many-slots (mapDimension b) (mapSlots b) (replicate (tableSize (mapSlots b)) 0) (mapBytes b) h) refl
 
     pub printed-run : number (mapAnswer b) ≡ 0 → printed b ≡ dartLines b (l .darts)
         ++ lastLine (countBelow (mapSlots b) (live (view (mapSlots b) (tableAfter b (l .darts)))))
         (countBelow (mapSlots b) (unused (view (mapSlots b) (tableAfter b (l .darts)))))
     unfolding runLines dartLines
     printed-run e =
-        printed-read ∙ ap (λ (t : Bool). cond t (runLines b) (refusedLine (number (mapAnswer b)))) (eq-eqb (number (mapAnswer b)) 0 e)
+        printed-accepted ∙ ap (λ (t : Bool). cond t (runLines b) (refusedLine (number (mapAnswer b)))) (eq-eqb (number (mapAnswer b)) 0 e)
         ∙ ap (λ (k : ℕ). dartLines b k ++ lastLine (countBelow (mapSlots b) (live (view (mapSlots b) (tableAfter b k))))
         (countBelow (mapSlots b) (unused (view (mapSlots b) (tableAfter b k)))))
         (dart-count b (l .map) (l .scheme) (l .darts) (laid .map) (laid .scheme) (laid .darts))

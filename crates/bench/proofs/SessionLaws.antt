@@ -1,4 +1,4 @@
--- A session step by step: the parts of the input, the map that is read, and one edit after the other.
+-- A session step by step: the parts of the input, the map that is loaded and checked, and one edit after the other.
 -- Assumes nothing.
 use Prim.Native.Nat.{ℕ, _+_, _*_, _-_, _≤_, _<_}
 use mathlib.Core.Path.{_≡_, refl, sym, ap, ap₂, _∙_}
@@ -9,6 +9,7 @@ use native.Mathlib.Omega.{arith}
 use lib.Dec.{eqb}
 use lib.ListN.{length, getD, take, drop, replicate, length-replicate, replicate-append-replicate}
 use lib.Seq.{getD-take, getD-drop, take-at}
+use borrow.Author.Tests.{eq-eqb, ne-eqb}
 use Rattle.base.specs.Test.{_and_}
 use Rattle.base.specs.Below.{countBelow}
 use Rattle.base.specs.Digits.{numberAt}
@@ -17,13 +18,15 @@ use Rattle.base.proofs.BelowLaws.{count-step}
 use Rattle.base.proofs.ListLaws.{joined-step}
 use Rattle.model.specs.Map.{tableSize, maxSlots}
 use Rattle.model.specs.File.{twoAt}
-use Rattle.model.specs.Calls.{zeros, sizesOk, readAnswer, readTable, editAnswer, editTable, editStore}
-use Rattle.bench.specs.Bench.{mapLength, schemeLength, dartLine, dartAt, answerAt, mapBytes, schemeBytes, mapDimension, mapSlots, mapAnswer, tableAfter}
+use Rattle.model.specs.Answer.{number}
+use Rattle.model.specs.Calls.{zeros, sizesOk, checkTable, loadAnswer, loadTable, editAnswer, editTable, editStore}
+use Rattle.bench.specs.Bench.{mapLength, schemeLength, dartLine, dartAt, answerAt, mapBytes, schemeBytes, mapDimension, mapSlots}
+use Rattle.bench.specs.Bench.{mapLoaded, mapAnswer, tableAfter}
 use Rattle.model.specs.declared.Answer.{Answer}
 use Rattle.model.proofs.AnswerLaws.{answers-same}
 use Rattle.numbers.specs.Places.{Put}
 use Rattle.numbers.proofs.PlaceLaws.{put-then}
-use Rattle.demands.specs.Promises.{MapEdited, FileRead}
+use Rattle.demands.specs.Promises.{TableChecked, MapEdited, FileLoaded}
 use Rattle.bench.specs.Input.{countAt, Laid}
 use Rattle.bench.specs.Session.{Asked, Stands, dartLines}
 use Rattle.bench.specs.declared.framing.Layout.{Layout}
@@ -76,18 +79,33 @@ module _ (b : List ℕ) (l : Layout) (k : Laid b l) where
     pub asked-of : (n N : ℕ) → n ≡ getD b 2 0 → N ≡ mapSlots b → N ≤ maxSlots → Asked b n N
     asked-of n N e f h = record { dimension = dimension-here n e; slots = f; few = h }
 
--- ---- the map is read
+-- ---- the map is loaded and checked
 
 module _ (b : List ℕ) (n N : ℕ) (asked : Asked b n N) where
-  read-moved : {A : Type 0} (f : ℕ → ℕ → List ℕ → List ℕ → A) (t part : List ℕ) → t ≡ replicate (tableSize N) 0 → part ≡ mapBytes b
+  load-moved : {A : Type 0} (f : ℕ → ℕ → List ℕ → List ℕ → A) (t part : List ℕ) → t ≡ replicate (tableSize N) 0 → part ≡ mapBytes b
       → f n N t part ≡ f (mapDimension b) (mapSlots b) (replicate (tableSize (mapSlots b)) 0) (mapBytes b)
-  read-moved f t part e p =
+  load-moved f t part e p =
       ap₂ (λ (x y : List ℕ). f n N x y) e p ∙ ap₂ (λ (i j : ℕ). f i j (replicate (tableSize j) 0) (mapBytes b)) (asked .dimension) (asked .slots)
 
-  pub read-map : (t part : List ℕ) (r : Answer) (t′ : List ℕ) → t ≡ replicate (tableSize N) 0 → part ≡ mapBytes b
-      → FileRead n N t part r t′ → (r ≡ mapAnswer b) × (t′ ≡ tableAfter b 0)
-  unfolding mapAnswer tableAfter
-  read-map t part r t′ e p x = (answers-same (x .answer) ∙ read-moved readAnswer t part e p, x .table ∙ read-moved readTable t part e p)
+  pub load-map : (t part : List ℕ) (r : Answer) (t′ : List ℕ) → t ≡ replicate (tableSize N) 0 → part ≡ mapBytes b
+      → FileLoaded n N t part r t′ → (r ≡ mapLoaded b) × (t′ ≡ tableAfter b 0)
+  unfolding mapLoaded tableAfter
+  load-map t part r t′ e p x = (answers-same (x .answer) ∙ load-moved loadAnswer t part e p, x .table ∙ load-moved loadTable t part e p)
+
+  -- a map that is not loaded is not checked
+  pub load-refused : (r : Answer) (k : ℕ) → r ≡ mapLoaded b → k ≡ number r → (k ≡ 0 → ⊥) → r ≡ mapAnswer b
+  unfolding mapAnswer
+  load-refused r k e f fault =
+      let refused : eqb (number (mapLoaded b)) 0 ≡ false = ne-eqb _ _ (λ z. fault (f ∙ ap number e ∙ z)) in
+      e ∙ rw refused refl
+
+  pub load-checked : (r : Answer) (k : ℕ) (t : List ℕ) (c : Answer) → r ≡ mapLoaded b → k ≡ number r → k ≡ 0 → t ≡ tableAfter b 0
+      → TableChecked n N t c → c ≡ mapAnswer b
+  unfolding mapAnswer
+  load-checked r k t c e f z at x =
+      let done : eqb (number (mapLoaded b)) 0 ≡ true = eq-eqb _ _ (ap number (sym e) ∙ sym f ∙ z) in
+      answers-same (x .answer) ∙ ap (checkTable n N) at ∙ ap₂ (λ (i j : ℕ). checkTable i j (tableAfter b 0)) (asked .dimension) (asked .slots)
+      ∙ rw done refl
 
 -- ---- an edit
 

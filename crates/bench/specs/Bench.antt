@@ -11,7 +11,7 @@ use Rattle.base.specs.Lists.{joined}
 use Rattle.model.specs.Answer.{number, values}
 use Rattle.model.specs.Map.{view, tableSize, live, unused}
 use Rattle.model.specs.File.{twoAt}
-use Rattle.model.specs.Calls.{editAnswer, editTable, readAnswer, readTable}
+use Rattle.model.specs.Calls.{checkTable, editAnswer, editTable, loadAnswer, loadTable}
 use Rattle.model.specs.declared.Answer.{Answer}
 use Rattle.lines.specs.Lines.{decimal, space, lineFeed, refusedLine}
 
@@ -75,13 +75,17 @@ module _ (b : List ℕ) where
   unfoldable pub mapSlots : ℕ
   mapSlots = twoAt mapBytes 1
 
-  unfoldable pub mapAnswer : Answer
-  mapAnswer = readAnswer mapDimension mapSlots (replicate (tableSize mapSlots) 0) mapBytes
+  unfoldable pub mapLoaded : Answer
+  mapLoaded = loadAnswer mapDimension mapSlots (replicate (tableSize mapSlots) 0) mapBytes
 
   -- the table after the first k edits
   unfoldable pub tableAfter : ℕ → List ℕ
-  tableAfter zero = readTable mapDimension mapSlots (replicate (tableSize mapSlots) 0) mapBytes
+  tableAfter zero = loadTable mapDimension mapSlots (replicate (tableSize mapSlots) 0) mapBytes
   tableAfter (suc k) = editTable mapDimension mapSlots (tableAfter k) (replicate (16 * mapSlots) 0) schemeBytes (dartAt k)
+
+  -- what the check of the table answers where the map is loaded, else what the load answers
+  unfoldable pub mapAnswer : Answer
+  mapAnswer = cond (eqb (number mapLoaded) 0) (checkTable mapDimension mapSlots (tableAfter 0)) mapLoaded
 
   unfoldable pub answerAt : ℕ → Answer
   answerAt k = editAnswer mapDimension mapSlots (tableAfter k) (replicate (16 * mapSlots) 0) schemeBytes (dartAt k)

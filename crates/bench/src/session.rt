@@ -1,4 +1,4 @@
-// A session on a map: it is read, edited at each dart in turn, and counted.
+// A session on a map: it is loaded, checked, edited at each dart in turn, and counted.
 use crate::framing::Layout;
 use crate::writer::dart_line;
 use crate::writer::last_line;
@@ -26,7 +26,7 @@ fn wide(b: u8) -> u32
     b as u32
 }
 
-// Reads the map.
+// Loads the map, and checks it where it is loaded.
 fn load(input: &[u8], layout: Layout, n: u32, slots: u32, table: &mut [u32]) -> Answer
     requires { ⌜ Laid (now input) layout ⌝ }
     requires { ⌜ Asked (now input) n slots ⌝ }
@@ -34,7 +34,11 @@ fn load(input: &[u8], layout: Layout, n: u32, slots: u32, table: &mut [u32]) -> 
     ensures { λ r. ⌜ (r ≡ mapAnswer (now (input .entry))) × (now (table .exit) ≡ tableAfter (now (input .entry)) 0) ⌝ }
 {
     let end = 2 + layout.map;
-    kernel::read(n, slots, table, &input[2..end])
+    let answer = kernel::load(n, slots, table, &input[2..end]);
+    if number(answer) != 0 {
+        return answer;
+    }
+    kernel::check_table(n, slots, table)
 }
 
 // Edits the map at a dart.

@@ -3,9 +3,9 @@
 use Prim.Native.Nat.{ℕ}
 use mathlib.Core.Path.{_≡_, refl, sym, ap, _∙_, subst}
 use mathlib.Core.Logic.{_↔_}
-use mathlib.Core.Bool.{true}
+use mathlib.Core.Bool.{Bool, true}
 use mathlib.Core.Option.{Option, none, Option·getD}
-use mathlib.Core.List.{List, Forall₂·nil, Forall₂·cons}
+use mathlib.Core.List.{List, Forall₂, Forall₂·nil, Forall₂·cons}
 use native.Mathlib.Omega.{arith}
 use Rattle.base.specs.First.{someIf, _orElse_}
 use Rattle.base.proofs.FirstLaws.{or-else-none}
@@ -13,23 +13,23 @@ use Rattle.model.specs.Scheme.{inForm, schemeOf}
 use Rattle.model.specs.Accepted.{Accepted}
 use Rattle.model.specs.Answer.{number, values, Answers}
 use Rattle.model.specs.Calls.{bytesFault, checkScheme}
-use Rattle.model.specs.Sequence.{AlikeTables, Request, tableCheck, schemeCheck, edit, read, write, SameCall, Outcome, outcomeOf, outcome, Event}
-use Rattle.model.specs.Sequence.{AlikeEvents}
+use Rattle.model.specs.Sequence.{AlikeTables, Request, tableCheck, schemeCheck, edit, load, write, SameCall, Outcome, outcomeOf, outcome, Event}
+use Rattle.model.specs.Sequence.{BothHold, knownOf, AlikeEvents}
 use Rattle.model.specs.declared.Answer.{Answer}
 use Rattle.model.specs.declared.Answer.the-variants.{Done}
 use Rattle.model.proofs.AnswerLaws.{answers-same}
 use Rattle.model.proofs.SchemeLaws.{shaped}
 use Rattle.model.proofs.AcceptedLaws.{accepted-iff}
 use Rattle.model.proofs.CallLaws.{passed}
-use Rattle.model.proofs.SequenceLaws.{eventOf, call-alike}
+use Rattle.model.proofs.SequenceLaws.{alike-tables, eventOf, call-alike}
 use Rattle.demands.specs.Refusals.{Refusal, FirstOf}
 use Rattle.demands.specs.Ours.{ours}
-use Rattle.demands.specs.Runs.{Allowed, end, next, AlikeRuns}
+use Rattle.demands.specs.Runs.{Allowed, Run, end, next, AlikeFrom, alikeEnd, alikeNext}
 use Rattle.demands.specs.Demands.{Demand1, Demand2, Demand3}
-use Rattle.demands.proofs.OrderLaws.{table-order, scheme-order, edit-order, read-order, write-order}
-use Rattle.demands.proofs.RefusalLaws.{done-none, bytes-within, refused-edit, edit-one, edit-others, read-one, refused-read, refused-write}
+use Rattle.demands.proofs.OrderLaws.{table-order, scheme-order, edit-order, load-order, write-order}
+use Rattle.demands.proofs.RefusalLaws.{done-none, bytes-within, refused-edit, edit-one, edit-others, load-one, load-eleven, refused-write}
 use Rattle.demands.proofs.AdmitLaws.{no-match, nine-is, free-applicable, edit-done}
-use Rattle.demands.proofs.FileDemandLaws.{write-done, written-read, read-written}
+use Rattle.demands.proofs.FileDemandLaws.{load-filed, write-done, written-loaded, accepted-written}
 
 -- ---- demand 1
 
@@ -42,13 +42,14 @@ demand1 = record {
   tableOrder = λ n N t r p. order-of _ _ (p .answer) (table-order n N t);
   schemeOrder = λ b r p. order-of _ _ (p .answer) (scheme-order b);
   editOrder = λ n N t store b d r t′ store′ p. order-of _ _ (p .answer) (edit-order n N t store b d);
-  readOrder = λ n N t b r t′ p. order-of _ _ (p .answer) (read-order n N t b);
+  loadOrder = λ n N t b r t′ p. order-of _ _ (p .answer) (load-order n N t b);
   writeOrder = λ n N t out r out′ p. order-of _ _ (p .answer) (write-order n N t out);
   refusedEdit = λ n N t store b d r t′ store′ p h. p .table ∙ refused-edit n N t store b d (λ e. h (p .answer .sameNumber ∙ e));
   editAfterOne = λ n N t store b d r t′ store′ p e. p .cleared ∙ edit-one n N t store b d (sym (p .answer .sameNumber) ∙ e);
   editAfterOthers = λ n N t store b d r t′ store′ p h. p .cleared ∙ edit-others n N t store b d (λ e. h (p .answer .sameNumber ∙ e));
-  readAfterOne = λ n N t b r t′ p e. p .table ∙ read-one n N t b (sym (p .answer .sameNumber) ∙ e);
-  refusedRead = λ n N t b r t′ p h one. p .table ∙ refused-read n N t b (λ e. h (p .answer .sameNumber ∙ e)) (λ e. one (p .answer .sameNumber ∙ e));
+  loadAfterOne = λ n N t b r t′ p e. p .table ∙ load-one n N t b (sym (p .answer .sameNumber) ∙ e);
+  loadAfterEleven = λ n N t b r t′ p e. p .table ∙ load-eleven n N t b (sym (p .answer .sameNumber) ∙ e);
+  loadDone = load-filed;
   refusedWrite = λ n N t out r out′ p h. p .output ∙ refused-write n N t out (λ e. h (p .answer .sameNumber ∙ e));
 }
 
@@ -81,8 +82,8 @@ demand2 = record {
   written = λ n N t out r out′ p h room.
       let w = write-done n N t out h room in
       (p .answer .sameNumber ∙ ap number (w .0), p .answer .sameValues ∙ ap values (w .0), p .output ∙ w .1);
-  writtenRead = written-read;
-  readWritten = read-written;
+  writtenLoaded = written-loaded;
+  acceptedWritten = accepted-written;
 }
 
 -- ---- demand 3
@@ -93,26 +94,28 @@ unfolding outcomeOf
 outcome-is n N t tableCheck l o p = λ i. record { answer = answers-same (p .0 .answer) i; table = p .1 i; lent = p .2 i }
 outcome-is n N t (schemeCheck b) l o p = λ i. record { answer = answers-same (p .0 .answer) i; table = p .1 i; lent = p .2 i }
 outcome-is n N t (edit b d) l o p = λ i. record { answer = answers-same (p .answer) i; table = p .table i; lent = p .cleared i }
-outcome-is n N t (read b) l o p = λ i. record { answer = answers-same (p .0 .answer) i; table = p .0 .table i; lent = p .1 i }
+outcome-is n N t (load b) l o p = λ i. record { answer = answers-same (p .0 .answer) i; table = p .0 .table i; lent = p .1 i }
 outcome-is n N t write l o p = λ i. record { answer = answers-same (p .0 .answer) i; table = p .1 i; lent = p .0 .output i }
 
 -- so one call of alike maps leaves alike maps
-event-alike : (n N : ℕ) (t t′ : List ℕ) → AlikeTables n N t t′ → (e e′ : Event) → SameCall (e .call) (e′ .call)
-    → Allowed ours n N t (e .call .request) (e .call .lent) (e .outcome) → Allowed ours n N t′ (e′ .call .request) (e′ .call .lent) (e′ .outcome)
-    → AlikeEvents n N e e′
+event-alike : (n N : ℕ) (t t′ : List ℕ) → AlikeTables n N t t′ → (known : Bool) → (known ≡ true → BothHold n N t t′) → (e e′ : Event)
+    → SameCall (e .call) (e′ .call) → Allowed ours n N t (e .call .request) (e .call .lent) (e .outcome)
+    → Allowed ours n N t′ (e′ .call .request) (e′ .call .lent) (e′ .outcome) → AlikeEvents n N (knownOf known e) e e′
 unfolding outcome
-event-alike n N t t′ a e e′ same p p′ =
+event-alike n N t t′ a known k e e′ same p p′ =
     let is : e .outcome ≡ outcome n N t (e .call) = outcome-is n N t (e .call .request) (e .call .lent) (e .outcome) p in
     let is′ : e′ .outcome ≡ outcome n N t′ (e′ .call) = outcome-is n N t′ (e′ .call .request) (e′ .call .lent) (e′ .outcome) p′ in
-    subst (λ (o : Outcome). AlikeEvents n N (record { call = e .call; outcome = o }) e′) (sym is)
-    (subst (λ (o : Outcome). AlikeEvents n N (eventOf n N t (e .call)) (record { call = e′ .call; outcome = o })) (sym is′)
-    (call-alike n N t t′ a (e .call) (e′ .call) same))
+    subst (λ (o : Outcome). let f : Event = record { call = e .call; outcome = o } in AlikeEvents n N (knownOf known f) f e′) (sym is)
+    (subst (λ (o : Outcome). AlikeEvents n N (knownOf known (eventOf n N t (e .call))) (eventOf n N t (e .call)) (record { call = e′ .call; outcome = o }))
+    (sym is′) (call-alike n N t t′ a known k (e .call) (e′ .call) same))
 
-alike-runs : AlikeRuns ours
-alike-runs n N t t′ a s s′ end end Forall₂·nil = Forall₂·nil
-alike-runs n N t t′ a s s′ (next {e = e} {s = r} p q) (next {e = e′} {s = r′} p′ q′) (Forall₂·cons same rest) =
-    let now : AlikeEvents n N e e′ = event-alike n N t t′ a e e′ same p p′ in
-    Forall₂·cons now (alike-runs n N _ _ (now .tables) r r′ q q′ rest)
+-- from alike maps on, well-formed where they are known to be
+alike-from : (n N : ℕ) (t t′ : List ℕ) → AlikeTables n N t t′ → (known : Bool) → (known ≡ true → BothHold n N t t′) → (s s′ : List Event)
+    → Run ours n N t s → Run ours n N t′ s′ → Forall₂ (λ e e′. SameCall (e .call) (e′ .call)) s s′ → AlikeFrom n N known s s′
+alike-from n N t t′ a known k s s′ end end Forall₂·nil = alikeEnd
+alike-from n N t t′ a known k s s′ (next {e = e} {s = r} p q) (next {e = e′} {s = r′} p′ q′) (Forall₂·cons same rest) =
+    let now : AlikeEvents n N (knownOf known e) e e′ = event-alike n N t t′ a known k e e′ same p p′ in
+    alikeNext now (alike-from n N _ _ (now .tables) (knownOf known e) (now .well) r r′ q q′ rest)
 
 pub demand3 : Demand3 ours
-demand3 = record { edits = demand2; throughout = alike-runs }
+demand3 = record { edits = demand2; throughout = λ n N t t′ h a. alike-from n N t t′ (alike-tables n N t t′ h a) true (λ e. h) }

@@ -1,4 +1,4 @@
--- The file calls of demand 2: what is written, read again, and written back.
+-- The file calls of demands 1 and 2: what a load leaves, and what is written, loaded again, and written back.
 -- Assumes nothing.
 use Prim.Native.Nat.{ℕ, _≤_, _<_}
 use mathlib.Core.Path.{_≡_, refl, sym, ap, _∙_, subst}
@@ -12,26 +12,27 @@ use lib.Dec.{ltb}
 use borrow.Author.Tests.{eqb-true, eqb-false, eq-eqb, ne-eqb, le-ltb}
 use Rattle.base.specs.First.{someIf, there, _orElse_}
 use Rattle.base.proofs.TestLaws.{true-or-false}
-use Rattle.base.proofs.FirstLaws.{or-else-none, when-none}
-use Rattle.model.specs.Map.{Map, Field, State, Link, Tag, fieldOf, dimension, view, tableOf, live}
+use Rattle.base.proofs.BelowLaws.{le-or-lt}
+use Rattle.base.proofs.FirstLaws.{or-else-none}
+use Rattle.model.specs.Map.{Map, Field, State, Link, Tag, fieldOf, dimension, fieldAt, view, tableOf, live}
 use Rattle.model.specs.Alike.{Alike}
-use Rattle.model.specs.File.{file, fileForm, fileMap}
+use Rattle.model.specs.File.{file, darts, slotAt, fileForm, fileMap}
 use Rattle.model.specs.WellFormed.{WellFormed}
 use Rattle.model.specs.Answer.{number, values}
-use Rattle.model.specs.Calls.{sizesOk, tableFault, checkTable, readFaultAt, readFault, readAnswer, readTable, writeFaultAt, writeFault, writeAnswer, writeOut}
+use Rattle.model.specs.Calls.{sizesOk, tableFault, loadFaultAt, loadFault, loadAnswer, writeFaultAt, writeFault, writeAnswer, writeOut}
 use Rattle.model.specs.Sequence.{Holds, AlikeTables}
 use Rattle.model.specs.declared.Answer.{Answer}
-use Rattle.model.specs.declared.Answer.the-variants.{Done, Written}
-use Rattle.model.proofs.MapLaws.{field-at}
+use Rattle.model.specs.declared.Answer.the-variants.{Written}
+use Rattle.model.proofs.MapLaws.{field-at, field-none, field-words, length-words}
 use Rattle.model.proofs.SizeLaws.{sizes-iff}
-use Rattle.model.proofs.WellFormedLaws.{wellFormed-iff}
-use Rattle.model.proofs.CallLaws.{passed}
-use Rattle.model.proofs.HoldsLaws.{holds-free, holds-iff, sizes-too, read-holds, writtenFile, written-file, dimension-small}
-use Rattle.model.proofs.FileLaws.{same-file}
+use Rattle.model.proofs.HoldsLaws.{holds-free, holds-of, holds-iff, holds-slotted, sizes-too, words-hold, writtenFile, written-file, dimension-small}
+use Rattle.model.proofs.FileLaws.{same-file, slot-below, filed-live, filed-tag, filed-link, filed-own, filed-zero}
 use Rattle.model.proofs.AlikeLaws.{alike-sym, alike-trans, words-alike, well-alike}
 use Rattle.file.proofs.RoundTrip.{written-form, read-back, written-back}
-use Rattle.demands.specs.Promises.{FileRead, FileWritten}
-use Rattle.demands.proofs.RefusalLaws.{cond-true, cond-false, done-none, read-within, write-within}
+use Rattle.demands.specs.Promises.{TableChecked, FileLoaded, FileWritten}
+use Rattle.demands.specs.Ours.{ours}
+use Rattle.demands.specs.Demands.{Filed, FileAccepted}
+use Rattle.demands.proofs.RefusalLaws.{cond-true, cond-false, done-none, load-done, write-within}
 
 -- the map in the file of a well-formed map is like it
 module _ (n N : ℕ) (t : List ℕ) (h : Holds n N t) (small : (i : ℕ) → getD t i 0 < 4294967296) where
@@ -73,40 +74,60 @@ module _ (n N : ℕ) (t : List ℕ) (h : Holds n N t) (small : (i : ℕ) → get
   unfolding fileMap
   table-alike = alike-trans file-alike (alike-sym (words-alike k))
 
-  -- reading the file is not refused
-  read-free : (u : List ℕ) → sizesOk n N u ≡ true → readFault n N u (file n m) ≡ none
-  unfolding readFault readFaultAt _orElse_ someIf
-  read-free u s =
+  -- the file is loaded, whatever was in the table
+  load-free : (u : List ℕ) → sizesOk n N u ≡ true → number (loadAnswer n N u (file n m)) ≡ 0
+  unfolding loadAnswer loadFault loadFaultAt _orElse_ someIf
+  load-free u s =
       let form = written-form n m (omega (arith, dimension-small n N t (h .sizes))) (sizes-iff n N t .0 (h .sizes) .few) in
-      let well = wellFormed-iff n k .1 file-well in
-      rw (s, form, well) refl
+      rw (s, form) refl
 
--- the file of the table that a read leaves is the file of the map that was read
+-- the file of the table that a load leaves is the file of the map that was loaded
 one-file : (n N : ℕ) (b : List ℕ) → n ≤ 3 → file n (view N (tableOf (fileMap n N b))) ≡ file n (fileMap n N b)
 unfolding fileMap
 one-file n N b small = same-file n small (view N (tableOf (fileMap n N b))) (fileMap n N b) (words-alike (fileMap n N b))
 
--- a read that is not refused leaves the map of the file
-read-table : (n N : ℕ) (t b : List ℕ) → sizesOk n N t ≡ true → readFault n N t b ≡ none → readTable n N t b ≡ tableOf (fileMap n N b)
-unfolding readTable there
-read-table n N t b s q = rw (s, q) refl
+-- the table of a file in the form has the file's records, and nothing else
+module _ (n N : ℕ) (b : List ℕ) (small : n ≤ 3) (form : fileForm n N b ≡ true) where
+  abbrev M : Map
+  M = fileMap n N b
+
+  word-of : (k : ℕ) → k < darts b → (f : Field) → dimension f ≤ 3 → fieldAt (tableOf M) f (slotAt b k) ≡ fieldOf M f (slotAt b k)
+  unfolding fileMap
+  word-of k h f l = field-words M (slotAt b k) (slot-below n N b form k h) f l
+
+  filed : Filed n N b (tableOf M)
+  unfolding fileMap
+  filed = record {
+    long = length-words M;
+    live = λ k h. word-of k h State (omega arith) ∙ filed-live n N b form k h;
+    tag = λ k h. word-of k h Tag (omega arith) ∙ filed-tag n N b form k h;
+    link = λ k h i l. word-of k h (Link i) (omega arith) ∙ filed-link n N b form k h i l;
+    flat = λ two k h. word-of k h (Link 3) (omega arith) ∙ filed-own n N b form k h 3 (omega arith);
+    zero = λ x h other f. ⊎-elim
+        (λ l. field-words M x h f l ∙ filed-zero n N b form x other f)
+        (λ l. field-none (tableOf M) f x l)
+        (le-or-lt (dimension f) 3);
+  }
+
+-- so a load that is done leaves them
+pub load-filed : (n N : ℕ) (t b : List ℕ) (r : Answer) (t′ : List ℕ) → FileLoaded n N t b r t′ → number r ≡ 0 → Filed n N b t′
+load-filed n N t b r t′ p e =
+    let done = load-done n N t b (sym (p .answer .sameNumber) ∙ e) in
+    subst (Filed n N b) (sym (p .table ∙ done .2)) (filed n N b (dimension-small n N t (done .0)) (done .1))
 
 -- a write that is not refused has room for the file of a well-formed map, and leaves it
 module _ (n N : ℕ) (t out : List ℕ) where
   write-holds : writeFault n N t out ≡ none → Holds n N t
-  unfolding writeFault writeFaultAt tableFault checkTable
-  write-holds q = holds-iff n N t .1 (ap (λ (o : Option Answer). Option·getD o Done) (or-else-none _ _ q .0))
-
-  write-room : writeFault n N t out ≡ none → ltb (length out) (length (file n (view N t))) ≡ false
-  unfolding writeFault writeFaultAt
-  write-room q = when-none _ _ (or-else-none _ _ q .1)
+  unfolding writeFault writeFaultAt tableFault
+  write-holds q = holds-of n N t (or-else-none _ _ q .0)
 
   write-free : Holds n N t → ltb (length out) (length (file n (view N t))) ≡ false → writeFault n N t out ≡ none
   unfolding writeFault writeFaultAt tableFault _orElse_ someIf
   write-free h room = rw (holds-free n N t h, room) refl
 
-  write-leaves : Holds n N t → ltb (length out) (length (file n (view N t))) ≡ false → writtenFile n N t out ≡ file n (view N t)
-  write-leaves h room = written-file n N t out h ∙ cond-false _ _ _ room
+  write-leaves : writeFault n N t out ≡ none → writtenFile n N t out ≡ file n (view N t)
+  unfolding there
+  write-leaves free = written-file n N t out ∙ cond-false _ _ _ (ap there free)
 
 -- a well-formed map with room for its file is written
 pub write-done : (n N : ℕ) (t out : List ℕ) → Holds n N t → length (file n (view N t)) ≤ length out
@@ -121,43 +142,41 @@ promised-file : (n N : ℕ) (t out : List ℕ) (r : Answer) (out′ : List ℕ) 
     → take (getD (values r) 0 0) out′ ≡ writtenFile n N t out
 promised-file n N t out r out′ p i = take (getD (p .answer .sameValues i) 0 0) (p .output i)
 
-pub written-read : (n N : ℕ) (t out : List ℕ) (r : Answer) (out′ : List ℕ) → FileWritten n N t out r out′ → number r ≡ 0
+pub written-loaded : (n N : ℕ) (t out : List ℕ) (r : Answer) (out′ : List ℕ) → FileWritten n N t out r out′ → number r ≡ 0
     → ((i : ℕ) → getD t i 0 < 4294967296)
-    → (u : List ℕ) (r₂ : Answer) (u′ : List ℕ) → length u ≡ length t → FileRead n N u (take (getD (values r) 0 0) out′) r₂ u′
-    → (number r₂ ≡ 0) × AlikeTables n N t u′
-unfolding writeAnswer readAnswer
-written-read n N t out r out′ p e small u r₂ u′ len q =
+    → (u : List ℕ) (r₂ : Answer) (u′ : List ℕ) → length u ≡ length t → FileLoaded n N u (take (getD (values r) 0 0) out′) r₂ u′
+    → (r₃ : Answer) → TableChecked n N u′ r₃ → (number r₂ ≡ 0) × (number r₃ ≡ 0) × AlikeTables n N t u′
+unfolding writeAnswer fileMap
+written-loaded n N t out r out′ p e small u r₂ u′ len q r₃ c =
     let free : writeFault n N t out ≡ none = done-none _ _ (write-within n N t out) (omega arith) (sym (p .answer .sameNumber) ∙ e) in
     let h = write-holds n N t out free in
     let b : List ℕ = file n (view N t) in
-    let taken : take (getD (values r) 0 0) out′ ≡ b = promised-file n N t out r out′ p ∙ write-leaves n N t out h (write-room n N t out free) in
-    let p₂ : FileRead n N u b r₂ u′ = subst (λ (l : List ℕ). FileRead n N u l r₂ u′) taken q in
-    let sized = sizes-too n N t (h .sizes) u len in
-    let free₂ = read-free n N t h small u sized in
-    let table : u′ ≡ tableOf (fileMap n N b) = p₂ .table ∙ read-table n N u b sized free₂ in (
-      p₂ .answer .sameNumber ∙ ap (λ (o : Option Answer). number (Option·getD o Done)) free₂,
+    let taken : take (getD (values r) 0 0) out′ ≡ b = promised-file n N t out r out′ p ∙ write-leaves n N t out free in
+    let p₂ : FileLoaded n N u b r₂ u′ = subst (λ (l : List ℕ). FileLoaded n N u l r₂ u′) taken q in
+    let loads = load-free n N t h small u (sizes-too n N t (h .sizes) u len) in
+    let table : u′ ≡ tableOf (fileMap n N b) = p₂ .table ∙ load-done n N u b loads .2 in
+    let h₂ : Holds n N u′ = subst (Holds n N) (sym table) (words-hold n N t (h .sizes) (fileMap n N b) refl (file-well n N t h small)) in (
+      p₂ .answer .sameNumber ∙ loads,
+      c .answer .sameNumber ∙ holds-iff n N u′ .0 h₂,
       record {
-        one = h;
-        other = subst (Holds n N) (sym (p₂ .table)) (read-holds n N u b sized);
+        one = holds-slotted n N t h;
+        other = holds-slotted n N u′ h₂;
         alike = subst (λ (l : List ℕ). Alike (view N t) (view N l)) (sym table) (table-alike n N t h small);
       },
     )
 
-pub read-written : (n N : ℕ) (t b : List ℕ) (r : Answer) (t′ : List ℕ) → FileRead n N t b r t′ → number r ≡ 0
-    → ((i : ℕ) → getD b i 0 < 256)
-    → (out : List ℕ) (r₂ : Answer) (out′ : List ℕ) → length b ≤ length out → FileWritten n N t′ out r₂ out′
-    → (number r₂ ≡ 0) × (take (getD (values r₂) 0 0) out′ ≡ b)
-unfolding readAnswer readFault readFaultAt writeAnswer
-read-written n N t b r t′ p e bytes out r₂ out′ len q =
-    let free : readFault n N t b ≡ none = done-none _ _ (read-within n N t b) (omega arith) (sym (p .answer .sameNumber) ∙ e) in
-    let parts = or-else-none _ _ free in
-    let sized : sizesOk n N t ≡ true = passed _ _ (parts .0) in
-    let form : fileForm n N b ≡ true = passed _ _ (or-else-none _ _ (parts .1) .0) in
-    let table : t′ ≡ tableOf (fileMap n N b) = p .table ∙ read-table n N t b sized free in
-    let h : Holds n N t′ = subst (Holds n N) (sym (p .table)) (read-holds n N t b sized) in
+pub accepted-written : (n N : ℕ) (t b t′ : List ℕ) → FileAccepted ours n N t b t′ → ((i : ℕ) → getD b i 0 < 256)
+    → (out : List ℕ) (r : Answer) (out′ : List ℕ) → length b ≤ length out → FileWritten n N t′ out r out′
+    → (number r ≡ 0) × (take (getD (values r) 0 0) out′ ≡ b)
+unfolding writeAnswer
+accepted-written n N t b t′ a bytes out r out′ len q =
+    let done = load-done n N t b (sym (a .loads .answer .sameNumber) ∙ a .loaded) in
+    let table : t′ ≡ tableOf (fileMap n N b) = a .loads .table ∙ done .2 in
+    let h : Holds n N t′ = holds-iff n N t′ .1 (sym (a .checks .answer .sameNumber) ∙ a .passes) in
     let same : file n (view N t′) ≡ b = ap (λ (l : List ℕ). file n (view N l)) table
-    ∙ one-file n N b (dimension-small n N t sized) ∙ written-back n N b form bytes in
-    let room : ltb (length out) (length (file n (view N t′))) ≡ false = ap (λ (l : List ℕ). ltb (length out) (length l)) same ∙ le-ltb _ _ len in (
-      q .answer .sameNumber ∙ ap (λ (o : Option Answer). number (Option·getD o (Written (length (file n (view N t′)))))) (write-free n N t′ out h room),
-      promised-file n N t′ out r₂ out′ q ∙ write-leaves n N t′ out h room ∙ same,
+    ∙ one-file n N b (dimension-small n N t (done .0)) ∙ written-back n N b (done .1) bytes in
+    let room : ltb (length out) (length (file n (view N t′))) ≡ false = ap (λ (l : List ℕ). ltb (length out) (length l)) same ∙ le-ltb _ _ len in
+    let free : writeFault n N t′ out ≡ none = write-free n N t′ out h room in (
+      q .answer .sameNumber ∙ ap (λ (o : Option Answer). number (Option·getD o (Written (length (file n (view N t′)))))) free,
+      promised-file n N t′ out r out′ q ∙ write-leaves n N t′ out free ∙ same,
     )

@@ -6,7 +6,7 @@ use mathlib.Core.List.{List}
 use Rattle.model.specs.Answer.{Answers}
 use Rattle.model.specs.declared.Answer.{Answer}
 use Rattle.model.proofs.AnswerLaws.{answers-same}
-use Rattle.demands.specs.Promises.{TableChecked, SchemeChecked, MapEdited, FileRead, FileWritten}
+use Rattle.demands.specs.Promises.{TableChecked, SchemeChecked, MapEdited, FileLoaded, FileWritten}
 
 one-answer : {r r₂ a : Answer} → Answers r a → Answers r₂ a → r ≡ r₂
 one-answer p q = answers-same p ∙ sym (answers-same q)
@@ -21,8 +21,8 @@ pub one-edit : {n N : ℕ} {t store b : List ℕ} {d : ℕ} {r r₂ : Answer} {t
     → MapEdited n N t store b d r t′ store′ → MapEdited n N t store b d r₂ t₂ store₂ → (r ≡ r₂) × (t′ ≡ t₂) × (store′ ≡ store₂)
 one-edit p q = (one-answer (p .answer) (q .answer), p .table ∙ sym (q .table), p .cleared ∙ sym (q .cleared))
 
-pub one-read : {n N : ℕ} {t b : List ℕ} {r r₂ : Answer} {t′ t₂ : List ℕ} → FileRead n N t b r t′ → FileRead n N t b r₂ t₂ → (r ≡ r₂) × (t′ ≡ t₂)
-one-read p q = (one-answer (p .answer) (q .answer), p .table ∙ sym (q .table))
+pub one-load : {n N : ℕ} {t b : List ℕ} {r r₂ : Answer} {t′ t₂ : List ℕ} → FileLoaded n N t b r t′ → FileLoaded n N t b r₂ t₂ → (r ≡ r₂) × (t′ ≡ t₂)
+one-load p q = (one-answer (p .answer) (q .answer), p .table ∙ sym (q .table))
 
 pub one-write : {n N : ℕ} {t out : List ℕ} {r r₂ : Answer} {out′ out₂ : List ℕ}
     → FileWritten n N t out r out′ → FileWritten n N t out r₂ out₂ → (r ≡ r₂) × (out′ ≡ out₂)

@@ -20,11 +20,11 @@ use Rattle.model.specs.Scheme.{inForm, schemeOf}
 use Rattle.model.specs.Accepted.{Accepted}
 use Rattle.model.specs.Conditions.{hookFault, incidenceFault, cycleFault, schemeFault, noted}
 use Rattle.model.specs.Edit.{addedDarts}
-use Rattle.model.specs.File.{file, fileForm, fileMap}
+use Rattle.model.specs.File.{file, fileForm}
 use Rattle.model.specs.Answer.{number, values}
 use Rattle.model.specs.Site.{Site, Sound}
 use Rattle.model.specs.Calls.{Sizes, sizesOk, mapFault, tableFault, checkTable, bytesFault, checkScheme, fitFault, siteFault, siteDone, siteOf, storedOk}
-use Rattle.model.specs.Calls.{editFaultAt, editFault, editAnswer, readFaultAt, readFault, readAnswer, writeFaultAt, writeFault, writeAnswer}
+use Rattle.model.specs.Calls.{editFaultAt, editFault, editAnswer, loadFaultAt, loadFault, loadAnswer, writeFaultAt, writeFault, writeAnswer}
 use Rattle.model.specs.declared.Answer.{Answer}
 use Rattle.model.specs.declared.Answer.the-variants.{Done, BadHook, BadIncidence}
 use Rattle.model.proofs.WellFormedLaws.{wellFormed-iff}
@@ -32,7 +32,7 @@ use Rattle.model.proofs.SizeLaws.{sizes-iff}
 use Rattle.model.proofs.SchemeLaws.{shaped}
 use Rattle.model.proofs.AcceptedLaws.{accepted, noted-at, noted-none}
 use Rattle.demands.specs.Refusals.{Refusal, bare, FirstOf, Nothing, hookRefusal, incidenceRefusal, cycleRefusal, schemeRefusals}
-use Rattle.demands.specs.Refusals.{Matched, Crowded, Dart, tableRefusals, editRefusals, readRefusals, writeRefusals}
+use Rattle.demands.specs.Refusals.{Matched, Crowded, Dart, tableRefusals, editRefusals, loadRefusals, writeRefusals}
 use Rattle.demands.specs.Demands.{Counted}
 use Rattle.demands.proofs.FaultLaws.{hook-found, hook-nowhere, incidence-found, incidence-nowhere, cycle-found, cycle-nowhere}
 use Rattle.demands.proofs.FaultLaws.{orbit-of, site-one, matched-iff}
@@ -135,11 +135,10 @@ scheme-order b = subst (λ (c : Option Answer). FirstOf (schemeRefusals b []) No
     (bytes-order b [] Nothing none Done (λ f a. (refl, refl)))
 
 module _ (n N : ℕ) (t b : List ℕ) where
-  pub read-order : FirstOf (readRefusals n N t b) Nothing (readAnswer n N t b)
-  unfolding readAnswer readFault readFaultAt
-  read-order = order-test 1 _ Nothing (sizesOk n N t) (sizes-iff n N t) _ _ Done refl refl
-      (λ s. order-test 11 _ Nothing (fileForm n N b) (itself (fileForm n N b)) _ _ Done refl refl
-      (λ f. order-end 7 Nothing _ (wellFormed-iff n (fileMap n N b)) _ Done refl refl (λ w. (refl, refl))))
+  pub load-order : FirstOf (loadRefusals n N t b) Nothing (loadAnswer n N t b)
+  unfolding loadAnswer loadFault loadFaultAt
+  load-order = order-test 1 _ Nothing (sizesOk n N t) (sizes-iff n N t) _ _ Done refl refl
+      (λ s. order-end 11 Nothing (fileForm n N b) (itself (fileForm n N b)) _ Done refl refl (λ f. (refl, refl)))
 
 module _ (n N : ℕ) (t out : List ℕ) where
   pub write-order : FirstOf (writeRefusals n N t out) (λ v. v ≡ length (file n (view N t)) ∷ []) (writeAnswer n N t out)

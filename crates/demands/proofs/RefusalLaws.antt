@@ -1,7 +1,7 @@
 -- What the numbers of a chain's refusals say: which of its tests were passed, and what table, store and output hold then.
 -- Assumes nothing.
 use Prim.Native.Nat.{ℕ, _≤_, _<_}
-use mathlib.Core.Path.{_≡_, refl, sym, ap, _∙_}
+use mathlib.Core.Path.{_≡_, refl, sym, ap}
 use mathlib.Core.Logic.{_⊎_, ⊎-elim}
 use mathlib.Core.Bool.{Bool, true, false, not, cond}
 use mathlib.Core.Option.{Option, none, some, Option·getD}
@@ -10,7 +10,6 @@ use native.Mathlib.Omega.{arith}
 use Rattle.base.specs.First.{someIf, _orElse_, there}
 use Rattle.base.proofs.FirstLaws.{first-at, when-at, some-not-none}
 use Rattle.model.specs.Map.{tableOf}
-use Rattle.model.specs.WellFormed.{wellFormed}
 use Rattle.model.specs.Answer.{number}
 use Rattle.model.specs.Scheme.{schemeOf}
 use Rattle.model.specs.Conditions.{hookFault, incidenceFault, cycleFault, schemeFault, noted}
@@ -19,10 +18,10 @@ use Rattle.model.specs.File.{fileForm, fileMap}
 use Rattle.model.specs.Site.{Site}
 use Rattle.model.specs.Calls.{zeros, sizesOk, mapFault, tableFault, bytesFault, fitFault, siteFault, siteOf, storedOk}
 use Rattle.model.specs.Calls.{siteDone, editFaultAt, editFault, editAnswer, editTable, editStore}
-use Rattle.model.specs.Calls.{readFaultAt, readFault, readAnswer, readTable, writeFaultAt, writeFault, writeAnswer, writeOut}
+use Rattle.model.specs.Calls.{loadFaultAt, loadFault, loadAnswer, loaded, loadTable, writeFaultAt, writeFault, writeAnswer, writeOut}
 use Rattle.model.specs.declared.Scheme.{Scheme}
 use Rattle.model.specs.declared.Answer.{Answer}
-use Rattle.model.specs.declared.Answer.the-variants.{BadCall, BadForm, BadHook, BadIncidence, BadTable, BadFile}
+use Rattle.model.specs.declared.Answer.the-variants.{Done, BadCall, BadForm, BadHook, BadIncidence, BadFile}
 
 pub cond-true : {A : Type 0} (s : Bool) (a b : A) → s ≡ true → cond s a b ≡ a
 cond-true s a b e = rw e
@@ -152,28 +151,40 @@ module _ (n N : ℕ) (t store b : List ℕ) (d : ℕ) where
   unfolding editAnswer editStore editFault editFaultAt editRest siteDone
   edit-others h = cond-true (storedOk n N t store) (zeros store) store (other-right (storedOk n N t store) editRest _ 10 edit-rest refl h)
 
--- ---- a read
+-- ---- a load
 
 module _ (n N : ℕ) (t b : List ℕ) where
-  readRest : Option Answer
-  readRest = someIf (not (fileForm n N b)) BadFile orElse someIf (not (wellFormed n (fileMap n N b))) BadTable
+  loadRest : Option Answer
+  loadRest = someIf (not (fileForm n N b)) BadFile
 
-  read-rest : Within 2 11 readRest
-  unfolding readRest
-  read-rest = within-or 2 11 _ _ (within-test 2 11 _ _ (omega arith) (omega arith)) (within-test 2 11 _ _ (omega arith) (omega arith))
+  load-rest : Within 2 11 loadRest
+  unfolding loadRest
+  load-rest = within-test 2 11 _ _ (omega arith) (omega arith)
 
-  pub read-within : Within 1 11 (readFault n N t b)
-  unfolding readFault readFaultAt readRest
-  read-within = within-or 1 11 _ _ (within-test 1 11 _ _ (omega arith) (omega arith)) (within-more 2 11 (omega arith) (omega arith) read-rest)
+  pub load-within : Within 1 11 (loadFault n N t b)
+  unfolding loadFault loadFaultAt loadRest
+  load-within = within-or 1 11 _ _ (within-test 1 11 _ _ (omega arith) (omega arith)) (within-more 2 11 (omega arith) (omega arith) load-rest)
 
-  pub read-one : number (readAnswer n N t b) ≡ 1 → readTable n N t b ≡ t
-  unfolding readAnswer readTable readFault readFaultAt readRest
-  read-one e = cond-false (sizesOk n N t) _ t (one-wrong (sizesOk n N t) readRest _ 11 read-rest refl e)
+  pub load-one : number (loadAnswer n N t b) ≡ 1 → loadTable n N t b ≡ t
+  unfolding loadAnswer loadTable loadFault loadFaultAt loadRest
+  load-one e = cond-false (sizesOk n N t) _ t (one-wrong (sizesOk n N t) loadRest _ 11 load-rest refl e)
 
-  pub refused-read : (number (readAnswer n N t b) ≡ 0 → ⊥) → (number (readAnswer n N t b) ≡ 1 → ⊥) → readTable n N t b ≡ zeros t
-  unfolding readAnswer readTable readFault readFaultAt readRest
-  refused-read h one = cond-true (sizesOk n N t) _ t (other-right (sizesOk n N t) readRest _ 11 read-rest refl one)
-      ∙ cond-true _ (zeros t) (tableOf (fileMap n N b)) (refused-there (readFault n N t b) _ refl h)
+  -- 11 is given where the sizes are right and the file is not in the form, and 0 where it is
+  load-tests : (s f : Bool) → let r = Option·getD (someIf (not s) BadCall orElse someIf (not f) BadFile) Done in
+      (number r ≡ 11 → (s ≡ true) × (f ≡ false)) × (number r ≡ 0 → (s ≡ true) × (f ≡ true))
+  unfolding someIf _orElse_
+  load-tests false f = ((λ e. absurd (omega arith)), (λ e. absurd (omega arith)))
+  load-tests true false = ((λ e. (refl, refl)), (λ e. absurd (omega arith)))
+  load-tests true true = ((λ e. absurd (omega arith)), (λ e. (refl, refl)))
+
+  pub load-eleven : number (loadAnswer n N t b) ≡ 11 → loadTable n N t b ≡ zeros t
+  unfolding loadAnswer loadTable loaded loadFault loadFaultAt
+  load-eleven e = let r = load-tests (sizesOk n N t) (fileForm n N b) .0 e in rw (r .0, r .1) refl
+
+  -- a load that is done has found the sizes right and the file in the form, and leaves the map of the file
+  pub load-done : number (loadAnswer n N t b) ≡ 0 → (sizesOk n N t ≡ true) × (fileForm n N b ≡ true) × (loadTable n N t b ≡ tableOf (fileMap n N b))
+  unfolding loadAnswer loadTable loaded loadFault loadFaultAt
+  load-done e = let r = load-tests (sizesOk n N t) (fileForm n N b) .1 e in (r .0, r .1, rw (r .0, r .1) refl)
 
 -- ---- a table check and a write
 

@@ -1,29 +1,35 @@
 -- Kernels that demand 2 shuts out: one that refuses everything, one that gives a fixed answer, one that changes nothing, one that rewrites only the
 -- first orbit dart, and one that invents its counts. Each is refuted on P8, V on E at 0, or on P10, W on E at 0.
+-- Kernels that demand 1 shuts out: one whose load refuses a broken map, and one whose load leaves a word of an unused record.
 -- Assumes nothing.
-use Prim.Native.Nat.{ℕ}
+use Prim.Native.Nat.{ℕ, zero, suc, _<_}
 use mathlib.Core.Path.{_≡_, refl, sym, ap, _∙_, subst}
-use mathlib.Core.Bool.{cond}
-use mathlib.Core.List.{List, [], _++_, Forall₂·nil, Forall₂·cons}
+use mathlib.Core.Logic.{inl, inr}
+use mathlib.Core.Bool.{Bool, true, false, cond, true≢false}
+use mathlib.Core.List.{List, [], _++_, Forall₂, Forall₂·nil, Forall₂·cons}
 use native.Mathlib.Omega.{arith}
 use lib.ListN.{getD, take}
 use lib.Dec.{eqb}
+use Rattle.base.specs.Test.{_or_}
 use Rattle.base.specs.First.{there}
-use Rattle.model.specs.Map.{tableOf}
+use Rattle.base.proofs.TestLaws.{or-false}
+use Rattle.model.specs.Map.{Link, Tag, fieldAt, put, tableOf}
 use Rattle.model.specs.Edit.{edited}
 use Rattle.model.specs.Answer.{number, values}
-use Rattle.model.specs.Calls.{editFault, editAnswer, editTable, editStore}
-use Rattle.model.specs.Sequence.{AlikeTables, Request, tableCheck, schemeCheck, edit, read, write, Outcome, fileOf, AlikeEvents}
+use Rattle.model.specs.File.{darts, slotAt}
+use Rattle.model.specs.Calls.{checkTable, editFault, editAnswer, editTable, editStore, loadAnswer, loadTable}
+use Rattle.model.specs.Sequence.{AlikeTables, BothHold, Request, tableCheck, schemeCheck, edit, load, write, SameCall, Outcome, fileOf, knownAfter}
+use Rattle.model.specs.Sequence.{Event, knownOf, AlikeEvents}
 use Rattle.model.specs.declared.Answer.{Answer}
-use Rattle.model.specs.declared.Answer.the-variants.{Edited, BadCall}
-use Rattle.model.specs.Map.{Link, fieldAt}
+use Rattle.model.specs.declared.Answer.the-variants.{Done, Edited, BadCall, BadTable}
 use Rattle.model.proofs.Computes.{computes}
-use Rattle.model.proofs.Samples.{e8, unusedSlots, vBytes, wBytes, store8, vDarts}
+use Rattle.model.proofs.Samples.{e8, unusedSlots, vBytes, wBytes, store8, vDarts, eFile, brokenFile}
+use Rattle.model.proofs.SequenceLaws.{alike-tables}
 use Rattle.demands.specs.Kernel.{Kernel}
 use Rattle.demands.specs.Ours.{ours}
-use Rattle.demands.specs.Runs.{Allowed, end, next, AlikeRuns}
-use Rattle.demands.specs.Refusals.{siteOver}
-use Rattle.demands.specs.Demands.{Demand2, Demand3, Applicable}
+use Rattle.demands.specs.Runs.{Allowed, Run, end, next, AlikeFrom, alikeEnd, alikeNext, AlikeRuns}
+use Rattle.demands.specs.Refusals.{FirstOf, Nothing, loadRefusals, siteOver}
+use Rattle.demands.specs.Demands.{Demand1, Demand2, Demand3, Applicable}
 use Rattle.demands.proofs.AdmitLaws.{free-applicable, done-is}
 
 -- ---- the kernels
@@ -34,12 +40,12 @@ refusing = record {
   TableCheck = λ n N t r. r ≡ BadCall;
   SchemeCheck = λ b r. r ≡ BadCall;
   Edit = λ n N t store b d r t′ store′. (r ≡ BadCall) × (t′ ≡ t) × (store′ ≡ store);
-  Read = λ n N t b r t′. (r ≡ BadCall) × (t′ ≡ t);
+  Load = λ n N t b r t′. (r ≡ BadCall) × (t′ ≡ t);
   Write = λ n N t out r out′. (r ≡ BadCall) × (out′ ≡ out);
   checksTable = λ n N t. (BadCall, refl);
   checksScheme = λ b. (BadCall, refl);
   edits = λ n N t store b d. (BadCall, t, store, (refl, refl, refl));
-  reads = λ n N t b. (BadCall, t, (refl, refl));
+  loads = λ n N t b. (BadCall, t, (refl, refl));
   writes = λ n N t out. (BadCall, out, (refl, refl));
 }
 
@@ -49,12 +55,27 @@ editing answer table = record {
   TableCheck = ours .TableCheck;
   SchemeCheck = ours .SchemeCheck;
   Edit = λ n N t store b d r t′ store′. (r ≡ answer n N t store b d) × (t′ ≡ table n N t store b d) × (store′ ≡ editStore n N t store b d);
-  Read = ours .Read;
+  Load = ours .Load;
   Write = ours .Write;
   checksTable = ours .checksTable;
   checksScheme = ours .checksScheme;
   edits = λ n N t store b d. (answer n N t store b d, table n N t store b d, editStore n N t store b d, (refl, refl, refl));
-  reads = ours .reads;
+  loads = ours .loads;
+  writes = ours .writes;
+}
+
+-- ours, but for what a load answers and how it leaves the table
+abbrev pub loading : (answer : ℕ → ℕ → List ℕ → List ℕ → Answer) (table : ℕ → ℕ → List ℕ → List ℕ → List ℕ) → Kernel
+loading answer table = record {
+  TableCheck = ours .TableCheck;
+  SchemeCheck = ours .SchemeCheck;
+  Edit = ours .Edit;
+  Load = λ n N t b r t′. (r ≡ answer n N t b) × (t′ ≡ table n N t b);
+  Write = ours .Write;
+  checksTable = ours .checksTable;
+  checksScheme = ours .checksScheme;
+  edits = ours .edits;
+  loads = λ n N t b. (answer n N t b, table n N t b, (refl, refl));
   writes = ours .writes;
 }
 
@@ -73,6 +94,14 @@ first-only = editing editAnswer (λ n N t store b d. cond (there (editFault n N 
 -- an edit that is done counts one of each
 abbrev pub inventing : Kernel
 inventing = editing (λ n N t store b d. cond (eqb (number (editAnswer n N t store b d)) 0) (Edited 1 1 1) (editAnswer n N t store b d)) editTable
+
+-- a load checks the map too, and answers 7 where it is broken
+abbrev pub strict : Kernel
+strict = loading (λ n N t b. cond (eqb (number (loadAnswer n N t b)) 0) (checkTable n N (loadTable n N t b)) (loadAnswer n N t b)) loadTable
+
+-- a load leaves the tag of slot 7 as it was
+abbrev pub leaving : Kernel
+leaving = loading loadAnswer (λ n N t b. put (loadTable n N t b) Tag 7 (fieldAt t Tag 7))
 
 -- ---- the samples
 
@@ -141,6 +170,42 @@ not-inventing D =
     (p8-done inventing D _ _ _ (refl, refl, refl) .1) in
     let size : _≡_ {A = ℕ} 1 2 = ap (at 0) counted in omega arith
 
+-- ---- none of the loads meets demand 1
+
+strict-answer : cond (eqb (number (loadAnswer 2 8 e8 brokenFile)) 0) (checkTable 2 8 (loadTable 2 8 e8 brokenFile)) (loadAnswer 2 8 e8 brokenFile) ≡ BadTable
+unfolding computes
+strict-answer = refl
+
+-- 7 is no answer of a load
+no-seven : (n N : ℕ) (t b : List ℕ) → FirstOf (loadRefusals n N t b) Nothing BadTable → ⊥
+unfolding FirstOf
+no-seven n N t b (inl p) = let one : _≡_ {A = ℕ} 7 1 = p .0 in omega arith
+no-seven n N t b (inr (_, inl p)) = let eleven : _≡_ {A = ℕ} 7 11 = p .0 in omega arith
+no-seven n N t b (inr (_, inr (_, p))) = let zero : _≡_ {A = ℕ} 7 0 = p .0 in omega arith
+
+pub not-strict : Demand1 strict → ⊥
+not-strict D = no-seven 2 8 e8 brokenFile (D .loadOrder 2 8 e8 brokenFile BadTable _ (sym strict-answer, refl))
+
+-- E's file has no dart at slot 7
+not-there : (k : ℕ) → k < darts eFile → slotAt eFile k ≡ 7 → ⊥
+not-there zero h e = omega arith
+not-there (suc zero) h e = omega arith
+not-there (suc (suc k)) h e = omega arith
+
+left-tag : fieldAt (put (loadTable 2 8 e8 eFile) Tag 7 (fieldAt e8 Tag 7)) Tag 7 ≡ 904
+unfolding computes put
+left-tag = refl
+
+e-loads : loadAnswer 2 8 e8 eFile ≡ Done
+unfolding computes
+e-loads = refl
+
+pub not-leaving : Demand1 leaving → ⊥
+not-leaving D =
+    let filed = D .loadDone 2 8 e8 eFile _ _ (refl, refl) (ap number e-loads) in
+    let zero : _≡_ {A = ℕ} 904 0 = sym left-tag ∙ filed .zero 7 (omega arith) not-there Tag in
+    omega arith
+
 -- ---- a kernel that gives one answer to everything
 
 -- what demand 3 says of sequences holds of it ..
@@ -148,29 +213,40 @@ left-alone : (n N : ℕ) (t : List ℕ) (q : Request) (l : List ℕ) (o : Outcom
 left-alone n N t tableCheck l o p = (p .0, p .1)
 left-alone n N t (schemeCheck b) l o p = (p .0, p .1)
 left-alone n N t (edit b d) l o p = (p .0, p .1)
-left-alone n N t (read b) l o p = (p .0 .0, p .0 .1)
+left-alone n N t (load b) l o p = (p .0 .0, p .0 .1)
 left-alone n N t write l o p = (p .0 .0, p .1)
 
 no-file : (q : Request) (o : Outcome) → o .answer ≡ BadCall → fileOf q o ≡ []
 no-file tableCheck o e = refl
 no-file (schemeCheck b) o e = refl
 no-file (edit b d) o e = refl
-no-file (read b) o e = refl
+no-file (load b) o e = refl
 no-file write o e = ap (λ (r : Answer). take (getD (values r) 0 0) (o .lent)) e
 
-pub constant-alike : AlikeRuns refusing
-constant-alike n N t t′ a s s′ end end Forall₂·nil = Forall₂·nil
-constant-alike n N t t′ a s s′ (next {e = e} {s = r} p q) (next {e = e′} {s = r′} p′ q′) (Forall₂·cons same rest) =
+-- nothing is found to be well-formed
+no-more-known : (known : Bool) (q : Request) (a : Answer) → a ≡ BadCall → knownAfter known q a ≡ true → known ≡ true
+no-more-known known tableCheck a e k = sym (or-false known) ∙ subst (λ (r : Answer). (known or eqb (number r) 0) ≡ true) e k
+no-more-known known (schemeCheck b) a e k = k
+no-more-known known (edit b d) a e k = k
+no-more-known known (load b) a e k = absurd (true≢false (sym k))
+no-more-known known write a e k = k
+
+constant-from : (n N : ℕ) (t t′ : List ℕ) → AlikeTables n N t t′ → (known : Bool) → (known ≡ true → BothHold n N t t′) → (s s′ : List Event)
+    → Run refusing n N t s → Run refusing n N t′ s′ → Forall₂ (λ e e′. SameCall (e .call) (e′ .call)) s s′ → AlikeFrom n N known s s′
+constant-from n N t t′ a known k s s′ end end Forall₂·nil = alikeEnd
+constant-from n N t t′ a known k s s′ (next {e = e} {s = r} p q) (next {e = e′} {s = r′} p′ q′) (Forall₂·cons same rest) =
     let one = left-alone n N t (e .call .request) (e .call .lent) (e .outcome) p in
     let other = left-alone n N t′ (e′ .call .request) (e′ .call .lent) (e′ .outcome) p′ in
-    let tables : AlikeTables n N (e .outcome .table) (e′ .outcome .table) =
-    subst (AlikeTables n N (e .outcome .table)) (sym (other .1)) (subst (λ (u : List ℕ). AlikeTables n N u t′) (sym (one .1)) a) in
-    let now : AlikeEvents n N e e′ = record {
-      tables = tables;
+    let now : AlikeEvents n N (knownOf known e) e e′ = record {
+      tables = rw (one .1, other .1) a;
       answers = one .0 ∙ sym (other .0);
       files = no-file (e .call .request) (e .outcome) (one .0) ∙ sym (no-file (e′ .call .request) (e′ .outcome) (other .0));
+      well = λ h. rw (one .1, other .1) (k (no-more-known known (e .call .request) (e .outcome .answer) (one .0) h));
     } in
-    Forall₂·cons now (constant-alike n N _ _ tables r r′ q q′ rest)
+    alikeNext now (constant-from n N _ _ (now .tables) (knownOf known e) (now .well) r r′ q q′ rest)
+
+pub constant-alike : AlikeRuns refusing
+constant-alike n N t t′ h a = constant-from n N t t′ (alike-tables n N t t′ h a) true (λ e. h)
 
 -- .. and yet it does not carry the demand, which speaks of demand 2's edits
 pub constant-falls : Demand3 refusing → ⊥

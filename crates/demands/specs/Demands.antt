@@ -9,21 +9,21 @@ use mathlib.Core.Bool.{Bool, true}
 use mathlib.Core.List.{List, [], _∷_, _++_}
 use lib.ListN.{length, getD, take, drop, replicate}
 use Rattle.base.specs.Below.{countBelow}
-use Rattle.model.specs.Map.{Map, view, tableOf, unused}
+use Rattle.model.specs.Map.{Map, Field, State, Link, Tag, fieldAt, tableSize, view, tableOf, unused}
 use Rattle.model.specs.WellFormed.{WellFormed}
 use Rattle.model.specs.Scheme.{inForm, schemeOf}
 use Rattle.model.specs.Accepted.{Accepted}
 use Rattle.model.specs.Site.{Site}
 use Rattle.model.specs.Edit.{orbitSize, addedDarts, deletedDarts}
 use Rattle.model.specs.Rewriting.{Rewriting}
-use Rattle.model.specs.File.{file}
+use Rattle.model.specs.File.{file, darts, slotAt, tagAt, linkAt}
 use Rattle.model.specs.Answer.{number, values}
 use Rattle.model.specs.Calls.{Sizes}
 use Rattle.model.specs.Sequence.{Holds, AlikeTables}
 use Rattle.model.specs.declared.Answer.{Answer}
 use Rattle.demands.specs.Kernel.{Kernel}
 use Rattle.demands.specs.Runs.{AlikeRuns}
-use Rattle.demands.specs.Refusals.{FirstOf, Nothing, tableRefusals, schemeRefusals, editRefusals, readRefusals, writeRefusals}
+use Rattle.demands.specs.Refusals.{FirstOf, Nothing, tableRefusals, schemeRefusals, editRefusals, loadRefusals, writeRefusals}
 use Rattle.demands.specs.Refusals.{Orbit, siteOver, Matched, Dart}
 
 -- ---- demand 1
@@ -36,13 +36,24 @@ counts E = orbitSize E ∷ addedDarts E ∷ deletedDarts E ∷ []
 abbrev pub Counted : ℕ → List ℕ → List ℕ → ℕ → List ℕ → Type 0
 Counted N t b d v = (O : ℕ → Bool) × Orbit N t b d O × (v ≡ counts (siteOver N t b d O))
 
+-- the table t′ holds the records of a file's bytes b, and nothing else
+pub record Filed (n N : ℕ) (b t′ : List ℕ) : Type 0 where
+  pub long : length t′ ≡ tableSize N
+  -- the k-th dart of the file is live, its tag and links are as they stand there, whether a link is below N or not, and with n = 2 α3 is its own slot
+  pub live : (k : ℕ) → k < darts b → fieldAt t′ State (slotAt b k) ≡ 1
+  pub tag : (k : ℕ) → k < darts b → fieldAt t′ Tag (slotAt b k) ≡ tagAt b k
+  pub link : (k : ℕ) → k < darts b → (i : ℕ) → i ≤ n → fieldAt t′ (Link i) (slotAt b k) ≡ linkAt n b k i
+  pub flat : n ≡ 2 → (k : ℕ) → k < darts b → fieldAt t′ (Link 3) (slotAt b k) ≡ slotAt b k
+  -- every word of every other record is zero
+  pub zero : (x : ℕ) → x < N → ((k : ℕ) → k < darts b → slotAt b k ≡ x → ⊥) → (f : Field) → fieldAt t′ f x ≡ 0
+
 pub record Demand1 (K : Kernel) : Type 0 where
   -- every call answers with the refusal that the order of docs/RULES.md puts first, with its values, and is done where none applies
   pub tableOrder : (n N : ℕ) (t : List ℕ) (r : Answer) → K .TableCheck n N t r → FirstOf (tableRefusals n N t []) Nothing r
   pub schemeOrder : (b : List ℕ) (r : Answer) → K .SchemeCheck b r → FirstOf (schemeRefusals b []) Nothing r
   pub editOrder : (n N : ℕ) (t store b : List ℕ) (d : ℕ) (r : Answer) (t′ store′ : List ℕ) → K .Edit n N t store b d r t′ store′
       → FirstOf (editRefusals n N t store b d) (Counted N t b d) r
-  pub readOrder : (n N : ℕ) (t b : List ℕ) (r : Answer) (t′ : List ℕ) → K .Read n N t b r t′ → FirstOf (readRefusals n N t b) Nothing r
+  pub loadOrder : (n N : ℕ) (t b : List ℕ) (r : Answer) (t′ : List ℕ) → K .Load n N t b r t′ → FirstOf (loadRefusals n N t b) Nothing r
   pub writeOrder : (n N : ℕ) (t out : List ℕ) (r : Answer) (out′ : List ℕ) → K .Write n N t out r out′
       → FirstOf (writeRefusals n N t out) (λ v. v ≡ length (file n (view N t)) ∷ []) r
   -- a refused edit changes no record; the store comes back zero, but after refusal 1 nothing at all is written
@@ -52,10 +63,10 @@ pub record Demand1 (K : Kernel) : Type 0 where
       → number r ≡ 1 → store′ ≡ store
   pub editAfterOthers : (n N : ℕ) (t store b : List ℕ) (d : ℕ) (r : Answer) (t′ store′ : List ℕ) → K .Edit n N t store b d r t′ store′
       → (number r ≡ 1 → ⊥) → store′ ≡ replicate (length store) 0
-  -- a read refused with 1 leaves the table as it was, one refused with 11 or 7 leaves it all zero
-  pub readAfterOne : (n N : ℕ) (t b : List ℕ) (r : Answer) (t′ : List ℕ) → K .Read n N t b r t′ → number r ≡ 1 → t′ ≡ t
-  pub refusedRead : (n N : ℕ) (t b : List ℕ) (r : Answer) (t′ : List ℕ) → K .Read n N t b r t′
-      → (number r ≡ 0 → ⊥) → (number r ≡ 1 → ⊥) → t′ ≡ replicate (length t) 0
+  -- a load refused with 1 leaves the table as it was, one refused with 11 leaves it all zero, and one that is done leaves the file's records
+  pub loadAfterOne : (n N : ℕ) (t b : List ℕ) (r : Answer) (t′ : List ℕ) → K .Load n N t b r t′ → number r ≡ 1 → t′ ≡ t
+  pub loadAfterEleven : (n N : ℕ) (t b : List ℕ) (r : Answer) (t′ : List ℕ) → K .Load n N t b r t′ → number r ≡ 11 → t′ ≡ replicate (length t) 0
+  pub loadDone : (n N : ℕ) (t b : List ℕ) (r : Answer) (t′ : List ℕ) → K .Load n N t b r t′ → number r ≡ 0 → Filed n N b t′
   -- a refused write leaves the output as it was
   pub refusedWrite : (n N : ℕ) (t out : List ℕ) (r : Answer) (out′ : List ℕ) → K .Write n N t out r out′ → (number r ≡ 0 → ⊥) → out′ ≡ out
 
@@ -90,6 +101,15 @@ pub record EditDone (n N : ℕ) (t b : List ℕ) (d : ℕ) (r : Answer) (t′ : 
   pub counted : values r ≡ counts (siteOver N t b d orbit)
   pub well : Holds n N t′
 
+-- an accepted file: the kernel loads it with answer 0, and checks the table that it is then in with answer 0
+pub record FileAccepted (K : Kernel) (n N : ℕ) (t b t′ : List ℕ) : Type 0 where
+  pub loadAnswer : Answer
+  pub loads : K .Load n N t b loadAnswer t′
+  pub loaded : number loadAnswer ≡ 0
+  pub checkAnswer : Answer
+  pub checks : K .TableCheck n N t′ checkAnswer
+  pub passes : number checkAnswer ≡ 0
+
 pub record Demand2 (K : Kernel) : Type 0 where
   -- a scheme is accepted exactly when it has the byte form and meets the conditions
   pub accepted : (b : List ℕ) (r : Answer) → K .SchemeCheck b r → (number r ≡ 0) ↔ ((inForm b ≡ true) × Accepted (schemeOf b))
@@ -104,16 +124,15 @@ pub record Demand2 (K : Kernel) : Type 0 where
   -- a well-formed map with room for its file is written; output beyond the file stays as it was
   pub written : (n N : ℕ) (t out : List ℕ) (r : Answer) (out′ : List ℕ) → K .Write n N t out r out′ → Holds n N t → length (file n (view N t)) ≤ length out
       → (number r ≡ 0) × (values r ≡ length (file n (view N t)) ∷ []) × (out′ ≡ file n (view N t) ++ drop (length (file n (view N t))) out)
-  -- it has the same live records when it is read again; words of a table are below 2³², and the second table has as many words
-  pub writtenRead : (n N : ℕ) (t out : List ℕ) (r : Answer) (out′ : List ℕ) → K .Write n N t out r out′ → number r ≡ 0
+  -- its file is loaded again and passes the check, with the same live records; words of a table are below 2³², and the second table has as many words
+  pub writtenLoaded : (n N : ℕ) (t out : List ℕ) (r : Answer) (out′ : List ℕ) → K .Write n N t out r out′ → number r ≡ 0
       → ((i : ℕ) → getD t i 0 < 4294967296)
-      → (u : List ℕ) (r₂ : Answer) (u′ : List ℕ) → length u ≡ length t → K .Read n N u (take (getD (values r) 0 0) out′) r₂ u′
-      → (number r₂ ≡ 0) × AlikeTables n N t u′
+      → (u : List ℕ) (r₂ : Answer) (u′ : List ℕ) → length u ≡ length t → K .Load n N u (take (getD (values r) 0 0) out′) r₂ u′
+      → (r₃ : Answer) → K .TableCheck n N u′ r₃ → (number r₂ ≡ 0) × (number r₃ ≡ 0) × AlikeTables n N t u′
   -- an accepted file is written back byte for byte; bytes are below 256
-  pub readWritten : (n N : ℕ) (t b : List ℕ) (r : Answer) (t′ : List ℕ) → K .Read n N t b r t′ → number r ≡ 0
-      → ((i : ℕ) → getD b i 0 < 256)
-      → (out : List ℕ) (r₂ : Answer) (out′ : List ℕ) → length b ≤ length out → K .Write n N t′ out r₂ out′
-      → (number r₂ ≡ 0) × (take (getD (values r₂) 0 0) out′ ≡ b)
+  pub acceptedWritten : (n N : ℕ) (t b t′ : List ℕ) → FileAccepted K n N t b t′ → ((i : ℕ) → getD b i 0 < 256)
+      → (out : List ℕ) (r : Answer) (out′ : List ℕ) → length b ≤ length out → K .Write n N t′ out r out′
+      → (number r ≡ 0) × (take (getD (values r) 0 0) out′ ≡ b)
 
 -- ---- demand 3
 

@@ -9,13 +9,13 @@ pub record Kernel : Type 1 where
   pub TableCheck : (n N : ℕ) (t : List ℕ) (r : Answer) → Type 0
   pub SchemeCheck : (b : List ℕ) (r : Answer) → Type 0
   pub Edit : (n N : ℕ) (t store b : List ℕ) (d : ℕ) (r : Answer) (t′ store′ : List ℕ) → Type 0
-  pub Read : (n N : ℕ) (t b : List ℕ) (r : Answer) (t′ : List ℕ) → Type 0
+  pub Load : (n N : ℕ) (t b : List ℕ) (r : Answer) (t′ : List ℕ) → Type 0
   pub Write : (n N : ℕ) (t out : List ℕ) (r : Answer) (out′ : List ℕ) → Type 0
   -- every argument has an outcome: a kernel that allowed none would meet every demand
   pub checksTable : (n N : ℕ) (t : List ℕ) → (r : Answer) × TableCheck n N t r
   pub checksScheme : (b : List ℕ) → (r : Answer) × SchemeCheck b r
   pub edits : (n N : ℕ) (t store b : List ℕ) (d : ℕ) → (r : Answer) × (t′ : List ℕ) × (store′ : List ℕ) × Edit n N t store b d r t′ store′
-  pub reads : (n N : ℕ) (t b : List ℕ) → (r : Answer) × (t′ : List ℕ) × Read n N t b r t′
+  pub loads : (n N : ℕ) (t b : List ℕ) → (r : Answer) × (t′ : List ℕ) × Load n N t b r t′
   pub writes : (n N : ℕ) (t out : List ℕ) → (r : Answer) × (out′ : List ℕ) × Write n N t out r out′
 
 -- every outcome of K is one of L
@@ -24,5 +24,5 @@ pub record Refines (K L : Kernel) : Type 0 where
   pub schemeCheck : (b : List ℕ) (r : Answer) → K .SchemeCheck b r → L .SchemeCheck b r
   pub edit : (n N : ℕ) (t store b : List ℕ) (d : ℕ) (r : Answer) (t′ store′ : List ℕ) → K .Edit n N t store b d r t′ store′
       → L .Edit n N t store b d r t′ store′
-  pub read : (n N : ℕ) (t b : List ℕ) (r : Answer) (t′ : List ℕ) → K .Read n N t b r t′ → L .Read n N t b r t′
+  pub load : (n N : ℕ) (t b : List ℕ) (r : Answer) (t′ : List ℕ) → K .Load n N t b r t′ → L .Load n N t b r t′
   pub write : (n N : ℕ) (t out : List ℕ) (r : Answer) (out′ : List ℕ) → K .Write n N t out r out′ → L .Write n N t out r out′

@@ -1,8 +1,8 @@
 -- Our kernel: what its calls may answer and leave is what they promise, and every promise has an outcome.
 -- Assumes nothing.
 use mathlib.Core.Path.{refl}
-use Rattle.model.specs.Calls.{checkTable, checkScheme, editAnswer, editTable, editStore, readAnswer, readTable, writeAnswer, writeOut}
-use Rattle.demands.specs.Promises.{TableChecked, SchemeChecked, MapEdited, FileRead, FileWritten}
+use Rattle.model.specs.Calls.{checkTable, checkScheme, editAnswer, editTable, editStore, loadAnswer, loadTable, writeAnswer, writeOut}
+use Rattle.demands.specs.Promises.{TableChecked, SchemeChecked, MapEdited, FileLoaded, FileWritten}
 use Rattle.demands.specs.Kernel.{Kernel}
 
 abbrev pub ours : Kernel
@@ -10,7 +10,7 @@ ours = record {
   TableCheck = TableChecked;
   SchemeCheck = SchemeChecked;
   Edit = MapEdited;
-  Read = FileRead;
+  Load = FileLoaded;
   Write = FileWritten;
   checksTable = λ n N t. (checkTable n N t, record { answer = record { sameNumber = refl; sameValues = refl } });
   checksScheme = λ b. (checkScheme b, record { answer = record { sameNumber = refl; sameValues = refl } });
@@ -20,6 +20,6 @@ ours = record {
     editStore n N t store b d,
     record { answer = record { sameNumber = refl; sameValues = refl }; table = refl; cleared = refl },
   );
-  reads = λ n N t b. (readAnswer n N t b, readTable n N t b, record { answer = record { sameNumber = refl; sameValues = refl }; table = refl });
+  loads = λ n N t b. (loadAnswer n N t b, loadTable n N t b, record { answer = record { sameNumber = refl; sameValues = refl }; table = refl });
   writes = λ n N t out. (writeAnswer n N t out, writeOut n N t out, record { answer = record { sameNumber = refl; sameValues = refl }; output = refl });
 }

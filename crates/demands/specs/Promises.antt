@@ -6,7 +6,7 @@ use Prim.Native.Nat.{ℕ}
 use mathlib.Core.Path.{_≡_}
 use mathlib.Core.List.{List}
 use Rattle.model.specs.Answer.{Answers}
-use Rattle.model.specs.Calls.{checkTable, checkScheme, editAnswer, editTable, editStore, readAnswer, readTable, writeAnswer, writeOut}
+use Rattle.model.specs.Calls.{checkTable, checkScheme, editAnswer, editTable, editStore, loadAnswer, loadTable, writeAnswer, writeOut}
 use Rattle.model.specs.declared.Answer.{Answer}
 
 pub record TableChecked (n N : ℕ) (t : List ℕ) (r : Answer) : Type 0 where
@@ -20,9 +20,9 @@ pub record MapEdited (n N : ℕ) (t store b : List ℕ) (d : ℕ) (r : Answer) (
   pub table : t′ ≡ editTable n N t store b d
   pub cleared : store′ ≡ editStore n N t store b d
 
-pub record FileRead (n N : ℕ) (t b : List ℕ) (r : Answer) (t′ : List ℕ) : Type 0 where
-  pub answer : Answers r (readAnswer n N t b)
-  pub table : t′ ≡ readTable n N t b
+pub record FileLoaded (n N : ℕ) (t b : List ℕ) (r : Answer) (t′ : List ℕ) : Type 0 where
+  pub answer : Answers r (loadAnswer n N t b)
+  pub table : t′ ≡ loadTable n N t b
 
 pub record FileWritten (n N : ℕ) (t out : List ℕ) (r : Answer) (out′ : List ℕ) : Type 0 where
   pub answer : Answers r (writeAnswer n N t out)

@@ -16,7 +16,7 @@ use Rattle.model.specs.Orbit.{IsOrbit}
 use Rattle.model.specs.Site.{Site, siteWith}
 use Rattle.model.specs.Match.{Assignment}
 use Rattle.model.specs.Edit.{addedDarts}
-use Rattle.model.specs.File.{file, fileForm, fileMap}
+use Rattle.model.specs.File.{file, fileForm}
 use Rattle.model.specs.Answer.{number, values}
 use Rattle.model.specs.Calls.{Sizes}
 use Rattle.model.specs.declared.Scheme.{Scheme}
@@ -128,8 +128,8 @@ editRefusals n N t store b d = bare 1 (Sizes n N t × (length store ≡ 16 * N) 
     ∷ schemeRefusals b (bare 6 (schemeOf b .n ≡ n → ⊥) ∷ bare 7 (WellFormed n (view N t) → ⊥) ∷ bare 8 (Dart N t d → ⊥)
     ∷ bare 9 (Matched N t b d → ⊥) ∷ bare 10 (Crowded N t b d) ∷ [])
 
-abbrev pub readRefusals : ℕ → ℕ → List ℕ → List ℕ → List Refusal
-readRefusals n N t b = bare 1 (Sizes n N t → ⊥) ∷ bare 11 (fileForm n N b ≡ true → ⊥) ∷ bare 7 (WellFormed n (fileMap n N b) → ⊥) ∷ []
+abbrev pub loadRefusals : ℕ → ℕ → List ℕ → List ℕ → List Refusal
+loadRefusals n N t b = bare 1 (Sizes n N t → ⊥) ∷ bare 11 (fileForm n N b ≡ true → ⊥) ∷ []
 
 abbrev pub writeRefusals : ℕ → ℕ → List ℕ → List ℕ → List Refusal
 writeRefusals n N t out = tableRefusals n N t (bare 12 (length out < length (file n (view N t))) ∷ [])

@@ -2,8 +2,12 @@
 -- Assumes nothing.
 use Prim.Native.Nat.{ℕ}
 use mathlib.Core.Path.{_≡_}
+use mathlib.Core.Bool.{Bool, true}
 use mathlib.Core.List.{List, [], _∷_, Forall₂}
-use Rattle.model.specs.Sequence.{AlikeTables, Request, tableCheck, schemeCheck, edit, read, write, SameCall, Outcome, Event, AlikeEvents}
+use Rattle.model.specs.Map.{view}
+use Rattle.model.specs.Alike.{Alike}
+use Rattle.model.specs.Sequence.{BothHold, Request, tableCheck, schemeCheck, edit, load, write, SameCall, Outcome, Event}
+use Rattle.model.specs.Sequence.{knownOf, AlikeEvents}
 use Rattle.demands.specs.Kernel.{Kernel}
 
 -- the kernel allows the outcome o of a request at the table t, with l in the lent buffer; what a call does not get to change stays as it was
@@ -11,7 +15,7 @@ abbrev pub Allowed : Kernel → ℕ → ℕ → List ℕ → Request → List �
 Allowed K n N t tableCheck l o = K .TableCheck n N t (o .answer) × (o .table ≡ t) × (o .lent ≡ l)
 Allowed K n N t (schemeCheck b) l o = K .SchemeCheck b (o .answer) × (o .table ≡ t) × (o .lent ≡ l)
 Allowed K n N t (edit b d) l o = K .Edit n N t l b d (o .answer) (o .table) (o .lent)
-Allowed K n N t (read b) l o = K .Read n N t b (o .answer) (o .table) × (o .lent ≡ l)
+Allowed K n N t (load b) l o = K .Load n N t b (o .answer) (o .table) × (o .lent ≡ l)
 Allowed K n N t write l o = K .Write n N t l (o .answer) (o .lent) × (o .table ≡ t)
 
 -- a sequence of calls from the table t on, each with an outcome that the kernel allows; a call finds the table that the call before it left
@@ -20,7 +24,14 @@ pub data Run (K : Kernel) (n N : ℕ) : List ℕ → List Event → Type 0 where
   next : {t : List ℕ} {e : Event} {s : List Event} → Allowed K n N t (e .call .request) (e .call .lent) (e .outcome)
       → Run K n N (e .outcome .table) s → Run K n N t (e ∷ s)
 
--- from alike maps on, the same sequence of calls leaves alike maps after every call, with equal answers and equal files
+-- two sequences side by side, alike after every call; `known` says whether the maps are known to be well-formed before the first of them
+pub data AlikeFrom (n N : ℕ) : Bool → List Event → List Event → Type 0 where
+  alikeEnd : {known : Bool} → AlikeFrom n N known [] []
+  alikeNext : {known : Bool} {e e′ : Event} {s s′ : List Event} → AlikeEvents n N (knownOf known e) e e′ → AlikeFrom n N (knownOf known e) s s′
+      → AlikeFrom n N known (e ∷ s) (e′ ∷ s′)
+
+-- from well-formed maps on that are alike, the same sequence of calls leaves alike maps after every call, with equal answers and equal files, and the
+-- maps are well-formed from the start and from each table check that answers 0 until the next load
 abbrev pub AlikeRuns : Kernel → Type 0
-AlikeRuns K = (n N : ℕ) (t t′ : List ℕ) → AlikeTables n N t t′ → (s s′ : List Event) → Run K n N t s → Run K n N t′ s′
-    → Forall₂ (λ e e′. SameCall (e .call) (e′ .call)) s s′ → Forall₂ (AlikeEvents n N) s s′
+AlikeRuns K = (n N : ℕ) (t t′ : List ℕ) → BothHold n N t t′ → Alike (view N t) (view N t′) → (s s′ : List Event) → Run K n N t s → Run K n N t′ s′
+    → Forall₂ (λ e e′. SameCall (e .call) (e′ .call)) s s′ → AlikeFrom n N true s s′

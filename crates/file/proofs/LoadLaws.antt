@@ -11,9 +11,9 @@ use Rattle.base.specs.Test.{_and_}
 use Rattle.base.specs.Digits.{numberAt}
 use Rattle.model.specs.Map.{tableOf}
 use Rattle.model.specs.File.{fileForm, fileMap}
-use Rattle.model.specs.Calls.{zeros}
+use Rattle.model.specs.Calls.{zeros, loaded}
 use Rattle.file.specs.Form.{frameOk, framed, slotsOk}
-use Rattle.file.specs.Records.{Formed, loaded}
+use Rattle.file.specs.Records.{Formed}
 use Rattle.file.specs.declared.form.Framing.{Framing}
 use Rattle.file.specs.declared.form.Framing.the-variants.{Darts, Broken}
 use Rattle.file.proofs.FormLaws.{frame-length, form-is, formed}

@@ -2,32 +2,32 @@
 -- Assumes nothing.
 use Prim.Native.Nat.{ℕ, suc, _+_, _*_, _≤_, _<_}
 use mathlib.Core.Path.{_≡_, refl, sym, ap, ap₂, _∙_}
-use mathlib.Core.Logic.{⊎-elim}
 use mathlib.Core.Bool.{Bool, true, false}
 use mathlib.Core.Option.{some}
 use mathlib.Core.List.{List, [], _∷_, _++_}
-use native.Mathlib.Nat.{mul-le-mul-left, eq-or-lt-of-le}
+use native.Mathlib.Nat.{mul-le-mul-left}
 use native.Mathlib.Omega.{arith}
 use lib.ListN.{length, getD, take, drop}
 use lib.Seq.{take-add, take-all, drop-drop}
-use lib.Dec.{eqb, ltb}
-use borrow.Author.Tests.{eqb-true, eq-eqb, ltb-true, ltb-false, le-leb}
+use lib.Dec.{eqb}
+use borrow.Author.Tests.{eqb-true, le-leb}
 use Rattle.base.specs.Test.{_and_, bit}
 use Rattle.base.specs.Below.{countBelow}
 use Rattle.base.specs.First.{there}
 use Rattle.base.specs.Digits.{bytesOf, numberAt}
-use Rattle.base.proofs.TestLaws.{and-left, and-right, true-or-false}
-use Rattle.base.proofs.FirstLaws.{there-at, least-at, least-only}
+use Rattle.base.proofs.TestLaws.{and-left, and-right}
+use Rattle.base.proofs.FirstLaws.{there-at, least-at}
 use Rattle.base.proofs.DigitLaws.{number-small, bytes-back}
 use Rattle.base.proofs.ListLaws.{Ascends, chosen-ascending, joined-same, joined-take, length-joined, length-chosen}
 use Rattle.model.specs.Map.{Map, live}
 use Rattle.model.specs.File.{liveDarts, section, file, placeOf, fileForm, fileMap}
+use Rattle.model.proofs.FileLaws.{place-at}
 use Rattle.file.specs.Form.{headOk, countsOk, frameOk, slotOf, slotsOk}
 use Rattle.file.specs.Records.{Formed, linkWord, linkPlace, tagPlace}
 use Rattle.file.specs.Sections.{linkBytes, partBytes, partSize, dartsBytes, sectionBytes, headBytes}
 use Rattle.file.specs.declared.sections.Part.{Part}
 use Rattle.file.specs.declared.sections.Part.the-variants.{Slots, Tags, Links}
-use Rattle.file.proofs.FormLaws.{form-is, formed}
+use Rattle.file.proofs.FormLaws.{form-is, two-at, formed}
 use Rattle.file.proofs.FillLaws.{place-is, tag-is, link-is}
 use Rattle.file.proofs.SectionLaws.{file-parts}
 use Rattle.file.proofs.WrittenLaws.{start}
@@ -47,15 +47,8 @@ module _ (n N : ℕ) (b : List ℕ) (t : fileForm n N b ≡ true) where
 
   -- a slot of the file stands at one place
   placed : (k : ℕ) → k < L → placeOf b (slotOf b k) ≡ some k
-  placed k l = sym (place-is b (slotOf b k)) ∙ least-only L _ k l (eq-eqb (slotOf b k) (slotOf b k) refl) (λ j g q.
-      let same : slotOf b j ≡ slotOf b k = eqb-true _ _ q in
-      ⊎-elim
-      (λ (u : ltb j k ≡ true). let v : slotOf b j < slotOf b k = F .ascends j k (ltb-true j k u) l in absurd (omega arith))
-      (λ (u : ltb j k ≡ false). ⊎-elim
-      (λ (v : k ≡ j). sym v)
-      (λ (v : k < j). let z : slotOf b k < slotOf b j = F .ascends k j v g in absurd (omega arith))
-      (eq-or-lt-of-le (ltb-false j k u)))
-      (true-or-false (ltb j k)))
+  unfolding slotOf
+  placed k l = ap (placeOf b) (two-at b (5 + 2 * k)) ∙ place-at n N b t k (omega (arith, two-at b 3))
 
   live-is : (x : ℕ) → live m x ≡ there (placeOf b x)
   unfolding fileMap

@@ -8,9 +8,8 @@ use lib.ListN.{length}
 use lib.Dec.{eqb, leb}
 use Rattle.base.specs.First.{least}
 use Rattle.base.specs.Digits.{numberAt}
-use Rattle.model.specs.File.{atPlace, fileForm, fileMap}
-use Rattle.model.specs.Map.{Field, State, Link, Tag, put, tableOf}
-use Rattle.model.specs.Calls.{zeros}
+use Rattle.model.specs.File.{atPlace}
+use Rattle.model.specs.Map.{Field, State, Link, Tag, put}
 use Rattle.file.specs.Form.{fileSize, slotOf}
 
 -- what the form says of the darts
@@ -48,7 +47,3 @@ putRow t x g = put (putLinks (put t State x (g State)) x (λ i. g (Link i)) 4) T
 -- a word of x once the first k darts of the file are entered
 unfoldable pub wordOf : ℕ → List ℕ → ℕ → ℕ → Field → ℕ
 wordOf n b k x f = atPlace (least k (λ o. eqb (slotOf b o) x)) (λ o. rowOf n b o f)
-
--- what a load leaves in the table t
-unfoldable pub loaded : ℕ → ℕ → List ℕ → List ℕ → List ℕ
-loaded n N t b = cond (fileForm n N b) (tableOf (fileMap n N b)) (zeros t)

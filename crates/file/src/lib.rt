@@ -18,9 +18,9 @@ ghost use Prim.Native.Nat.{_^_, _≤_, _<_};
 ghost use lib.ListN.{length, drop};
 ghost use Rattle.model.specs.Map.{view};
 ghost use Rattle.model.specs.File.{liveDarts, file, fileForm};
+ghost use Rattle.model.specs.Calls.{loaded};
 ghost use Rattle.table.specs.Words.{Sized};
 ghost use Rattle.file.specs.Form.{fileSize};
-ghost use Rattle.file.specs.Records.{loaded};
 
 // How many bytes the file of a map with so many live darts has.
 pub fn size(n: u32, darts: usize) -> usize

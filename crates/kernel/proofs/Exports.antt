@@ -8,20 +8,20 @@ use native.Mathlib.Omega.{arith}
 use lib.ListN.{length}
 use Rattle.model.specs.Answer.{number, values, Answers}
 use Rattle.model.specs.Calls.{tableFault, checkTable, bytesFault, checkScheme, siteDone, editFault, editAnswer, editTable, editStore}
-use Rattle.model.specs.Calls.{readFault, readAnswer, readTable, writeFault, writeAnswer, writeOut}
+use Rattle.model.specs.Calls.{loadFault, loadAnswer, loadTable, writeFault, writeAnswer, writeOut}
 use Rattle.model.specs.declared.Answer.{Answer}
 use Rattle.demands.specs.Kernel.{Kernel, Refines}
 use Rattle.demands.specs.Ours.{ours}
 use Rattle.demands.specs.Demands.{Demand1, Demand2, Demand3}
-use Rattle.demands.proofs.RefusalLaws.{Within, table-within, bytes-within, edit-within, read-within, write-within}
+use Rattle.demands.proofs.RefusalLaws.{Within, table-within, bytes-within, edit-within, load-within, write-within}
 use Rattle.demands.proofs.RefineLaws.{refined1, refined2, refined3}
 use Rattle.demands.proofs.Demands.{demand1, demand2, demand3}
 use Rattle.word.specs.Word.{packed, Small, wordNumber, wordValues}
-use Rattle.kernel.specs.Exports.{PackedEdit, PackedRead, PackedWrite, Unpacked, SeenTableCheck, SeenSchemeCheck, SeenEdit, SeenRead, SeenWrite}
+use Rattle.kernel.specs.Exports.{PackedEdit, PackedLoad, PackedWrite, Unpacked, SeenTableCheck, SeenSchemeCheck, SeenEdit, SeenLoad, SeenWrite}
 use Rattle.word.proofs.WordLaws.{number-back, values-back}
 use Rattle.kernel.proofs.CallLaws.{check-small}
 use Rattle.kernel.proofs.SmallLaws.{scheme-small, edit-small}
-use Rattle.kernel.proofs.FileCallLaws.{read-small, write-small}
+use Rattle.kernel.proofs.FileCallLaws.{load-small, write-small}
 
 -- ---- one outcome
 
@@ -29,8 +29,8 @@ pub one-packed-edit : {n N : ℕ} {t store b : List ℕ} {d w w₂ : ℕ} {t′ 
     → PackedEdit n N t store b d w t′ store′ → PackedEdit n N t store b d w₂ t₂ store₂ → (w ≡ w₂) × (t′ ≡ t₂) × (store′ ≡ store₂)
 one-packed-edit p q = (p .word ∙ sym (q .word), p .table ∙ sym (q .table), p .cleared ∙ sym (q .cleared))
 
-pub one-packed-read : {n N : ℕ} {t b : List ℕ} {w w₂ : ℕ} {t′ t₂ : List ℕ} → PackedRead n N t b w t′ → PackedRead n N t b w₂ t₂ → (w ≡ w₂) × (t′ ≡ t₂)
-one-packed-read p q = (p .word ∙ sym (q .word), p .table ∙ sym (q .table))
+pub one-packed-load : {n N : ℕ} {t b : List ℕ} {w w₂ : ℕ} {t′ t₂ : List ℕ} → PackedLoad n N t b w t′ → PackedLoad n N t b w₂ t₂ → (w ≡ w₂) × (t′ ≡ t₂)
+one-packed-load p q = (p .word ∙ sym (q .word), p .table ∙ sym (q .table))
 
 pub one-packed-write : {n N : ℕ} {t out : List ℕ} {w w₂ : ℕ} {out′ out₂ : List ℕ}
     → PackedWrite n N t out w out′ → PackedWrite n N t out w₂ out₂ → (w ≡ w₂) × (out′ ≡ out₂)
@@ -60,9 +60,9 @@ pub edit-length : (n N : ℕ) (t store b : List ℕ) (d : ℕ) → number (editA
 unfolding editAnswer siteDone
 edit-length n N t store b d = done-length (editFault n N t store b d) _ (edit-within n N t store b d) (omega arith)
 
-pub read-length : (n N : ℕ) (t b : List ℕ) → number (readAnswer n N t b) ≡ 0 → length (values (readAnswer n N t b)) ≡ 0
-unfolding readAnswer
-read-length n N t b = done-length (readFault n N t b) _ (read-within n N t b) (omega arith)
+pub load-length : (n N : ℕ) (t b : List ℕ) → number (loadAnswer n N t b) ≡ 0 → length (values (loadAnswer n N t b)) ≡ 0
+unfolding loadAnswer
+load-length n N t b = done-length (loadFault n N t b) _ (load-within n N t b) (omega arith)
 
 pub write-length : (n N : ℕ) (t out : List ℕ) → number (writeAnswer n N t out) ≡ 0 → length (values (writeAnswer n N t out)) ≡ 1
 unfolding writeAnswer
@@ -86,7 +86,7 @@ exported = record {
   TableCheck = SeenTableCheck;
   SchemeCheck = SeenSchemeCheck;
   Edit = SeenEdit;
-  Read = SeenRead;
+  Load = SeenLoad;
   Write = SeenWrite;
   checksTable = λ n N t. (
     checkTable n N t,
@@ -103,13 +103,13 @@ exported = record {
       answer = unpacks 3 _ (edit-small n N t store b d) (edit-length n N t store b d);
     },
   );
-  reads = λ n N t b. (
-    readAnswer n N t b,
-    readTable n N t b,
+  loads = λ n N t b. (
+    loadAnswer n N t b,
+    loadTable n N t b,
     record {
-      word = packed (readAnswer n N t b);
+      word = packed (loadAnswer n N t b);
       promised = record { word = refl; table = refl };
-      answer = unpacks 0 _ (read-small n N t b) (read-length n N t b);
+      answer = unpacks 0 _ (load-small n N t b) (load-length n N t b);
     },
   );
   writes = λ n N t out. (
@@ -132,8 +132,8 @@ exported-ours = record {
     table = s .promised .table;
     cleared = s .promised .cleared;
   };
-  read = λ n N t b r t′ s. record {
-    answer = back 0 _ (read-small n N t b) (read-length n N t b) (s .promised .word) (s .answer);
+  load = λ n N t b r t′ s. record {
+    answer = back 0 _ (load-small n N t b) (load-length n N t b) (s .promised .word) (s .answer);
     table = s .promised .table;
   };
   write = λ n N t out r out′ s. record {

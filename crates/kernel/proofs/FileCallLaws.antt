@@ -1,87 +1,59 @@
--- A read and a write, refusal by refusal.
+-- A load and a write, refusal by refusal.
 -- Assumes nothing.
 use Prim.Native.Nat.{ℕ, _+_, _*_, _≤_, _<_}
 use mathlib.Core.Path.{_≡_, refl, sym, ap, _∙_}
 use mathlib.Core.Logic.{_⊎_, ⊎-elim}
-use mathlib.Core.Bool.{true, false}
+use mathlib.Core.Bool.{Bool, true, false, not}
+use mathlib.Core.Option.{Option·getD}
 use mathlib.Core.List.{List, _++_}
 use native.Mathlib.Nat.{mul-le-mul}
 use native.Mathlib.Omega.{arith}
-use lib.ListN.{length, drop, replicate}
+use lib.ListN.{length, drop}
 use lib.Dec.{ltb}
 use borrow.Author.Tests.{lt-ltb, le-ltb}
 use Rattle.model.proofs.AnswerLaws.{answers-of}
 use Rattle.model.specs.declared.Answer.{Answer}
-use Rattle.demands.specs.Promises.{FileRead, FileWritten}
+use Rattle.demands.specs.Promises.{FileLoaded, FileWritten}
 use Rattle.base.specs.Below.{countBelow}
 use Rattle.base.specs.First.{someIf, there, _orElse_}
 use Rattle.base.proofs.TestLaws.{true-or-false}
 use Rattle.base.proofs.BelowLaws.{count-le}
-use Rattle.model.specs.Map.{view, tableOf, live}
+use Rattle.model.specs.Map.{view, live}
 use Rattle.model.specs.WellFormed.{wellFormed}
-use Rattle.model.specs.File.{liveDarts, file, fileForm, fileMap}
-use Rattle.model.specs.Calls.{zeros, sizesOk, mapFault, tableFault, readFaultAt, readFault, readAnswer, readTable}
+use Rattle.model.specs.File.{liveDarts, file, fileForm}
+use Rattle.model.specs.Calls.{sizesOk, mapFault, tableFault, loadFaultAt, loadFault, loadAnswer, loaded, loadTable}
 use Rattle.model.specs.Calls.{writeFaultAt, writeFault, writeAnswer, writeOut}
 use Rattle.model.specs.declared.Answer.the-variants.{Done, Written, BadCall, BadTable, BadFile, ShortOutput}
-use Rattle.model.proofs.MapLaws.{length-words}
-use Rattle.model.proofs.AlikeLaws.{words-formed}
-use Rattle.table.specs.Words.{Sized}
 use Rattle.file.specs.Form.{fileSize}
-use Rattle.file.specs.Records.{loaded}
 use Rattle.file.proofs.FormLaws.{three-le}
 use Rattle.file.proofs.SectionLaws.{length-file}
 use Rattle.word.specs.Word.{Small}
 use Rattle.kernel.proofs.CallLaws.{sizes-read}
 
--- ---- a read: 1, 11, 7
+-- ---- a load: 1, 11
 
 module _ (n N : ℕ) (t b : List ℕ) where
-  pub read-1 : sizesOk n N t ≡ false → (BadCall ≡ readAnswer n N t b) × (t ≡ readTable n N t b)
-  unfolding readAnswer readTable readFault readFaultAt someIf _orElse_
-  read-1 e = (rw e refl, rw e refl)
+  pub load-1 : sizesOk n N t ≡ false → (BadCall ≡ loadAnswer n N t b) × (t ≡ loadTable n N t b)
+  unfolding loadAnswer loadTable loadFault loadFaultAt someIf _orElse_
+  load-1 e = (rw e refl, rw e refl)
 
-  module _ (s : sizesOk n N t ≡ true) where
-    pub read-11 : (t' : List ℕ) → fileForm n N b ≡ false → t' ≡ loaded n N t b → (BadFile ≡ readAnswer n N t b) × (t' ≡ readTable n N t b)
-    unfolding readAnswer readTable readFault readFaultAt someIf _orElse_ there loaded
-    read-11 t' f e = (rw (s, f) refl, e ∙ rw (s, f) refl)
+  module _ (s : sizesOk n N t ≡ true) (t' : List ℕ) where
+    pub load-11 : fileForm n N b ≡ false → t' ≡ loaded n N t b → (BadFile ≡ loadAnswer n N t b) × (t' ≡ loadTable n N t b)
+    unfolding loadAnswer loadTable loadFault loadFaultAt someIf _orElse_
+    load-11 f e = (rw (s, f) refl, e ∙ rw s refl)
 
-    module _ (t₁ : List ℕ) (f : fileForm n N b ≡ true) (e : t₁ ≡ loaded n N t b) where
-      filled : t₁ ≡ tableOf (fileMap n N b)
-      unfolding loaded
-      filled = e ∙ rw f refl
+    pub load-0 : fileForm n N b ≡ true → t' ≡ loaded n N t b → (Done ≡ loadAnswer n N t b) × (t' ≡ loadTable n N t b)
+    unfolding loadAnswer loadTable loadFault loadFaultAt someIf _orElse_
+    load-0 f e = (rw (s, f) refl, e ∙ rw s refl)
 
-      same-length : length t₁ ≡ length t
-      unfolding fileMap
-      same-length = ap length filled ∙ length-words (fileMap n N b) ∙ sym (sizes-read n N t s .1 .long)
-
-      pub filled-sizes : ((n ≡ 2) ⊎ (n ≡ 3)) × Sized N t₁
-      filled-sizes = let r = sizes-read n N t s in (r .0, record { few = r .1 .few; long = same-length ∙ r .1 .long })
-
-      -- the check of the table is that of the file's map
-      well-is : wellFormed n (view N t₁) ≡ wellFormed n (fileMap n N b)
-      unfolding fileMap
-      well-is = ap (λ (l : List ℕ). wellFormed n (view N l)) filled ∙ words-formed n (fileMap n N b) (three-le (sizes-read n N t s .0))
-
-      pub read-7 : (t' : List ℕ) → wellFormed n (view N t₁) ≡ false → t' ≡ zeros t₁ → (BadTable ≡ readAnswer n N t b) × (t' ≡ readTable n N t b)
-      unfolding readAnswer readTable readFault readFaultAt someIf _orElse_ there
-      read-7 t' w z = let v = sym well-is ∙ w in (rw (s, f, v) refl, z ∙ ap (λ (k : ℕ). replicate k 0) same-length ∙ rw (s, f, v) refl)
-
-      pub read-0 : wellFormed n (view N t₁) ≡ true → (Done ≡ readAnswer n N t b) × (t₁ ≡ readTable n N t b)
-      unfolding readAnswer readTable readFault readFaultAt someIf _orElse_ there
-      read-0 w = let v = sym well-is ∙ w in (rw (s, f, v) refl, filled ∙ rw (s, f, v) refl)
-
-  pub read-small : Small (readAnswer n N t b)
-  unfolding readAnswer readFault readFaultAt someIf _orElse_
-  read-small = ⊎-elim
-      (λ (s : sizesOk n N t ≡ true). ⊎-elim
-      (λ (f : fileForm n N b ≡ true). ⊎-elim
-      (λ (w : wellFormed n (fileMap n N b) ≡ true). rw (s, f, w) tt)
-      (λ (w : wellFormed n (fileMap n N b) ≡ false). rw (s, f, w) tt)
-      (true-or-false (wellFormed n (fileMap n N b))))
-      (λ (f : fileForm n N b ≡ false). rw (s, f) tt)
-      (true-or-false (fileForm n N b)))
-      (λ (s : sizesOk n N t ≡ false). rw s tt)
-      (true-or-false (sizesOk n N t))
+  pub load-small : Small (loadAnswer n N t b)
+  unfolding loadAnswer loadFault loadFaultAt someIf _orElse_
+  load-small = go (sizesOk n N t) (fileForm n N b)
+    where
+      go : (s f : Bool) → Small (Option·getD (someIf (not s) BadCall orElse someIf (not f) BadFile) Done)
+      go false f = tt
+      go true false = tt
+      go true true = tt
 
 -- ---- a write: 1, 7, 12
 
@@ -146,8 +118,8 @@ module _ (n N : ℕ) (t out : List ℕ) where
 
 -- ---- the promises
 
-pub read-kept : {n N : ℕ} {t b : List ℕ} {r : Answer} {t′ : List ℕ} → (r ≡ readAnswer n N t b) × (t′ ≡ readTable n N t b) → FileRead n N t b r t′
-read-kept p = record { answer = answers-of (p .0); table = p .1 }
+pub load-kept : {n N : ℕ} {t b : List ℕ} {r : Answer} {t′ : List ℕ} → (r ≡ loadAnswer n N t b) × (t′ ≡ loadTable n N t b) → FileLoaded n N t b r t′
+load-kept p = record { answer = answers-of (p .0); table = p .1 }
 
 pub write-kept : {n N : ℕ} {t out : List ℕ} {r : Answer} {out′ : List ℕ} → (r ≡ writeAnswer n N t out) × (out′ ≡ writeOut n N t out)
     → FileWritten n N t out r out′

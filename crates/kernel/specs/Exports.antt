@@ -4,19 +4,19 @@ use Prim.Native.Nat.{ℕ}
 use mathlib.Core.Path.{_≡_}
 use mathlib.Core.List.{List}
 use Rattle.model.specs.Answer.{number, values}
-use Rattle.model.specs.Calls.{checkTable, checkScheme, editAnswer, editTable, editStore, readAnswer, readTable, writeAnswer, writeOut}
+use Rattle.model.specs.Calls.{checkTable, checkScheme, editAnswer, editTable, editStore, loadAnswer, loadTable, writeAnswer, writeOut}
 use Rattle.model.specs.declared.Answer.{Answer}
 use Rattle.word.specs.Word.{packed, wordNumber, wordValues}
 
--- the word of the answer of an edit, a read or a write, and what the call leaves
+-- the word of the answer of an edit, a load or a write, and what the call leaves
 pub record PackedEdit (n N : ℕ) (t store b : List ℕ) (d : ℕ) (r : ℕ) (t′ store′ : List ℕ) : Type 0 where
   pub word : r ≡ packed (editAnswer n N t store b d)
   pub table : t′ ≡ editTable n N t store b d
   pub cleared : store′ ≡ editStore n N t store b d
 
-pub record PackedRead (n N : ℕ) (t b : List ℕ) (r : ℕ) (t′ : List ℕ) : Type 0 where
-  pub word : r ≡ packed (readAnswer n N t b)
-  pub table : t′ ≡ readTable n N t b
+pub record PackedLoad (n N : ℕ) (t b : List ℕ) (r : ℕ) (t′ : List ℕ) : Type 0 where
+  pub word : r ≡ packed (loadAnswer n N t b)
+  pub table : t′ ≡ loadTable n N t b
 
 pub record PackedWrite (n N : ℕ) (t out : List ℕ) (r : ℕ) (out′ : List ℕ) : Type 0 where
   pub word : r ≡ packed (writeAnswer n N t out)
@@ -42,9 +42,9 @@ pub record SeenEdit (n N : ℕ) (t store b : List ℕ) (d : ℕ) (r : Answer) (t
   pub promised : PackedEdit n N t store b d word t′ store′
   pub answer : Unpacked 3 word r
 
-pub record SeenRead (n N : ℕ) (t b : List ℕ) (r : Answer) (t′ : List ℕ) : Type 0 where
+pub record SeenLoad (n N : ℕ) (t b : List ℕ) (r : Answer) (t′ : List ℕ) : Type 0 where
   pub word : ℕ
-  pub promised : PackedRead n N t b word t′
+  pub promised : PackedLoad n N t b word t′
   pub answer : Unpacked 0 word r
 
 pub record SeenWrite (n N : ℕ) (t out : List ℕ) (r : Answer) (out′ : List ℕ) : Type 0 where

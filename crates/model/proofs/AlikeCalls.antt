@@ -1,6 +1,6 @@
--- Each call on two tables that hold alike well-formed maps: equal answers, equal written files, and again two such tables.
+-- Each call on two tables that hold alike maps, well-formed or not: equal answers, equal written files, and again two such tables.
 -- Assumes nothing.
-use Prim.Native.Nat.{ℕ, _*_}
+use Prim.Native.Nat.{ℕ, _*_, _≤_}
 use mathlib.Core.Path.{_≡_, refl, sym, ap, ap₂, _∙_, subst}
 use mathlib.Core.Bool.{Bool, not, cond}
 use mathlib.Core.Option.{Option, none, some, Option·getD}
@@ -9,18 +9,18 @@ use lib.ListN.{length, drop, replicate}
 use lib.Dec.{eqb, ltb}
 use borrow.Author.Tests.{eqb-true, ltb-true}
 use Rattle.base.specs.Test.{_and_}
-use Rattle.base.specs.First.{someIf, there}
-use Rattle.base.proofs.TestLaws.{and-left, and-right, and-same}
+use Rattle.base.specs.First.{someIf, there, _orElse_}
+use Rattle.base.proofs.TestLaws.{same-test, and-left, and-right, and-same}
 use Rattle.base.proofs.FirstLaws.{or-else-same, getD-same}
 use Rattle.model.specs.Map.{Map, view, tableOf, live}
 use Rattle.model.specs.WellFormed.{WellFormed, wellFormed}
 use Rattle.model.specs.Scheme.{schemeOf, orbitDim}
 use Rattle.model.specs.Edit.{edited}
-use Rattle.model.specs.File.{file, fileMap}
+use Rattle.model.specs.File.{file, fileForm, fileMap}
 use Rattle.model.specs.Site.{Site, siteWith, Sound}
-use Rattle.model.specs.Calls.{sizesOk, tableFault, checkTable, fitFault, siteFault, siteDone, siteOf}
+use Rattle.model.specs.Calls.{sizesOk, mapFault, tableFault, checkTable, fitFault, siteFault, siteDone, siteOf}
 use Rattle.model.specs.Calls.{editFaultAt, editFault, editAnswer, editTable, editStore}
-use Rattle.model.specs.Calls.{readFaultAt, readFault, readAnswer, readTable, writeFaultAt, writeFault, writeAnswer, writeOut}
+use Rattle.model.specs.Calls.{loadFaultAt, loadFault, loadAnswer, loaded, loadTable, writeFaultAt, writeFault, writeAnswer, writeOut}
 use Rattle.model.specs.Alike.{Alike}
 use Rattle.model.specs.Sequence.{AlikeTables}
 use Rattle.model.specs.declared.Scheme.{Scheme}
@@ -30,8 +30,8 @@ use Rattle.model.proofs.WellFormedLaws.{wellFormed-iff}
 use Rattle.model.proofs.AcceptedLaws.{small}
 use Rattle.model.proofs.MatchIff.{good-orbit}
 use Rattle.model.proofs.CallLaws.{passed, bytes-accepted, granted, sound, ready, edit-table, refused-table}
-use Rattle.model.proofs.HoldsLaws.{holds-free, dimension-small, table-length, edit-holds, store-zero, read-holds, written-file, writtenFile}
-use Rattle.model.proofs.AlikeLaws.{alike-refl, alike-sym, alike-trans, words-alike, same-live, same-room, same-orbit}
+use Rattle.model.proofs.HoldsLaws.{holds-slotted, dimension-small, table-length, edit-holds, store-zero, load-slotted, written-file, writtenFile}
+use Rattle.model.proofs.AlikeLaws.{alike-refl, alike-sym, alike-trans, words-alike, well-alike, same-live, same-room, same-orbit}
 use Rattle.model.proofs.AlikeMatch.{moved, same-matches}
 use Rattle.model.proofs.AlikeEdit.{same-size, same-added, same-deleted, edited-alike}
 use Rattle.model.proofs.FileLaws.{same-file}
@@ -51,8 +51,18 @@ module _ (n N : ℕ) (t t′ : List ℕ) (a : AlikeTables n N t t′) where
   same-length : length t ≡ length t′
   same-length = table-length n N t (a .one .sizes) ∙ sym (table-length n N t′ (a .other .sizes))
 
+  -- both maps are well-formed, or neither
+  same-well : wellFormed n m ≡ wellFormed n m′
+  same-well = same-test _ _
+      (λ e. wellFormed-iff n m′ .1 (well-alike n small-n m m′ (a .alike) (wellFormed-iff n m .0 e) (a .other .states)))
+      (λ e. wellFormed-iff n m .1 (well-alike n small-n m′ m (alike-sym (a .alike)) (wellFormed-iff n m′ .0 e) (a .one .states)))
+    where
+      small-n : n ≤ 3
+      small-n = dimension-small n N t (a .one .sizes)
+
   same-table-fault : tableFault n N t ≡ tableFault n N t′
-  same-table-fault = holds-free n N t (a .one) ∙ sym (holds-free n N t′ (a .other))
+  unfolding tableFault mapFault
+  same-table-fault = ap₂ (λ (s w : Bool). someIf (not s) BadCall orElse someIf (not w) BadTable) same-sizes same-well
 
   -- ---- a table check
 
@@ -74,7 +84,8 @@ module _ (n N : ℕ) (t t′ : List ℕ) (a : AlikeTables n N t t′) where
 
     module _ (g : Sound E) (same : S .n ≡ n) where
       well′ : WellFormed (S .n) m′
-      well′ = subst (λ (k : ℕ). WellFormed k m′) (sym same) (a .other .well)
+      well′ = subst (λ (k : ℕ). WellFormed k m′) (sym same)
+          (wellFormed-iff n m′ .0 (sym same-well ∙ wellFormed-iff n m .1 (subst (λ (k : ℕ). WellFormed k m) same (g .well))))
 
       same-site : moved E m′ ≡ E′
       same-site = ap (siteWith m′ S d) (same-orbit (S .n) (small S (g .accepted .shaped)) (S .places) (orbitDim S) (g .accepted .shaped .orbitDims) d
@@ -92,9 +103,6 @@ module _ (n N : ℕ) (t t′ : List ℕ) (a : AlikeTables n N t t′) where
       counts =
           (λ i. Edited (same-size E m′ (a .alike) i) (same-added E m′ (a .alike) i) (same-deleted E m′ (a .alike) i)) ∙ ap siteDone same-site
 
-    same-well : wellFormed n m ≡ wellFormed n m′
-    same-well = wellFormed-iff n m .1 (a .one .well) ∙ sym (wellFormed-iff n m′ .1 (a .other .well))
-
     same-dart-test : (ltb d N and live m d) ≡ (ltb d N and live m′ d)
     same-dart-test = and-same (ltb d N) (λ h. same-live m m′ (a .alike) d (ltb-true _ _ h))
 
@@ -111,7 +119,7 @@ module _ (n N : ℕ) (t t′ : List ℕ) (a : AlikeTables n N t t′) where
         let same = eqb-true _ _ (passed _ _ r6) in
         fit-same (record {
           accepted = bytes-accepted b r2;
-          well = subst (λ (k : ℕ). WellFormed k m) (sym same) (a .one .well);
+          well = subst (λ (k : ℕ). WellFormed k m) (sym same) (wellFormed-iff n m .0 (passed _ _ r7));
           slot = ltb-true _ _ (and-left _ _ dart);
           alive = eqb-true _ _ (and-right _ _ dart);
         }) same)))))
@@ -135,8 +143,8 @@ module _ (n N : ℕ) (t t′ : List ℕ) (a : AlikeTables n N t t′) where
         go none q =
             let q′ = sym same-fault ∙ q in
             record {
-              one = edit-holds n N t store b d q;
-              other = edit-holds n N t′ store′ b d q′;
+              one = holds-slotted n N _ (edit-holds n N t store b d q);
+              other = holds-slotted n N _ (edit-holds n N t′ store′ b d q′);
               alike = rw (edit-table n N t store b d q, edit-table n N t′ store′ b d q′)
                   (alike-trans (words-alike (edited E)) (alike-trans (edited-like q) (alike-sym (words-alike (edited E′)))));
             }
@@ -146,27 +154,23 @@ module _ (n N : ℕ) (t t′ : List ℕ) (a : AlikeTables n N t t′) where
     pub same-store : length store ≡ 16 * N → editStore n N t store b d ≡ editStore n N t′ store′ b d
     same-store k = store-zero n N t store b d (a .one .sizes) k ∙ sym (store-zero n N t′ store′ b d (a .other .sizes) (sym e ∙ k))
 
-  -- ---- a read
+  -- ---- a load
 
-  same-read-fault : (b : List ℕ) → readFault n N t b ≡ readFault n N t′ b
-  unfolding readFault readFaultAt
-  same-read-fault b = or-else-same _ _ (ap (λ (s : Bool). someIf (not s) BadCall) same-sizes) (λ r. refl)
+  pub same-load : (b : List ℕ) → loadAnswer n N t b ≡ loadAnswer n N t′ b
+  unfolding loadAnswer loadFault
+  same-load b = ap (λ (s : Bool). Option·getD (loadFaultAt s n N b) Done) same-sizes
 
-  pub same-read : (b : List ℕ) → readAnswer n N t b ≡ readAnswer n N t′ b
-  unfolding readAnswer
-  same-read b = ap (λ (o : Option Answer). Option·getD o Done) (same-read-fault b)
+  -- a load keeps nothing of the table that was there
+  pub same-load-table : (b : List ℕ) → loadTable n N t b ≡ loadTable n N t′ b
+  unfolding loadTable loaded
+  same-load-table b = rw (a .one .sizes, a .other .sizes)
+      (ap (λ (k : ℕ). cond (fileForm n N b) (tableOf (fileMap n N b)) (replicate k 0)) same-length)
 
-  -- a read keeps nothing of the table that was there
-  pub same-read-table : (b : List ℕ) → readTable n N t b ≡ readTable n N t′ b
-  unfolding readTable
-  same-read-table b = rw (a .one .sizes, a .other .sizes)
-      (ap₂ (λ (o : Option Answer) (k : ℕ). cond (there o) (replicate k 0) (tableOf (fileMap n N b))) (same-read-fault b) same-length)
-
-  pub read-alike : (b : List ℕ) → AlikeTables n N (readTable n N t b) (readTable n N t′ b)
-  read-alike b = record {
-    one = read-holds n N t b (a .one .sizes);
-    other = read-holds n N t′ b (a .other .sizes);
-    alike = rw (same-read-table b) (alike-refl (view N (readTable n N t′ b)));
+  pub load-alike : (b : List ℕ) → AlikeTables n N (loadTable n N t b) (loadTable n N t′ b)
+  load-alike b = record {
+    one = load-slotted n N t b (a .one .sizes);
+    other = load-slotted n N t′ b (a .other .sizes);
+    alike = rw (same-load-table b) (alike-refl (view N (loadTable n N t′ b)));
   }
 
   -- ---- a write
@@ -185,9 +189,9 @@ module _ (n N : ℕ) (t t′ : List ℕ) (a : AlikeTables n N t t′) where
     same-write = ap₂ (λ (o : Option Answer) (l : List ℕ). Option·getD o (Written (length l))) same-write-fault same-bytes
 
     pub same-written : writtenFile n N t out ≡ writtenFile n N t′ out′
-    same-written = written-file n N t out (a .one)
-        ∙ ap₂ (λ (k : ℕ) (l : List ℕ). cond (ltb k (length l)) [] l) e same-bytes
-        ∙ sym (written-file n N t′ out′ (a .other))
+    same-written = written-file n N t out
+        ∙ ap₂ (λ (o : Option Answer) (l : List ℕ). cond (there o) [] l) same-write-fault same-bytes
+        ∙ sym (written-file n N t′ out′)
 
   -- where the outputs hold the same before, they do afterwards
   pub same-out : (out : List ℕ) → writeOut n N t out ≡ writeOut n N t′ out

@@ -2,7 +2,7 @@
 -- Assumes nothing.
 use Prim.Native.Nat.{ℕ, _*_, _≤_, _<_}
 use mathlib.Core.Path.{_≡_, refl, sym, ap, _∙_, subst}
-use mathlib.Core.Logic.{inl, ⊎-elim, _↔_}
+use mathlib.Core.Logic.{inl, inr, ⊎-elim, _↔_}
 use mathlib.Core.Bool.{Bool, true, false, not, cond}
 use mathlib.Core.Option.{Option, none, some, Option·getD}
 use mathlib.Core.List.{List, [], _++_}
@@ -11,46 +11,50 @@ use lib.ListN.{length, getD, take, drop, replicate, length-replicate}
 use lib.Seq.{take-append-seam}
 use lib.Dec.{ltb}
 use borrow.Author.Tests.{eq-eqb, ne-eqb}
-use Rattle.base.specs.Test.{_and_}
+use Rattle.base.specs.Test.{_and_, bit}
 use Rattle.base.specs.First.{someIf, there, _orElse_}
+use Rattle.base.proofs.TestLaws.{true-or-false}
 use Rattle.base.proofs.FirstLaws.{or-else-none}
 use Rattle.model.specs.Map.{Map, State, view, tableOf, tableSize}
 use Rattle.model.specs.WellFormed.{WellFormed, wellFormed}
 use Rattle.model.specs.Edit.{edited}
-use Rattle.model.specs.File.{file, fileMap}
+use Rattle.model.specs.File.{file, fileForm, fileMap, placeOf}
 use Rattle.model.specs.Answer.{number, values}
 use Rattle.model.specs.Calls.{zeros, sizesOk, mapFault, tableFault, checkTable, siteOf, editFault, editTable, editStore}
-use Rattle.model.specs.Calls.{readFaultAt, readFault, readTable, writeFaultAt, writeFault, writeAnswer, writeOut}
-use Rattle.model.specs.Sequence.{Holds}
+use Rattle.model.specs.Calls.{loaded, loadTable, writeFaultAt, writeFault, writeAnswer, writeOut}
+use Rattle.model.specs.Sequence.{Slotted, Holds}
 use Rattle.model.specs.declared.Answer.{Answer}
 use Rattle.model.specs.declared.Answer.the-variants.{Done, Written, BadCall, BadTable, ShortOutput}
 use Rattle.model.proofs.SizeLaws.{sizes-iff}
 use Rattle.model.proofs.WellFormedLaws.{wellFormed-iff}
-use Rattle.model.proofs.MapLaws.{field-zero, length-words}
+use Rattle.model.proofs.MapLaws.{field-zero, field-words, length-words}
 use Rattle.model.proofs.AlikeLaws.{words-well}
-use Rattle.model.proofs.CallLaws.{passed, granted, edit-table, edit-table-well}
+use Rattle.model.proofs.CallLaws.{passed, granted, edit-table, edit-table-well, refused-table}
 
 module _ (n N : ℕ) (t : List ℕ) where
   pub holds-free : Holds n N t → tableFault n N t ≡ none
   unfolding tableFault mapFault someIf _orElse_
   holds-free h = rw (h .sizes, wellFormed-iff n (view N t) .1 (h .well)) refl
 
-  holds-of : tableFault n N t ≡ none → Holds n N t
+  pub holds-of : tableFault n N t ≡ none → Holds n N t
   unfolding tableFault mapFault
   holds-of q = let r = or-else-none _ _ q in record { sizes = passed _ _ (r .0); well = wellFormed-iff n (view N t) .0 (passed _ _ (r .1)) }
 
   -- a table check answers 0 just where the table holds a well-formed map
-  pub holds-iff : Holds n N t ↔ (checkTable n N t ≡ Done)
+  pub holds-iff : Holds n N t ↔ (number (checkTable n N t) ≡ 0)
   unfolding checkTable tableFault mapFault someIf _orElse_
   holds-iff = (
-    (λ h. ap (λ (o : Option Answer). Option·getD o Done) (holds-free h)),
+    (λ h. ap (λ (o : Option Answer). number (Option·getD o Done)) (holds-free h)),
     (λ e. holds-of (go (not (sizesOk n N t)) (not (wellFormed n (view N t))) e)),
   )
     where
-      go : (a b : Bool) → Option·getD (someIf a BadCall orElse someIf b BadTable) Done ≡ Done → someIf a BadCall orElse someIf b BadTable ≡ none
-      go true b e = let z = ap number e in absurd (omega arith)
-      go false true e = let z = ap number e in absurd (omega arith)
+      go : (a b : Bool) → number (Option·getD (someIf a BadCall orElse someIf b BadTable) Done) ≡ 0 → someIf a BadCall orElse someIf b BadTable ≡ none
+      go true b e = absurd (omega arith)
+      go false true e = absurd (omega arith)
       go false false e = refl
+
+  pub holds-slotted : Holds n N t → Slotted n N t
+  holds-slotted h = record { sizes = h .sizes; states = h .well .states }
 
   module _ (s : sizesOk n N t ≡ true) where
     pub dimension-small : n ≤ 3
@@ -102,6 +106,14 @@ edit-holds n N t store b d q =
       well = wellFormed-iff n (view N (editTable n N t store b d)) .0 (edit-table-well n N t store b d q);
     }
 
+-- an edit of a well-formed map, refused or not
+pub edit-kept : (n N : ℕ) (t store b : List ℕ) (d : ℕ) → Holds n N t → Holds n N (editTable n N t store b d)
+edit-kept n N t store b d h = go (editFault n N t store b d) refl
+  where
+    go : (o : Option Answer) → editFault n N t store b d ≡ o → Holds n N (editTable n N t store b d)
+    go none q = edit-holds n N t store b d q
+    go (some r) q = rw (refused-table n N t store b d r q) h
+
 -- an edit's store is zero afterwards, save where its length is wrong
 module _ (n N : ℕ) (t store b : List ℕ) (d : ℕ) (s : sizesOk n N t ≡ true) where
   pub store-zero : length store ≡ 16 * N → editStore n N t store b d ≡ replicate (16 * N) 0
@@ -112,31 +124,43 @@ module _ (n N : ℕ) (t store b : List ℕ) (d : ℕ) (s : sizesOk n N t ≡ tru
   unfolding editStore _and_
   store-kept ne = rw (s, ne-eqb (length store) (16 * N) ne) refl
 
--- a read that is not refused has found a well-formed map
-read-well : (n N : ℕ) (t b : List ℕ) → readFault n N t b ≡ none → WellFormed n (fileMap n N b)
-unfolding readFault readFaultAt
-read-well n N t b q = wellFormed-iff n (fileMap n N b) .0 (passed _ _ (or-else-none _ _ (or-else-none _ _ q .1) .1))
+-- every slot of a loaded table is live or unused, whatever the file
+module _ (n N : ℕ) (t b : List ℕ) (s : sizesOk n N t ≡ true) where
+  filed-slotted : Slotted n N (tableOf (fileMap n N b))
+  unfolding fileMap
+  filed-slotted = record {
+    sizes = sizes-too n N t s (tableOf (fileMap n N b)) (length-words (fileMap n N b) ∙ sym (table-length n N t s));
+    states = λ x h.
+        let same = field-words (fileMap n N b) x h State (omega arith) in
+        ⊎-elim (λ e. inr (same ∙ ap bit e)) (λ e. inl (same ∙ ap bit e)) (true-or-false (there (placeOf b x)));
+  }
 
--- a read, refused or not
-pub read-holds : (n N : ℕ) (t b : List ℕ) → sizesOk n N t ≡ true → Holds n N (readTable n N t b)
-unfolding readTable there fileMap
-read-holds n N t b s = rw s (go (readFault n N t b) refl)
-  where
-    go : (o : Option Answer) → readFault n N t b ≡ o → Holds n N (cond (there o) (zeros t) (tableOf (fileMap n N b)))
-    go none q = words-hold n N t s (fileMap n N b) refl (read-well n N t b q)
-    go (some r) q = zeros-hold n N t s
+  pub load-slotted : Slotted n N (loadTable n N t b)
+  unfolding loadTable loaded
+  load-slotted = rw s (go (fileForm n N b))
+    where
+      go : (c : Bool) → Slotted n N (cond c (tableOf (fileMap n N b)) (zeros t))
+      go true = filed-slotted
+      go false = holds-slotted n N (zeros t) (zeros-hold n N t s)
 
 -- the file that a write leaves in the output: as many bytes as the answer counts
 abbrev pub writtenFile : ℕ → ℕ → List ℕ → List ℕ → List ℕ
 writtenFile n N t out = take (getD (values (writeAnswer n N t out)) 0 0) (writeOut n N t out)
 
--- a write leaves the map's file where there is room for it, else none
-pub written-file : (n N : ℕ) (t out : List ℕ) → Holds n N t
-    → writtenFile n N t out ≡ cond (ltb (length out) (length (file n (view N t)))) [] (file n (view N t))
-unfolding writeAnswer writeOut writeFault writeFaultAt tableFault someIf _orElse_ there
-written-file n N t out h = rw (holds-free n N t h) (go (ltb (length out) (length (file n (view N t)))))
+-- a write that is not refused leaves the map's file, a refused one none
+pub written-file : (n N : ℕ) (t out : List ℕ) → writtenFile n N t out ≡ cond (there (writeFault n N t out)) [] (file n (view N t))
+unfolding writeAnswer writeOut writeFault writeFaultAt mapFault someIf _orElse_ there
+written-file n N t out = go (not (sizesOk n N t)) (not (wellFormed n (view N t))) (ltb (length out) (length (file n (view N t))))
   where
-    go : (c : Bool) → take (getD (values (Option·getD (someIf c ShortOutput) (Written (length (file n (view N t)))))) 0 0)
-        (cond (there (someIf c ShortOutput)) out (file n (view N t) ++ drop (length (file n (view N t))) out)) ≡ cond c [] (file n (view N t))
-    go true = refl
-    go false = take-append-seam (file n (view N t)) _
+    f : List ℕ
+    f = file n (view N t)
+
+    fault : Bool → Bool → Bool → Option Answer
+    fault a b c = (someIf a BadCall orElse someIf b BadTable) orElse someIf c ShortOutput
+
+    go : (a b c : Bool) → take (getD (values (Option·getD (fault a b c) (Written (length f)))) 0 0)
+        (cond (there (fault a b c)) out (f ++ drop (length f) out)) ≡ cond (there (fault a b c)) [] f
+    go true b c = refl
+    go false true c = refl
+    go false false true = refl
+    go false false false = take-append-seam f _

@@ -26,6 +26,7 @@ pub mod AlikeEdit
 pub mod FileLaws
 pub mod HoldsLaws
 pub mod UnusedLaws
+pub mod BrokenLaws
 pub mod AlikeCalls
 pub mod SequenceLaws
 pub mod RewritingLaws

@@ -1,4 +1,5 @@
--- In an unused record the words beside the state may be anything: whatever is put there, the table holds a map like the one before.
+-- In an unused record of a well-formed map the words beside the state may be anything: whatever is put there, the table holds a well-formed map like
+-- the one before.
 -- Assumes nothing.
 use Prim.Native.Nat.{ℕ, _≤_}
 use mathlib.Core.Path.{_≡_, refl, sym, ap, _∙_}
@@ -7,7 +8,7 @@ use mathlib.Core.List.{List}
 use native.Mathlib.Omega.{arith}
 use Rattle.model.specs.Map.{Field, State, Link, Tag, dimension, fieldAt, put, view}
 use Rattle.model.specs.Alike.{Alike}
-use Rattle.model.specs.Sequence.{Holds, AlikeTables}
+use Rattle.model.specs.Sequence.{Holds, BothHold}
 use Rattle.model.proofs.MapLaws.{length-put, put-other}
 use Rattle.model.proofs.AlikeLaws.{well-alike}
 use Rattle.model.proofs.HoldsLaws.{dimension-small, sizes-too}
@@ -32,13 +33,12 @@ module _ (n N : ℕ) (t : List ℕ) (h : Holds n N t) (x : ℕ) (dead : view N t
     tag = λ y b l. sym (word-stays y Tag l);
   }
 
-  pub unused-any : AlikeTables n N t u
-  unused-any = record {
-    one = h;
-    other = record {
-      sizes = sizes-too n N t (h .sizes) u (length-put t f x v);
-      well = well-alike n (dimension-small n N t (h .sizes)) (view N t) (view N u) stays-alike (h .well)
-          (λ y b. ⊎-elim (λ e. inl (state-stays y ∙ e)) (λ e. inr (state-stays y ∙ e)) (h .well .states y b));
-    };
-    alike = stays-alike;
+  unused-holds : Holds n N u
+  unused-holds = record {
+    sizes = sizes-too n N t (h .sizes) u (length-put t f x v);
+    well = well-alike n (dimension-small n N t (h .sizes)) (view N t) (view N u) stays-alike (h .well)
+        (λ y b. ⊎-elim (λ e. inl (state-stays y ∙ e)) (λ e. inr (state-stays y ∙ e)) (h .well .states y b));
   }
+
+  pub unused-any : BothHold n N t u × Alike (view N t) (view N u)
+  unused-any = (record { one = h; other = unused-holds }, stays-alike)

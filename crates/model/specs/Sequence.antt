@@ -1,31 +1,46 @@
 -- Demand 3: "Take two well-formed maps of one dimension and slot count, with the same live slots and equal live records; unused records and working
--- stores may hold anything. Give both the same sequence of edits, checks, reads and writes at that dimension and slot count, with equal other arguments
--- and lent buffers of equal length. After every call both maps are well-formed, still alike in this sense, and answers and written files are equal."
--- The definitions below say this in its order for one call; `AlikeRuns` of crates/kernel/specs/Runs.antt says it of sequences of any kernel's calls.
+-- stores may hold anything. Give both the same sequence of edits, checks, loads and writes at that dimension and slot count, with equal other arguments
+-- and lent buffers of equal length." After every call both have the same live slots and equal live records, and answers and written files are equal;
+-- both are well-formed "from the start and from each table check that answers 0 until the next load".
+-- The definitions below say this in its order for one call; `AlikeRuns` of crates/demands/specs/Runs.antt says it of sequences of any kernel's calls.
 -- Assumes nothing.
-use Prim.Native.Nat.{ℕ}
+use Prim.Native.Nat.{ℕ, _<_}
 use mathlib.Core.Path.{_≡_}
-use mathlib.Core.Bool.{true}
+use mathlib.Core.Logic.{_⊎_}
+use mathlib.Core.Bool.{Bool, true, false}
 use mathlib.Core.List.{List, []}
 use lib.ListN.{length, getD, take}
+use lib.Dec.{eqb}
+use Rattle.base.specs.Test.{_or_}
 use Rattle.model.specs.Map.{view}
 use Rattle.model.specs.WellFormed.{WellFormed}
 use Rattle.model.specs.Alike.{Alike}
-use Rattle.model.specs.Answer.{values}
-use Rattle.model.specs.Calls.{sizesOk, checkTable, checkScheme, editAnswer, editTable, editStore, readAnswer, readTable, writeAnswer, writeOut}
+use Rattle.model.specs.Answer.{number, values}
+use Rattle.model.specs.Calls.{sizesOk, checkTable, checkScheme, editAnswer, editTable, editStore, loadAnswer, loadTable, writeAnswer, writeOut}
 use Rattle.model.specs.declared.Answer.{Answer}
 
--- ---- two well-formed maps of one dimension and slot count, with the same live slots and equal live records
+-- ---- two maps of one dimension and slot count, with the same live slots and equal live records
+
+-- the table t holds a map of dimension n and N slots, each of them live or unused; whether the map is well-formed is not asked
+pub record Slotted (n N : ℕ) (t : List ℕ) : Type 0 where
+  pub sizes : sizesOk n N t ≡ true
+  pub states : (x : ℕ) → x < N → (view N t .state x ≡ 0) ⊎ (view N t .state x ≡ 1)
+
+pub record AlikeTables (n N : ℕ) (t t′ : List ℕ) : Type 0 where
+  pub one : Slotted n N t
+  pub other : Slotted n N t′
+  pub alike : Alike (view N t) (view N t′)
+
+-- ---- two well-formed maps
 
 -- the table t holds a well-formed map of dimension n and N slots; the table check answers 0 to just these (`holds-iff` of proofs/HoldsLaws.antt)
 pub record Holds (n N : ℕ) (t : List ℕ) : Type 0 where
   pub sizes : sizesOk n N t ≡ true
   pub well : WellFormed n (view N t)
 
-pub record AlikeTables (n N : ℕ) (t t′ : List ℕ) : Type 0 where
+pub record BothHold (n N : ℕ) (t t′ : List ℕ) : Type 0 where
   pub one : Holds n N t
   pub other : Holds n N t′
-  pub alike : Alike (view N t) (view N t′)
 
 -- ---- the same sequence, with equal other arguments and lent buffers of equal length
 
@@ -34,7 +49,7 @@ pub data Request : Type 0 where
   tableCheck : Request
   schemeCheck : (scheme : List ℕ) → Request
   edit : (scheme : List ℕ) (dart : ℕ) → Request
-  read : (file : List ℕ) → Request
+  load : (file : List ℕ) → Request
   write : Request
 
 -- a call: its request, and the buffer lent to it with what that holds, an edit's working store or a write's output; the other calls take none
@@ -60,7 +75,7 @@ module _ (n N : ℕ) (t : List ℕ) where
   outcomeOf tableCheck l = record { answer = checkTable n N t; table = t; lent = l }
   outcomeOf (schemeCheck b) l = record { answer = checkScheme b; table = t; lent = l }
   outcomeOf (edit b d) l = record { answer = editAnswer n N t l b d; table = editTable n N t l b d; lent = editStore n N t l b d }
-  outcomeOf (read b) l = record { answer = readAnswer n N t b; table = readTable n N t b; lent = l }
+  outcomeOf (load b) l = record { answer = loadAnswer n N t b; table = loadTable n N t b; lent = l }
   outcomeOf write l = record { answer = writeAnswer n N t l; table = t; lent = writeOut n N t l }
 
   unfoldable pub outcome : Call → Outcome
@@ -71,16 +86,29 @@ abbrev pub fileOf : Request → Outcome → List ℕ
 fileOf tableCheck o = []
 fileOf (schemeCheck b) o = []
 fileOf (edit b d) o = []
-fileOf (read b) o = []
+fileOf (load b) o = []
 fileOf write o = take (getD (values (o .answer)) 0 0) (o .lent)
+
+-- whether both maps are known to be well-formed after a call that answers a, where `known` says it of before: "from each table check that answers 0
+-- until the next load"
+abbrev pub knownAfter : Bool → Request → Answer → Bool
+knownAfter known tableCheck a = known or eqb (number a) 0
+knownAfter known (schemeCheck b) a = known
+knownAfter known (edit b d) a = known
+knownAfter known (load b) a = false
+knownAfter known write a = known
 
 -- a call and its outcome
 pub record Event : Type 0 where
   pub call : Call
   pub outcome : Outcome
 
--- both maps are well-formed, still alike, and answers and written files are equal
-pub record AlikeEvents (n N : ℕ) (e e′ : Event) : Type 0 where
+abbrev pub knownOf : Bool → Event → Bool
+knownOf known e = knownAfter known (e .call .request) (e .outcome .answer)
+
+-- both maps are still alike, answers and written files are equal, and where the maps are known to be well-formed they are
+pub record AlikeEvents (n N : ℕ) (known : Bool) (e e′ : Event) : Type 0 where
   pub tables : AlikeTables n N (e .outcome .table) (e′ .outcome .table)
   pub answers : e .outcome .answer ≡ e′ .outcome .answer
   pub files : fileOf (e .call .request) (e .outcome) ≡ fileOf (e′ .call .request) (e′ .outcome)
+  pub well : known ≡ true → BothHold n N (e .outcome .table) (e′ .outcome .table)

@@ -1,31 +1,47 @@
 -- `bench::session::load` meets its contract: the part of the input that is lent is the map file.
 -- Assumes nothing.
 use borrow.Author.Needs.{needs}
-use Rattle.bench.proofs.SessionLaws.{map-part, read-map}
+use Rattle.bench.proofs.SessionLaws.{map-part, load-map, load-refused, load-checked}
 use Rattle.bench.proofs.session.load.Statement.{statement}
 use Rattle.bench.proofs.session.load.Tie as tie
 
 add-end : tie.Need-add-end
 add-end c = search needs
 
-sub-read : tie.Need-sub-read
-sub-read c = search needs
+sub-load : tie.Need-sub-load
+sub-load c = search needs
 
-part-read-start : tie.Need-part-read-start
-part-read-start c = search needs
+part-load-start : tie.Need-part-load-start
+part-load-start c = search needs
 
-part-read-end : tie.Need-part-read-end
-part-read-end c = search needs
+part-load-end : tie.Need-part-load-end
+part-load-end c = search needs
 
-read-requires : tie.Need-read-requires
-read-requires c κs = search needs
+load-requires : tie.Need-load-requires
+load-requires c κs = search needs
+
+number-requires : tie.Need-number-requires
+number-requires c κs = search needs
+
+check-table-requires : tie.Need-check-table-requires
+check-table-requires c κs = search needs
 
 returns : tie.Need-returns
 returns c =
-    let r = c .before .before in
-    let s = r .before .before .before .before .before .before in
-    read-map _ _ _ (s .pre .1 .0) _ _ _ _ (s .pre .1 .1) (map-part _ _ (s .pre .0)) (r .read .ensures)
+    let l = c .before .before .before .before in
+    let s = l .before .before .before .before .before .before in
+    let map = load-map _ _ _ (s .pre .1 .0) _ _ _ _ (s .pre .1 .1) (map-part _ _ (s .pre .0)) (l .load .ensures) in
+    (load-refused _ _ _ (s .pre .1 .0) _ _ (map .0) (c .before .number .ensures) (c .if1 .taken), map .1)
+
+returns-2 : tie.Need-returns-2
+returns-2 c =
+    let e = c .before .before in
+    let l = e .before .before .before .before in
+    let s = l .before .before .before .before .before .before in
+    let map = load-map _ _ _ (s .pre .1 .0) _ _ _ _ (s .pre .1 .1) (map-part _ _ (s .pre .0)) (l .load .ensures) in
+    (load-checked _ _ _ (s .pre .1 .0) _ _ _ _ (map .0) (e .before .number .ensures) (e .if1 .left) (map .1) (c .check-table .ensures), map .1)
 
 pub load-spec : {M : Type 1} → statement M
 load-spec =
-    tie.close (tie.spec add-end sub-read part-read-start part-read-end read-requires (λ c. search needs) returns)
+    tie.close (tie.spec add-end sub-load part-load-start part-load-end load-requires number-requires (λ c. search needs) returns
+    check-table-requires (λ c. search needs) returns-2)
