@@ -32,10 +32,10 @@
 extern "C" {
 #endif
 
-/* The version of this interface, 100 times its first number and its second: 1.0.
+/* The version of this interface, 100 times its first number and its second: 2.0.
  * The second grows where something is added; the first where a program that was
  * written for the version before must be looked at again. */
-#define GMAP_VERSION 100
+#define GMAP_VERSION 200
 
 /* ---- limits and sizes */
 
@@ -110,11 +110,23 @@ uint64_t gmap_edit(uint32_t n, uint32_t slots, uint32_t *table, size_t table_len
                    uint32_t *store, size_t store_len,
                    const uint8_t *scheme, size_t scheme_len, uint32_t dart);
 
-/* Reads a map file into the table.
- * Answers 0, 1, 11, 7; 11 also for a file of another n or number of slots than
- * the call's: gmap_file_n and gmap_file_slots say which table a file is for.
- * table: the file's map after 0, with unused records all zero; all zero after
- * 11 and 7; unchanged after 1. The old content is never consulted. */
+/* Loads a map file into the table, well-formed or not.
+ * Answers 0, 1, 11; 11 also for a file of another n or number of slots than the
+ * call's: gmap_file_n and gmap_file_slots say which table a file is for.
+ * table: the file's records after 0, with unused records all zero; all zero
+ * after 11; unchanged after 1. The old content is never consulted.
+ *
+ * A load tests the file's form alone. Links are stored as they stand in the
+ * file, also a link that is not below slots; with n = 2 a live a3 is its own
+ * slot. Whether the map is well-formed, gmap_check_table says. A broken map can
+ * be shown: gmap_check_table, gmap_edit (where the scheme is not refused before)
+ * and gmap_write answer 7 to it, and leave the table as loaded. Following a link
+ * of it may lead out of the table, so a program that follows links by itself
+ * checks the table first, or tests each link before it follows it.
+ *
+ *     uint64_t answer = gmap_load(n, slots, table, table_len, file, file_len);
+ *     if (gmap_number(answer) == GMAP_DONE)
+ *         answer = gmap_check_table(n, slots, table, table_len); */
 uint64_t gmap_load(uint32_t n, uint32_t slots, uint32_t *table, size_t table_len,
                    const uint8_t *file, size_t file_len);
 

@@ -3,8 +3,8 @@
 #include "check.h"
 #include <string.h>
 
-#if !defined GMAP_VERSION || GMAP_VERSION < 100 || GMAP_VERSION >= 200
-#error "this program is written for version 1 of gmap.h"
+#if !defined GMAP_VERSION || GMAP_VERSION < 200 || GMAP_VERSION >= 300
+#error "this program is written for version 2 of gmap.h"
 #endif
 
 enum { N = 3, MORE = 4 };
