@@ -52,8 +52,8 @@ static void counter_open(void)
 static u32 table[6 * N + 64], table0[6 * N], store[16 * N + 64];
 static u8 scheme[700], file[16384], out[16384];
 static u32 scheme_len, file_len, out_len, dim, dart, store_len, slots = N;
-typedef enum { CT, CS, ED, RD, WR, CALLS } call;
-static const char *const call_names[CALLS] = { "check_table", "check_scheme", "edit", "read", "write" };
+typedef enum { CT, CS, ED, LD, LC, WR, CALLS } call;
+static const char *const call_names[CALLS] = { "check_table", "check_scheme", "edit", "load", "load + check", "write" };
 
 static PIN u64 base_call(call c)
 {
@@ -61,7 +61,8 @@ static PIN u64 base_call(call c)
     case CT: return base_check_table(dim, slots, table, 6 * slots);
     case CS: return base_check_scheme(scheme, scheme_len);
     case ED: return base_edit(dim, slots, table, 6 * slots, store, store_len, scheme, scheme_len, dart);
-    case RD: return base_read(dim, slots, table, 6 * slots, file, file_len);
+    case LD: return base_load(dim, slots, table, 6 * slots, file, file_len);
+    case LC: { u64 a = base_load(dim, slots, table, 6 * slots, file, file_len); return a ? a : base_check_table(dim, slots, table, 6 * slots); }
     default: return base_write(dim, slots, table, 6 * slots, out, out_len);
     }
 }
@@ -71,7 +72,8 @@ static PIN u64 gmap_call(call c)
     case CT: return gmap_check_table(dim, slots, table, 6 * slots);
     case CS: return gmap_check_scheme(scheme, scheme_len);
     case ED: return gmap_edit(dim, slots, table, 6 * slots, store, store_len, scheme, scheme_len, dart);
-    case RD: return gmap_read(dim, slots, table, 6 * slots, file, file_len);
+    case LD: return gmap_load(dim, slots, table, 6 * slots, file, file_len);
+    case LC: { u64 a = gmap_load(dim, slots, table, 6 * slots, file, file_len); return a ? a : gmap_check_table(dim, slots, table, 6 * slots); }
     default: return gmap_write(dim, slots, table, 6 * slots, out, out_len);
     }
 }
@@ -404,11 +406,13 @@ int main(int argc, char **argv)
         zero(); if (dim == 2) torus(16, 8); else mirrored(8, 512);
         restore(CT); file_len = (u32)base_write(dim, N, table, 6 * N, file, sizeof file);
         measure(dim == 2 ? "write n=2 (12297 bytes)" : "write n=3 (14345 bytes)", WR, 1, 0);
-        measure(dim == 2 ? "read n=2 (12297 bytes)" : "read n=3 (14345 bytes)", RD, 1, 0);
+        measure(dim == 2 ? "load n=2 (12297 bytes)" : "load n=3 (14345 bytes)", LD, 1, 0);
+        measure(dim == 2 ? "load + check n=2 (12297 bytes)" : "load + check n=3 (14345 bytes)", LC, 1, 0);
         if (dim == 2) continue;
         out_len = 14344;                      measure("write refused 12", WR, 1, 12); out_len = 14345;
-        file_len--;                           measure("read refused 11 (a byte short)", RD, 1, 11); file_len++;
-        file[14344] = 255;                    measure("read refused 7 (last link)", RD, 1, 7);
+        file_len--;                           measure("load refused 11 (a byte short)", LD, 1, 11); file_len++;
+        file[14344] = 255;                    measure("load of a broken map (last link)", LD, 1, 0);
+                                              measure("load + check refused 7 (last link)", LC, 1, 7);
     }
     growth("drop piece, full table", "2;012;D012;;", 1);
     growth("edge split, half full table", "2;02;P02>_2 A12;;001", 2);
