@@ -37,7 +37,7 @@ static void beginning(void)
         uint32_t table[GMAP_RECORD];
         expect("n, too short", gmap_file_n(large, length), 0);
         expect("slots, too short", gmap_file_slots(large, length), 0);
-        expect("read, too short", gmap_read(gmap_file_n(large, length), gmap_file_slots(large, length), table, 0, large, length), refusal(1));
+        expect("load, too short", gmap_load(gmap_file_n(large, length), gmap_file_slots(large, length), table, 0, large, length), refusal(1));
     }
 }
 
@@ -63,8 +63,9 @@ static void more_room(void)
     expect("file length", length, gmap_file_length(2, 4));
     expect("file, n", gmap_file_n(file, length), 2);
     expect("file, slots", gmap_file_slots(file, length), MORE);
-    expect("read", gmap_read(gmap_file_n(file, length), gmap_file_slots(file, length), again, GMAP_RECORD * more, file, length), 0);
-    expect("read, the same", memcmp(again, larger, sizeof again), 0);
+    expect("load", gmap_load(gmap_file_n(file, length), gmap_file_slots(file, length), again, GMAP_RECORD * more, file, length), 0);
+    expect("check", gmap_check_table(2, more, again, GMAP_RECORD * more), 0);
+    expect("load, the same", memcmp(again, larger, sizeof again), 0);
 }
 
 int main(void)

@@ -19,7 +19,7 @@ static void nothing(void) { answer = 0; }
 static void check_table(void) { answer = gmap_check_table(n, N, table, GMAP_RECORD * N); }
 static void check_scheme(void) { answer = gmap_check_scheme(scheme, scheme_len); }
 static void edit(void) { answer = gmap_edit(n, N, table, GMAP_RECORD * N, store, GMAP_STORE * N, scheme, scheme_len, 0); }
-static void read_file(void) { answer = gmap_read(n, N, table, GMAP_RECORD * N, file, gmap_file_length(n, N)); }
+static void load_file(void) { answer = gmap_load(n, N, table, GMAP_RECORD * N, file, gmap_file_length(n, N)); }
 static void write_file(void) { answer = gmap_write(n, N, table, GMAP_RECORD * N, file, sizeof file); }
 
 /* A closed chain of edges through the first `live` slots, with other links loops. */
@@ -108,9 +108,9 @@ int main(void)
         polygon(N);
         measure(n == 2 ? "check_table n=2" : "check_table n=3", check_table, 0);
         measure(n == 2 ? "write n=2" : "write n=3", write_file, 0);
-        measure(n == 2 ? "read n=2" : "read n=3", read_file, 0);
+        measure(n == 2 ? "load n=2" : "load n=3", load_file, 0);
         file[0] = 9;
-        measure(n == 2 ? "read n=2, refused 11" : "read n=3, refused 11", read_file, 11);
+        measure(n == 2 ? "load n=2, refused 11" : "load n=3, refused 11", load_file, 11);
     }
     longest();
     expect("length of the longest accepted scheme", scheme_len, 447);
