@@ -1,6 +1,7 @@
 /* controller PART ARCHIVE: a shift at a small cell, as an integrator would write it.
  *
- * It reads the part's map file, splits an edge, drops a piece, adds a flange, and writes the archive's map file.
+ * It loads the part's map file and checks it, splits an edge, drops a piece, adds a flange, and writes the archive's map file.
+ * A part that is broken is shown as it was loaded, with the links that break it, and the shift ends there.
  * Every answer of the kernel is printed in words; the exit status is 0 only where the archive file was written.
  *
  *   tools/archive libkernel.a
@@ -41,14 +42,20 @@ static int apply(const char *what, const uint8_t *scheme, size_t length, uint32_
     return 1;
 }
 
+/* Whether there is a dart x. A link of a broken part may be any number, so this is asked before the record that it leads to is read. */
+static int live(uint32_t x) { return x < slots && table[GMAP_RECORD * x + GMAP_STATE] == 1; }
+
+/* The i-link of a dart that there is. */
+static uint32_t link_of(uint32_t x, uint32_t i) { return table[GMAP_RECORD * x + GMAP_LINK + i]; }
+
 /* Lists the lots on the part, as the label printer would, each with its number of darts. */
 static void print_lots(void)
 {
     for (uint32_t x = 0; x < slots; x++) {
         uint32_t lot = table[GMAP_RECORD * x + GMAP_TAG], darts = 0, first = 1;
-        if (table[GMAP_RECORD * x + GMAP_STATE] != 1) continue;
+        if (!live(x)) continue;
         for (uint32_t y = 0; y < slots; y++) {
-            if (table[GMAP_RECORD * y + GMAP_STATE] != 1 || table[GMAP_RECORD * y + GMAP_TAG] != lot) continue;
+            if (!live(y) || table[GMAP_RECORD * y + GMAP_TAG] != lot) continue;
             if (y < x) first = 0;
             darts++;
         }
@@ -56,8 +63,35 @@ static void print_lots(void)
     }
 }
 
-/* Reads the part; its file begins with the table it is for. */
-static int read_part(const char *path)
+/* Lists the links of a broken part that lead nowhere or not back, as the drawing office would mark them, and says whether there are any. */
+static int print_bad_links(void)
+{
+    int found = 0;
+    for (uint32_t x = 0; x < slots; x++)
+        for (uint32_t i = 0; live(x) && i <= n; i++) {
+            uint32_t y = link_of(x, i);
+            if (live(y) && link_of(y, i) == x) continue;
+            printf("  dart %" PRIu32 ": a%" PRIu32 " leads to %" PRIu32 ", ", x, i, y);
+            if (y >= slots) printf("and the table has %" PRIu32 " slots\n", slots);
+            else printf(live(y) ? "which does not lead back\n" : "which is unused\n");
+            found = 1;
+        }
+    return found;
+}
+
+/* Lists the darts of a part without bad links from which two links in turn, each taken twice, lead elsewhere and not back. */
+static void print_tears(void)
+{
+    for (uint32_t x = 0; x < slots; x++)
+        for (uint32_t i = 0; live(x) && i <= n; i++)
+            for (uint32_t j = i + 2; j <= n; j++) {
+                uint32_t y = link_of(link_of(link_of(link_of(x, i), j), i), j);
+                if (y != x) printf("  dart %" PRIu32 ": a%" PRIu32 " a%" PRIu32 " a%" PRIu32 " a%" PRIu32 " lead to %" PRIu32 "\n", x, i, j, i, j, y);
+            }
+}
+
+/* Loads the part, well-formed or not; its file begins with the table it is for. */
+static int load_part(const char *path)
 {
     FILE *in = fopen(path, "rb");
     if (!in) {
@@ -79,7 +113,15 @@ static int read_part(const char *path)
         printf("%s: for a table of %" PRIu32 " slots, and this cell has %d\n", path, slots, GMAP_MAX_SLOTS);
         return 0;
     }
-    return told("read the part", gmap_read(n, slots, table, GMAP_RECORD * slots, file, length));
+    return told("load the part", gmap_load(n, slots, table, GMAP_RECORD * slots, file, length));
+}
+
+/* Checks the part. The table of a broken one stays as loaded, so what is wrong with it can be shown. */
+static int check_part(void)
+{
+    if (told("check the table", gmap_check_table(n, slots, table, GMAP_RECORD * slots))) return 1;
+    if (!print_bad_links()) print_tears();
+    return 0;
 }
 
 static int write_archive(const char *path)
@@ -102,11 +144,9 @@ int main(int argc, char **argv)
         fprintf(stderr, "usage: controller PART ARCHIVE\n");
         return 2;
     }
-    if (!read_part(argv[1])) return 1;
+    if (!load_part(argv[1])) return 1;
     print_lots();
-
-    /* A read that is done has checked the map; this shows the call for a table that came another way. */
-    if (!told("check the table", gmap_check_table(n, slots, table, GMAP_RECORD * slots))) return 1;
+    if (!check_part()) return 1;
 
     /* Schemes are tested again by every edit; this finds a damaged one before the operator can pick it. */
     if (!told("check the stored operation", gmap_check_scheme(add_flange, sizeof add_flange))) return 1;

@@ -61,6 +61,13 @@ class Maps(unittest.TestCase):
                 self.assertEqual(run("assemble", path, "-o", self.file).returncode, 0)
                 self.assertEqual(meaning(run("show", self.file).stdout), meaning(self.read(path).decode()))
 
+    def test_broken_map_to_file_and_back(self):
+        broken = self.read("examples/controller/broken.map")
+        for text in (broken, E.replace("0 1 0 0 7", "0 8 65535 5 7").encode()):
+            self.write(self.text, text)
+            self.assertEqual(run("assemble", self.text, "-o", self.file).returncode, 0)
+            self.assertEqual(meaning(run("show", self.file).stdout), meaning(text.decode()))
+
     def test_sample_input_of_the_bench(self):
         self.write(self.text, E.encode())
         run("assemble", self.text, "-o", self.file)
