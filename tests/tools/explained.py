@@ -49,6 +49,7 @@ SCHEMES = [
 # (what is wrong, the records of a map of n 2 and 8 slots, what is said of them)
 MAPS = [
     ("a link to no slot", "0 9 0 0 7\n", ["3: slot 0: α0 leads to 9, and there are 8 slots"]),
+    ("a link to the first slot that is not there", "0 8 0 0 7\n", ["3: slot 0: α0 leads to 8, and there are 8 slots"]),
     ("a link to an unused slot", "0 0 3 0 7\n", ["3: slot 0: α1 leads to 3, which is unused"]),
     ("a link that does not lead back", "0 1 0 0 7\n1 1 1 1 9\n", [
         "3: slot 0: α0 leads to 1, whose α0 leads to 1 and not back", "3: slot 0: α0, α2, α0, α2 lead to 1, 1, 1, 1 and not back"]),
@@ -222,6 +223,34 @@ class Schemes(Case):
         self.assertEqual((schemes.LONGEST, maps.LONGEST), (kernel.max_scheme, kernel.max_file))
 
 
+def changed(source, m):
+    """A map near a well-formed one: up to two changes of links and darts."""
+    m = copy.deepcopy(m)
+    for _ in range(source.choice((0, 1, 1, 2))):
+        x, change = source.choice(sorted(m.live)), source.randrange(5)
+        links, i = m.live[x][0], source.randint(0, m.n)
+        if change == 0:
+            links[i] = source.choice((source.randrange(m.slots + 2), source.randrange(65536)))
+        elif change == 1:  # a pair of links is cut: it may break a square alone
+            y, links[i] = links[i], x
+            if y in m.live:
+                m.live[y][0][i] = y
+        elif change == 2 and len(m.live) > 1:
+            del m.live[x]
+        elif change == 3:  # two darts that were loops at i are joined: likewise
+            free = [y for y in m.live if m.live[y][0][i] == y]
+            if len(free) > 1:
+                x, y = source.sample(free, 2)
+                m.live[x][0][i], m.live[y][0][i] = y, x
+    return m
+
+
+def sample_maps():
+    found = [maps.map_in(data_of(path)) for path in sorted(glob.glob("schemes/maps/*.map"))]
+    assert len(found) >= 5
+    return found
+
+
 class Maps(Case):
     def test_words(self):
         for what, records, said in MAPS:
@@ -283,41 +312,70 @@ class Maps(Case):
             self.assertRaises(FileNotFoundError, data_of, out)
 
     def test_reasons_are_the_kernels(self):
+        """The kernel loads just the files that are in the form here, and of the maps in them finds those broken that have a fault here."""
         kernel, source, seen = Kernel.loaded(), random.Random(4712), collections.Counter()
-        stored = [maps.map_in(data_of(path)) for path in sorted(glob.glob("schemes/maps/*.map"))]
-        self.assertGreaterEqual(len(stored), 5)
+        stored = sample_maps()
         for case in range(3000):
-            m = copy.deepcopy(source.choice(stored))
-            for _ in range(source.choice((0, 1, 1, 2))):
-                x, change = source.choice(sorted(m.live)), source.randrange(5)
-                links, i = m.live[x][0], source.randint(0, m.n)
-                if change == 0:
-                    links[i] = source.randrange(m.slots + 2)
-                elif change == 1:  # a pair of links is cut: it may break a square alone
-                    y, links[i] = links[i], x
-                    if y in m.live:
-                        m.live[y][0][i] = y
-                elif change == 2 and len(m.live) > 1:
-                    del m.live[x]
-                elif change == 3:  # two darts that were loops at i are joined: likewise
-                    free = [y for y in m.live if m.live[y][0][i] == y]
-                    if len(free) > 1:
-                        x, y = source.sample(free, 2)
-                        m.live[x][0][i], m.live[y][0][i] = y, x
-            data = m.file()
+            data = changed(source, source.choice(stored)).file()
             if case % 7 == 6:
                 data = damaged(source, data)
             n, slots = maps.head(data)
-            number = kernel.read(n, slots, data)[0].number
+            answer, table = kernel.load(n, slots, data)
             try:
-                found = 7 if list(explain.map_faults(maps.map_of_file(data))) else 0
+                m = maps.map_of_file(data)
             except Fault:
-                found = 1 if n not in (2, 3) or not 1 <= slots <= maps.SLOTS else 11
-            self.assertEqual(found, number, data)
+                self.assertEqual(answer.number, 1 if n not in (2, 3) or not 1 <= slots <= maps.SLOTS else 11, data)
+                seen[answer.number] += 1
+                continue
+            self.assertEqual(answer.number, 0, data)
+            number = kernel.check_table(n, slots, table).number
+            self.assertEqual(7 if list(explain.map_faults(m)) else 0, number, data)
             seen[number] += 1
         for number in (0, 7, 11):
             self.assertGreater(seen[number], 100, seen)
         print(f"maps by answer: {dict(sorted(seen.items()))}", file=sys.stderr)
+
+    def shown(self, path):
+        """What `show` prints on both ways, without a kernel; the text assembles to the map's file."""
+        done = run("env", "GMAP_ARCHIVE=no/such.a", "tools/map", "show", path)
+        self.assertEqual(done.returncode, 0)
+        text, file = self.file("shown.map", done.stdout), self.path("shown.gmap")
+        self.assertEqual(run("tools/map", "assemble", text, "-o", file).returncode, 0)
+        self.assertEqual(data_of(file), maps.file_in(data_of(path)))
+        return done.stdout, done.stderr
+
+    def test_broken_is_shown(self):
+        """Each kind of fault is said at the line of its dart, and at no other."""
+        for what, records, said in MAPS:
+            with self.subTest(what):
+                wanted = {}
+                for words in said:
+                    line, _, fault = words.split(": ", 2)
+                    wanted.setdefault(int(line) + 1, []).append(fault)  # `show` has a line of heads before the records
+                path = self.file("a.map", "n 2\nslots 8\n" + records)
+                file = self.file("a.gmap", maps.file_in(data_of(path)))
+                for broken in (path, file):
+                    text, summary = self.shown(broken)
+                    marks = {number: line.split(" # ")[1] for number, line in enumerate(text.splitlines(), 1) if " # " in line}
+                    self.assertEqual(marks, {line: "; ".join(faults) for line, faults in wanted.items()})
+                    self.assertEqual([line.split(" # ")[0] for line in text.splitlines()[3:]], records.splitlines())
+                    self.assertEqual(summary, f"{broken}: broken at {len(wanted)} of {len(records.splitlines())} darts; the comments at their lines say how\n")
+
+    def test_well_formed_is_shown(self):
+        for path in sorted(glob.glob("schemes/maps/*.map")):
+            with self.subTest(path):
+                text, summary = self.shown(path)
+                self.assertEqual((text.count("#"), summary), (1, ""))
+
+    def test_text_of_any_map(self):
+        """With marks or without, the text of a map is the text of its file, and the marked darts are those with a fault."""
+        source, stored = random.Random(4714), sample_maps()
+        for _ in range(500):
+            m = changed(source, source.choice(stored))
+            faults = explain.faults_at(m)
+            text = m.text({x: "; ".join(words) for x, words in faults.items()})
+            self.assertEqual(maps.map_of_text(text).file(), m.file())
+            self.assertEqual([int(line.split()[0]) for line in text.splitlines()[3:] if "#" in line], sorted(faults))
 
 
 if __name__ == "__main__":

@@ -213,11 +213,22 @@ def map_faults(m):
                     yield x, f"α{i}, α{j}, α{i}, α{j} lead to {', '.join(map(str, way))} and not back"
 
 
+def faults_at(m):
+    """The faults of a map by slot: for each slot that has some, their words."""
+    found = {}
+    for x, words in map_faults(m):
+        found.setdefault(x, []).append(words)
+    return found
+
+
 def map_refusal(kernel, path, data):
-    """Nothing where the kernel reads the map in the file, else lines that say why not. A text that is no map's is a fault."""
+    """Nothing where the kernel loads the map in the file and finds it well-formed, else lines that say why not. A text that is no map's
+    is a fault."""
     file = file_in(data)
     n, slots = head(file) or (2, 1)  # a file too short to say has no form for any table
-    answer, _ = kernel.read(n, slots, file)
+    answer, table = kernel.load(n, slots, file)
+    if answer.number == 0:
+        answer = kernel.check_table(n, slots, table)
     if answer.number == 0:
         return []
     refused = f"refused {answer.number}: "

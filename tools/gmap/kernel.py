@@ -86,7 +86,7 @@ def lent(kind, values):
 
 
 class Kernel:
-    """The calls. A table is what `read` gives; only the kernel looks into it."""
+    """The calls. A table is what `load` gives; only the kernel looks into it."""
 
     @staticmethod
     @functools.lru_cache
@@ -95,7 +95,7 @@ class Kernel:
 
     def __init__(self, calls):
         self.calls = calls
-        for name in ("check_scheme", "read", "edit", "write"):
+        for name in ("check_table", "check_scheme", "load", "edit", "write"):
             getattr(calls, "gmap_" + name).restype = ctypes.c_uint64
         for name in ("number", "node", "i", "j", "orbit", "added", "deleted"):
             getattr(calls, "tool_" + name).argtypes = [ctypes.c_uint64]
@@ -113,10 +113,13 @@ class Kernel:
     def check_scheme(self, scheme):
         return self.answer(self.calls.gmap_check_scheme(*lent(ctypes.c_uint8, scheme)))
 
-    def read(self, n, slots, file):
-        """The answer, and the table, which is all zero where the file is refused."""
+    def load(self, n, slots, file):
+        """The answer, and the table, which holds the file's map, well-formed or not, or is all zero where the file is refused."""
         table, length = lent(ctypes.c_uint32, [0] * (self.record * slots))
-        return self.answer(self.calls.gmap_read(n, slots, table, length, *lent(ctypes.c_uint8, file))), table
+        return self.answer(self.calls.gmap_load(n, slots, table, length, *lent(ctypes.c_uint8, file))), table
+
+    def check_table(self, n, slots, table):
+        return self.answer(self.calls.gmap_check_table(n, slots, table, ctypes.c_size_t(self.record * slots)))
 
     def edit(self, n, slots, table, scheme, dart):
         store, length = lent(ctypes.c_uint32, [0] * (self.store * slots))
@@ -124,7 +127,7 @@ class Kernel:
                                                 *lent(ctypes.c_uint8, scheme), ctypes.c_uint32(dart)))
 
     def write(self, n, slots, table):
-        """The map file; the table must be one that `read` or `edit` left."""
+        """The map file; the table must be one that `check_table` answers with 0, as `edit` leaves it."""
         out, length = lent(ctypes.c_uint8, bytes(self.max_file))
         answer = self.answer(self.calls.gmap_write(n, slots, table, ctypes.c_size_t(self.record * slots), out, length))
         if answer.number != 0:

@@ -1,4 +1,4 @@
-"""Maps: their form as text and as the map file that the kernel reads. Whether a map is well-formed, the kernel decides."""
+"""Maps: their form as text and as the map file that the kernel loads. Whether a map is well-formed, the kernel decides."""
 import re
 import struct
 
@@ -29,9 +29,12 @@ class Map:
             count, *(struct.pack("<H", link) for slot in order for link in self.live[slot][0]),
         ])
 
-    def text(self):
+    def text(self, marks=None):
+        """The text; a slot that `marks` has words for gets them as a comment at its line."""
+        comments = {slot: f" # {words}" for slot, words in (marks or {}).items()}
         lines = [f"n {self.n}", f"slots {self.slots}", "# slot " + " ".join(f"a{i}" for i in range(self.n + 1)) + " tag"]
-        lines += [" ".join(map(str, [slot, *links, tag])) for slot, (links, tag) in sorted(self.live.items())]
+        for slot, (links, tag) in sorted(self.live.items()):
+            lines.append(" ".join(map(str, [slot, *links, tag])) + comments.get(slot, ""))
         return "\n".join(lines) + "\n"
 
     def orbit(self, dart, dimensions):
