@@ -1,7 +1,9 @@
 #!/usr/bin/env python3
 """Pictures: those of the catalogue are what is drawn now, and a check that something was changed says so; what a map's picture shows
-is held to the map's records; any map and any scheme in the form is drawn; the same input gives the same bytes."""
+is held to the map's records, and what is marked in it to the map's faults; any map and any scheme in the form is drawn; the same input
+gives the same bytes."""
 import contextlib
+import copy
 import glob
 import io
 import math
@@ -18,10 +20,12 @@ from importlib.util import module_from_spec, spec_from_loader
 
 from common import ROOT, Case, run
 
-from gmap import draw_map, draw_scheme, graphviz, look, map as maps
+from gmap import draw_map, draw_scheme, explain, graphviz, look, map as maps
 from gmap.files import Trouble, data_of
+from gmap.map_lines import LETTERS, STUB
 from gmap.polygon import DISC
 from gmap.scheme import scheme_in
+from gmap.svg import wide
 
 SVG = "{http://www.w3.org/2000/svg}"
 PLACES = {"x", "y", "cx", "cy", "d", "width", "height", "viewBox"}
@@ -78,20 +82,69 @@ def some_map(source):
     return m
 
 
+def broken(source, m):
+    """A copy of a map with some of its links changed, or all of them, at times to no slot or to one that is unused."""
+    m = copy.deepcopy(m)
+    links = [(x, i) for x in sorted(m.live) for i in range(m.n + 1)]
+    for x, i in source.sample(links, min(source.choice((1, 1, 2, 3, 6, len(links))), len(links))):
+        m.live[x][0][i] = source.choice((x, source.choice(sorted(m.live)), source.randrange(m.slots), m.slots + source.randrange(3), 65535))
+    return m
+
+
+def small(records):
+    return maps.map_of_text("n 2\nslots 8\n" + records)
+
+
+def nowhere(path):
+    """A map in which every link leads to no slot."""
+    m = map_at(path)
+    m.live = {x: ([65535] * len(links), tag) for x, (links, tag) in m.live.items()}
+    return m
+
+
+# (what is broken, the map, the darts with a ring, the number of crosses at each dart that has some)
+BROKEN = [
+    ("a link to no slot", small("0 9 0 0 7\n"), {0}, {0: 1}),
+    ("the first slot that is not there", small("0 0 8 0 7\n"), {0}, {0: 1}),
+    ("a link to an unused slot", small("0 1 0 0 7\n1 0 1 5 9\n"), {1}, {1: 1}),
+    ("a link that does not lead back", small("0 1 0 0 7\n1 0 1 1 9\n2 2 1 2 9\n"), {2}, {2: 1}),
+    ("a square that does not close", small("0 1 0 2 0\n1 0 1 1 0\n2 3 2 0 0\n3 2 3 3 0\n"), {0, 1, 2, 3}, {}),
+    ("many faults", small("0 8 9 7 0\n1 0 2 900 0\n2 2 2 2 0\n"), {0, 1}, {0: 3, 1: 3}),
+    ("every link, n = 2", nowhere("schemes/maps/bend.map"), set(range(16)), {x: 3 for x in range(16)}),
+    ("every link, n = 3", nowhere("schemes/maps/plate.map"), set(range(8)), {x: 4 for x in range(8)}),
+    ("nothing", map_at("schemes/maps/stack.map"), set(), {}),
+]
+
+
+def points_of(path):
+    """The points of a path."""
+    found = [float(x) for x in re.findall(NUMBER, path)]
+    return list(zip(found[::2], found[1::2]))
+
+
 class Seen:
-    """What stands in the picture of one map: the discs of darts by slot, the lines and the numbers at ends by dimension."""
+    """What stands in the picture of one map: the discs of darts by slot, with rings around them, the lines and the numbers at ends by
+    dimension, the middles of crosses, and the words of faults."""
 
     def __init__(self, svg):
         self.root = ElementTree.fromstring(svg)
-        self.discs, self.said, self.marks = {}, {}, {}
+        self.discs, self.said, self.marks, self.rings = {}, {}, {}, set()
         for group in self.root.iter(SVG + "g"):
             slot = int(group.find(SVG + "text").text)
             disc = group.findall(SVG + "circle")[-1]
             self.discs.setdefault(slot, []).append((float(disc.get("cx")), float(disc.get("cy"))))
             self.said.setdefault(slot, []).append(group.find(SVG + "title").text)
             self.marks.setdefault(slot, []).append(disc.get("class").split()[0])
+            around = [circle for circle in group.findall(SVG + "circle") if circle.get("class") == "wrong"]
+            if [(circle.get("cx"), circle.get("cy")) for circle in around] == [(disc.get("cx"), disc.get("cy"))]:
+                self.rings.add(slot)
         self.lines = {i: self.lines_of(i) for i in range(4)}
-        self.numbers = {i: [text.text for text in self.root.iter(SVG + "text") if text.get("class") == f"n{i}"] for i in range(4)}
+        self.texts = [(text.get("class"), (float(text.get("x")), float(text.get("y"))), text.text) for text in self.root.iter(SVG + "text")]
+        self.numbers = {i: [text for kind, _, text in self.texts if kind == f"n{i}"] for i in range(4)}
+        self.faults = [text for kind, _, text in self.texts if kind == "fault"]
+        paths = [path.get("d") for path in self.root.iter(SVG + "path") if path.get("class") == "wrong"]
+        middles = [tuple(sum(part) / 2 for part in zip(*points_of(stroke))) for path in paths for stroke in re.findall("M[^M]*", path)]
+        self.crosses = [one for one, other in zip(middles[::2], middles[1::2]) if math.dist(one, other) < 0.3]
 
     def lines_of(self, i):
         """The two ends of each line of a class."""
@@ -99,8 +152,8 @@ class Seen:
         for path in self.root.iter(SVG + "path"):
             if path.get("class") == f"a{i}":
                 for part in re.findall("M[^M]*", path.get("d")):
-                    numbers = [float(x) for x in re.findall(NUMBER, part)]
-                    found.append((tuple(numbers[:2]), tuple(numbers[-2:])))
+                    points = points_of(part)
+                    found.append((points[0], points[-1]))
         return found
 
     def joins(self, i, x, y):
@@ -108,6 +161,21 @@ class Seen:
         def at(p, slot):
             return abs(math.dist(p, self.discs[slot][0]) - DISC) < 0.3
         return any((at(p, x) and at(q, y)) or (at(p, y) and at(q, x)) for p, q in self.lines[i])
+
+    def crosses_at(self, x):
+        """The crosses at the end of a link of dart x."""
+        return [p for p in self.crosses if abs(math.dist(p, self.discs[x][0]) - DISC - STUB) < 0.3]
+
+    def numbered(self, x, i, y):
+        """Whether the number y of dimension i stands at a cross of dart x."""
+        near = wide(str(y), LETTERS) + 28
+        return any(kind == f"n{i}" and text == str(y) and math.dist(at, p) < near for kind, at, text in self.texts for p in self.crosses_at(x))
+
+    def covered(self):
+        """The numbers at ends that lie on a dart."""
+        numbers = [(x, y - 3.2, text) for kind, (x, y), text in self.texts if re.fullmatch("n[0-3]", kind)]  # y is their foot's
+        return [text for x, y, text in numbers for discs in self.discs.values() for cx, cy in discs
+                if math.hypot(max(abs(x - cx) - wide(text, LETTERS) / 2, 0), max(abs(y - cy) - 3.5, 0)) < DISC]
 
 
 class Maps(Case):
@@ -123,21 +191,43 @@ class Maps(Case):
                 self.assertGreater(math.hypot(x - a, y - b), 2 * DISC, (slot, other))
 
     def held(self, m):
-        """The picture of a map has each dart once, apart from the others, and each link as a line or by its number."""
+        """The picture of a map has each dart once, apart from the others, and each link as a line or by its number; what is broken in the
+        map is marked at its darts."""
         seen = Seen(draw_map.drawn([m]))
         self.assertEqual(sorted(seen.discs), sorted(m.live))
         self.apart(seen)
-        for slot, (links, tag) in m.live.items():
-            self.assertEqual(seen.said[slot], [f"dart {slot}: " + ", ".join(f"α{i} {y}" for i, y in enumerate(links)) + f", tag {tag}"])
+        sampled = False
         for i in range(m.n + 1):
             pairs = [(x, record[0][i]) for x, record in m.live.items() if record[0][i] != x]
-            far = [str(y) for x, y in pairs if not seen.joins(i, x, y)]
+            far = [(x, y) for x, y in pairs if not (y in m.live and seen.joins(i, x, y))]
+            sound = [(x, y) for x, y in far if y in m.live and m.live[y][0][i] == x]
             shown = sorted(seen.numbers[i])
-            if far and i == min(k for k in range(4) if seen.numbers[k]):
+            if sound and not sampled:
+                sampled = True
                 shown.remove("12")  # the legend's sample
-            self.assertEqual(sorted(far), shown, f"dimension {i}")
+            self.assertEqual(sorted(str(y) for _, y in far), shown, f"dimension {i}")
             if i < 2:
-                self.assertEqual(far, [])
+                self.assertEqual(sound, [])
+        self.marked(m, seen)
+
+    def marked(self, m, seen):
+        """A ring is around each dart that has a fault, a cross with a number at each link that is broken, and their words at the dart and
+        below; nothing else is marked."""
+        faults = explain.faults_at(m)
+        self.assertEqual(seen.rings, set(faults))
+        for x, (links, tag) in m.live.items():
+            first = f"dart {x}: " + ", ".join(f"α{i} {y}" for i, y in enumerate(links)) + f", tag {tag}"
+            self.assertEqual(seen.said[x], ["\n".join([first, *(f"broken: {words}" for words in faults.get(x, ()))])])
+        ends = [(x, i, y) for x, (links, _) in m.live.items() for i, y in enumerate(links) if y not in m.live or m.live[y][0][i] != x]
+        self.assertEqual(len(seen.crosses), len(ends))
+        for x, i, y in ends:
+            self.assertGreaterEqual(len(seen.crosses_at(x)), sum(x == other for other, _, _ in ends))
+            self.assertTrue(seen.numbered(x, i, y), (x, i, y))
+        self.assertEqual(seen.covered(), [])
+        words = [f"slot {x}: {line}" for x in sorted(faults) for line in faults[x]]
+        self.assertEqual(seen.faults[:draw_map.LISTED], words[:draw_map.LISTED])
+        self.assertEqual([line.split(":")[0] for line in seen.faults[draw_map.LISTED:]],
+                         [f"and {len(words) - draw_map.LISTED} more"] if len(words) > draw_map.LISTED else [])
 
     def test_samples(self):
         paths = sorted(glob.glob("schemes/maps/*.map"))
@@ -179,6 +269,35 @@ class Maps(Case):
         for said in ("slot 1: α1 leads to 5, which is unused", "slot 1: α2 leads to 900, and there are 8 slots", "900", "5"):
             self.assertIn(said, texts)
         self.assertTrue(any(text.startswith("broken: ") for text in texts))
+
+    def test_each_fault_is_marked(self):
+        for what, m, rings, crosses in BROKEN:
+            with self.subTest(what):
+                self.held(m)
+                seen = Seen(draw_map.drawn([m]))
+                self.assertEqual((seen.rings, {x: len(seen.crosses_at(x)) for x in m.live if seen.crosses_at(x)}), (rings, crosses))
+
+    def test_broken_maps(self):
+        """Sample maps with links changed at random: what is broken is marked, and each kind of fault is among them."""
+        source, said = random.Random(4713), ""
+        stored = [map_at(path) for path in sorted(glob.glob("schemes/maps/*.map"))]
+        for _ in range(300):
+            m = broken(source, source.choice(stored))
+            self.held(m)
+            said += "\n".join(words for _, words in explain.map_faults(m)) + "\n"
+        for words in ("and there are [0-9]+ slots", "which is unused", "whose α[0-3] leads to [0-9]+ and not back", "α0, α2, α0, α2 lead",
+                      "α0, α3, α0, α3 lead", "α1, α3, α1, α3 lead"):
+            self.assertGreater(len(re.findall(words, said)), 20, words)
+
+    def test_broken_before_and_after(self):
+        """Each of two maps has its own marks, and the words say which map they are of."""
+        bend = map_at("schemes/maps/bend.map")
+        for k, when in enumerate(("before", "after")):
+            pair = [bend, bend]
+            pair[k] = map_at("docs/pictures/broken.map")
+            seen = Seen(draw_map.drawn(pair))
+            self.assertEqual((seen.rings, len(seen.crosses)), ({2, 15}, 2))
+            self.assertEqual([words.split(":")[:2] for words in seen.faults], [[when, " slot 2"], [when, " slot 15"]])
 
     def test_free_and_pointed(self):
         svg = draw_map.drawn([map_at("schemes/maps/lone.map")], 0)
@@ -263,7 +382,8 @@ class Schemes(Case):
 
 
 class Catalogue(Case):
-    """What `tools/catalogue check` says of a copy, of some operations and their texts without bytes lines, in which one thing was changed."""
+    """What `tools/catalogue check` says of a copy, of the introduction and of some operations, their texts without bytes lines, in which
+    one thing was changed."""
 
     KEPT = ("add-flange", "drop-piece", "look-at-edge", "merge-faces", "split-edge")
     CHANGES = [
@@ -290,11 +410,17 @@ class Catalogue(Case):
         ("words of the page", "schemes/README.md", "at dart 2: The bend line", "at dart 3: The bend line", "schemes/README.md: it lacks these lines:\nOn [bend](maps/bend.map) at dart 2"),
         ("an outcome", "schemes/drop-piece.outcome", "\nslot ", "\nslots ", "schemes/drop-piece.outcome:1: expected a line 'slot ..'"),
         ("a record", "schemes/drop-piece.outcome", "   8  9", "   x  9", "schemes/drop-piece.outcome:8: found 'x 9 15 8 4712', expected 5 numbers"),
+        ("a link of a map", "docs/pictures/broken.map", "2   3  1 99", "2   3  1 15", "docs/pictures/broken.svg: it is not what is drawn now"),
+        ("a record of a map", "docs/pictures/broken.map", "2   3  1 99", "2   x  1 99", "docs/pictures/broken.map:13: found '2 x 1 99 4711', expected 5 numbers"),
+        ("a mark in a map's picture", "docs/pictures/broken.svg", '<circle class="wrong"', '<circle class="dart"', "docs/pictures/broken.svg: it is not what is drawn now"),
+        ("no picture of a map", "docs/pictures/broken.svg", None, None, "docs/pictures/broken.svg: it is not what is drawn now"),
+        ("the introduction", "docs/INTRODUCTION.md", "](pictures/broken.svg)", "](pictures/split.svg)", "docs/INTRODUCTION.md: it lacks these lines:\n](pictures/broken.svg)"),
     ]
 
     def setUp(self):
         super().setUp()
-        shutil.copytree(os.path.join(ROOT, "schemes"), self.path("schemes"))
+        for folder in ("schemes", "docs"):
+            shutil.copytree(os.path.join(ROOT, folder), self.path(folder))
         for name in set(names()) - set(self.KEPT):
             for end in (f"{name}.scheme", f"{name}.outcome", f"pictures/{name}.svg", f"pictures/{name}-sample.svg"):
                 os.remove(self.path("schemes/" + end))
@@ -304,7 +430,8 @@ class Catalogue(Case):
         loader = SourceFileLoader("catalogue", "tools/catalogue")
         self.tool = module_from_spec(spec_from_loader("catalogue", loader))
         loader.exec_module(self.tool)
-        self.tool.SCHEMES, self.tool.PICTURES, self.tool.PAGE = (self.path(path) for path in ("schemes", "schemes/pictures", "schemes/README.md"))
+        for name, path in (("SCHEMES", "schemes"), ("PICTURES", "schemes/pictures"), ("PAGE", "schemes/README.md"), ("DOCS", "docs")):
+            setattr(self.tool, name, self.path(path))
 
     def check(self, word="check"):
         """The tool's exit status and what it says."""
@@ -327,6 +454,7 @@ class Catalogue(Case):
         done = run("tools/catalogue", "check")
         self.assertEqual((done.returncode, done.stdout, done.stderr), (0, "", ""))
         self.assertGreaterEqual(len(names()), 12)
+        self.assertEqual(self.tool.map_names(), ["broken"])
         for path in glob.glob("schemes/pictures/*"):
             self.assertLess(os.path.getsize(path), 40000, path)
 
@@ -366,6 +494,7 @@ class Catalogue(Case):
 
     def test_drawn_anew(self):
         shutil.rmtree(self.path("schemes/pictures"))
+        os.remove(self.path("docs/pictures/broken.svg"))
         self.assertEqual(self.check("draw"), (0, ""))
         self.assertEqual(self.check(), (0, ""))
 
@@ -390,6 +519,7 @@ class Use(Case):
                 for operation in names():
                     dart = int(re.search("^dart (.*)", data_of(f"schemes/{operation}.outcome").decode(), re.M).group(1))
                     self.assertEqual(draw_map.drawn(sample(operation), dart).encode(), data_of(f"schemes/pictures/{operation}-sample.svg"), operation)
+                self.assertEqual(draw_map.drawn([map_at("docs/pictures/broken.map")]).encode(), data_of("docs/pictures/broken.svg"))
 
     def test_apply_draws(self):
         done = run("tools/apply", "schemes/maps/bend.map", "split-edge", "2", "--draw", self.path("a.svg"))

@@ -21,9 +21,7 @@ class Panel:
         self.when, self.layout, self.m, self.corner, self.shift = when, layout, layout.m, corner, shift
         self.marked, self.mark, self.pointed = set(), None, None  # darts that only this map has, how they are marked, the dart pointed at
         self.darts = layout.darts
-        self.faulty = {}
-        for x, words in explain.map_faults(self.m):
-            self.faulty.setdefault(x, []).append(words)
+        self.faulty = explain.faults_at(self.m)
         self.used = set()  # what the legend has to explain
 
     def title(self):
@@ -110,7 +108,8 @@ def draw_darts(picture, panel, fills):
         links, tag = panel.m.live[x]
         (cx, cy), mark = panel.at(panel.darts[x].at), panel.mark if x in panel.marked else "dart"
         picture.open()
-        picture.put("title", f"dart {x}: " + ", ".join(f"α{i} {y}" for i, y in enumerate(links)) + f", tag {tag}")
+        broken = "".join(f"\nbroken: {words}" for words in panel.faulty.get(x, ()))
+        picture.put("title", f"dart {x}: " + ", ".join(f"α{i} {y}" for i, y in enumerate(links)) + f", tag {tag}{broken}")
         if x == panel.pointed:
             picture.put("circle", class_="pointed", cx=cx, cy=cy, r=DISC + 3)
         if x in panel.faulty:
@@ -194,7 +193,8 @@ def draw_faults(picture, panels, top):
     """The faults of broken maps in words; where they end, and how wide they are."""
     lines = [(f"{panel.when}: " if panel.when else "") + f"slot {x}: {words}"
              for panel in panels for x in sorted(panel.faulty) for words in panel.faulty[x]]
-    shown = lines[:LISTED] + ([f"and {len(lines) - LISTED} more"] if len(lines) > LISTED else [])
+    more = f"and {len(lines) - LISTED} more: a dart with a ring says its own when it is pointed at, and tools/map check says them all"
+    shown = lines[:LISTED] + ([more] if len(lines) > LISTED else [])
     for k, line in enumerate(shown):
         picture.text("fault", (24, top + 16 * k + 12), line)
     return top + 16.0 * len(shown), max([48 + wide(line, 11) for line in shown], default=0)
