@@ -36,7 +36,9 @@ def run(*words):
 
 
 def meaning(text):
-    return [line.split() for line in text.splitlines() if line and line[0] != "#"]
+    """The words of each line without its comment."""
+    lines = (line.split("#", 1)[0].split() for line in text.splitlines())
+    return [words for words in lines if words]
 
 
 class Maps(unittest.TestCase):

@@ -28,7 +28,7 @@ use Rattle.model.proofs.SizeLaws.{sizes-iff}
 use Rattle.model.proofs.HoldsLaws.{holds-free, holds-of, holds-iff, holds-slotted, sizes-too, words-hold, writtenFile, written-file, dimension-small}
 use Rattle.model.proofs.FileLaws.{same-file, slot-below, filed-live, filed-tag, filed-link, filed-own, filed-zero}
 use Rattle.model.proofs.AlikeLaws.{alike-sym, alike-trans, words-alike, well-alike}
-use Rattle.file.proofs.RoundTrip.{written-form, read-back, written-back}
+use Rattle.file.proofs.RoundTrip.{written-form, load-back, written-back}
 use Rattle.demands.specs.Promises.{TableChecked, FileLoaded, FileWritten}
 use Rattle.demands.specs.Ours.{ours}
 use Rattle.demands.specs.Demands.{Filed, FileAccepted}
@@ -43,7 +43,7 @@ module _ (n N : ℕ) (t : List ℕ) (h : Holds n N t) (small : (i : ℕ) → get
   k = fileMap n N (file n m)
 
   back : (f : Field) (x : ℕ) → dimension f ≤ 3 → x < N → fieldOf k f x ≡ cond (live m x) (fieldOf m f x) 0
-  back = read-back n m (omega (arith, dimension-small n N t (h .sizes))) (sizes-iff n N t .0 (h .sizes) .few)
+  back = load-back n m (omega (arith, dimension-small n N t (h .sizes))) (sizes-iff n N t .0 (h .sizes) .few)
       (sizes-iff n N t .0 (h .sizes) .dimension) (h .well) (λ x g l. rw (field-at t Tag x (omega arith)) (small _))
 
   back-live : (f : Field) (x : ℕ) → dimension f ≤ 3 → x < N → m .state x ≡ 1 → fieldOf m f x ≡ fieldOf k f x

@@ -1,4 +1,4 @@
--- The round trip: a map that is written and read again is the same, and an accepted file is written back byte for byte.
+-- The round trip: a map that is written and loaded again is the same, and a file in the form is written back byte for byte.
 -- The length of a file is `length-file` of proofs/SectionLaws.antt; that maps which are alike have one file is `same-file` of the model.
 -- Assumes nothing.
 use Prim.Native.Nat.{ℕ, _+_, _*_, _≤_, _<_}
@@ -30,7 +30,7 @@ use Rattle.file.proofs.SectionLaws.{length-file, few-live}
 use Rattle.file.proofs.ReadLaws.{all-bytes}
 use Rattle.file.proofs.WrittenLaws.{start, count-back, head-back, slot-back, tag-back, link-back}
 
--- ---- written, then read
+-- ---- written, then loaded
 
 module _ (n : ℕ) (m : Map) (h : n < 256) (few : m .slots ≤ maxSlots) where
   abbrev b : List ℕ
@@ -109,9 +109,9 @@ module _ (n : ℕ) (m : Map) (h : n < 256) (few : m .slots ≤ maxSlots) where
     live-record x g e (Link i) l = link-read x g e i l
     live-record x g e Tag l = ap (λ (L : ℕ). numberAt 4 b (7 + 2 * L + 4 * countBelow x (live m))) darts-read ∙ tag-back n m h x g e (tags x g e)
 
-    -- written and read again, a map has its live records, and zeros in all others
-    pub read-back : (f : Field) (x : ℕ) → dimension f ≤ 3 → x < m .slots → fieldOf (fileMap n (m .slots) b) f x ≡ cond (live m x) (fieldOf m f x) 0
-    read-back f x l g = ⊎-elim
+    -- written and loaded again, a map has its live records, and zeros in all others
+    pub load-back : (f : Field) (x : ℕ) → dimension f ≤ 3 → x < m .slots → fieldOf (fileMap n (m .slots) b) f x ≡ cond (live m x) (fieldOf m f x) 0
+    load-back f x l g = ⊎-elim
         (λ (t : live m x ≡ true). let e = eqb-true (m .state x) 1 t in
         rw t (record-is n (m .slots) b x (some (countBelow x (live m))) (place-live x g e)
         (λ k q. let z : countBelow x (live m) ≡ k = cc in ap (slotOf b) (sym z) ∙ slot-back n m h x g e (omega arith)) f
@@ -119,7 +119,7 @@ module _ (n : ℕ) (m : Map) (h : n < 256) (few : m .slots ≤ maxSlots) where
         (λ (t : live m x ≡ false). rw t (record-is n (m .slots) b x none (place-unused x t) (λ k q. absurd (some-not-none q refl)) f))
         (true-or-false (live m x))
 
--- ---- read, then written
+-- ---- loaded, then written
 
 -- a file in the form, well-formed or not, is the file of the map that it holds
 pub written-back : (n N : ℕ) (b : List ℕ) → fileForm n N b ≡ true → ((i : ℕ) → getD b i 0 < 256) → file n (fileMap n N b) ≡ b

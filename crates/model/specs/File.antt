@@ -1,4 +1,4 @@
--- 'The map file': the bytes that are written for a map, when bytes are a map file, and the map that is read from them.
+-- 'The map file': the bytes that are written for a map, when bytes are a map file, and the map that is loaded from them.
 -- Assumes nothing.
 use Prim.Native.Nat.{ℕ, suc, _+_, _*_, _/_, _%_}
 use mathlib.Core.Bool.{Bool, cond}
@@ -36,7 +36,7 @@ file n m = n ∷ twoBytes (m .slots)
     ++ section m (λ x. fourBytes (m .tag x))
     ++ section m (λ x. joined (suc n) (λ i. twoBytes (m .link i x)))
 
--- ---- read
+-- ---- loaded
 
 -- f of a place in the file, or 0 where there is none
 abbrev pub atPlace : Option ℕ → (ℕ → ℕ) → ℕ

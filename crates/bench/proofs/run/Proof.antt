@@ -1,4 +1,4 @@
--- `bench::run` meets its contract: the three refusals before the map is read, and the session.
+-- `bench::run` meets its contract: the three refusals before the map is loaded, and the session.
 -- Assumes nothing.
 use Prim.Native.Nat.{ℕ, _*_, _<_}
 use mathlib.Core.Path.{ap, _∙_, subst}
