@@ -153,6 +153,14 @@ module _ (n N : ℕ) (t store b : List ℕ) (d : ℕ) where
 
 -- ---- a load
 
+-- 11 is given where the sizes are right and the file is not in the form, and 0 where it is
+load-tests : (s f : Bool) → let r = Option·getD (someIf (not s) BadCall orElse someIf (not f) BadFile) Done in
+    (number r ≡ 11 → (s ≡ true) × (f ≡ false)) × (number r ≡ 0 → (s ≡ true) × (f ≡ true))
+unfolding someIf _orElse_
+load-tests false f = ((λ e. absurd (omega arith)), (λ e. absurd (omega arith)))
+load-tests true false = ((λ e. (refl, refl)), (λ e. absurd (omega arith)))
+load-tests true true = ((λ e. absurd (omega arith)), (λ e. (refl, refl)))
+
 module _ (n N : ℕ) (t b : List ℕ) where
   loadRest : Option Answer
   loadRest = someIf (not (fileForm n N b)) BadFile
@@ -168,14 +176,6 @@ module _ (n N : ℕ) (t b : List ℕ) where
   pub load-one : number (loadAnswer n N t b) ≡ 1 → loadTable n N t b ≡ t
   unfolding loadAnswer loadTable loadFault loadFaultAt loadRest
   load-one e = cond-false (sizesOk n N t) _ t (one-wrong (sizesOk n N t) loadRest _ 11 load-rest refl e)
-
-  -- 11 is given where the sizes are right and the file is not in the form, and 0 where it is
-  load-tests : (s f : Bool) → let r = Option·getD (someIf (not s) BadCall orElse someIf (not f) BadFile) Done in
-      (number r ≡ 11 → (s ≡ true) × (f ≡ false)) × (number r ≡ 0 → (s ≡ true) × (f ≡ true))
-  unfolding someIf _orElse_
-  load-tests false f = ((λ e. absurd (omega arith)), (λ e. absurd (omega arith)))
-  load-tests true false = ((λ e. (refl, refl)), (λ e. absurd (omega arith)))
-  load-tests true true = ((λ e. absurd (omega arith)), (λ e. (refl, refl)))
 
   pub load-eleven : number (loadAnswer n N t b) ≡ 11 → loadTable n N t b ≡ zeros t
   unfolding loadAnswer loadTable loaded loadFault loadFaultAt
