@@ -14,10 +14,10 @@ use Rattle.base.specs.Test.{_and_}
 use Rattle.base.specs.Below.{allBelow}
 use Rattle.base.specs.Digits.{numberAt}
 use Rattle.base.proofs.DigitLaws.{number-join}
-use Rattle.base.proofs.TestLaws.{and-left, and-right, and-of, and-assoc, true-or-false}
-use Rattle.base.proofs.BelowLaws.{below-suc, all-at, all-of, all-stops, all-step}
+use Rattle.base.proofs.TestLaws.{and-left, and-right, and-of, and-true, and-assoc, true-or-false, same-test}
+use Rattle.base.proofs.BelowLaws.{below-suc, below-step, all-at, all-of, all-none, all-stops, all-step}
 use Rattle.model.specs.File.{twoAt, fourAt, fileForm}
-use Rattle.file.specs.Form.{headOk, countsOk, fileSize, frameOk, framed, slotOf, lowest, slotsOk}
+use Rattle.file.specs.Form.{headOk, countsOk, fileSize, frameOk, framed, slotOf, rises, slotsOk}
 use Rattle.file.specs.Records.{Formed}
 use Rattle.file.specs.declared.form.Framing.the-variants.{Darts, Broken}
 
@@ -74,46 +74,51 @@ module _ (n N : ℕ) (b : List ℕ) where
 
 -- ---- the slots
 
-module _ (N : ℕ) (b : List ℕ) where
-  -- where the slots below k ascend, each is below the least that may follow
-  below-lowest : (k : ℕ) → slotsOk N b k ≡ true → (o : ℕ) → o < k → slotOf b o < lowest b k
-  unfolding slotsOk lowest
-  below-lowest zero t o h = absurd (omega arith)
-  below-lowest (suc k) t o h =
-      ⊎-elim
-      (λ e. rw e (omega arith))
-      (λ l. let r : slotOf b o < slotOf b k = ltb-true _ _ (all-at k _ (and-right _ _ (all-at (suc k) _ t k (omega arith))) o l) in omega arith)
-      (below-suc h)
-
-  not-back : (k L : ℕ) → k < L → slotOf b k < lowest b k → slotsOk N b L ≡ true → ⊥
-  unfolding slotsOk lowest
-  not-back zero L h l t = absurd (omega arith)
-  not-back (suc j) L h l t =
-      let r : slotOf b j < slotOf b (suc j) = ltb-true _ _ (all-at (suc j) _ (and-right _ _ (all-at L _ t (suc j) h)) j (omega arith)) in
-      absurd (omega arith)
-
-  module _ (k x : ℕ) (e : x ≡ slotOf b k) where
-    pub slots-out : (L : ℕ) → k < L → N ≤ x → false ≡ slotsOk N b L
-    unfolding slotsOk _and_
-    slots-out L h l = all-stops _ k L h (rw (← e, le-ltb x N l) refl)
-
-    pub slots-back : (L : ℕ) → k < L → x < lowest b k → false ≡ slotsOk N b L
-    slots-back L h l = ⊎-elim (λ t. absurd (not-back k L h (rw (← e) l) t)) (λ t. sym t) (true-or-false (slotsOk N b L))
-
-    pub slots-more : slotsOk N b k ≡ true → lowest b k ≤ x → x < N → slotsOk N b (k + 1) ≡ true
-    unfolding slotsOk
-    slots-more t l h = all-step k _ ∙ and-of t (and-of (rw (← e) (lt-ltb x N h))
-        (all-of k _ (λ o g. lt-ltb (slotOf b o) (slotOf b k) (rw (← e) (omega (arith, below-lowest k t o g))))))
-
 module _ (b : List ℕ) where
   -- the slot that is read at the k-th place
   pub here : (k at x : ℕ) → at ≡ 5 + 2 * k → x ≡ numberAt 2 b at → x ≡ slotOf b k
   unfolding slotOf
   here k at x e f = f ∙ ap (numberAt 2 b) e
 
-  pub lowest-more : (k x : ℕ) → x ≡ slotOf b k → x + 1 ≡ lowest b (k + 1)
-  unfolding lowest
-  lowest-more k x e = rw (add-one k, ← e) refl
+  module _ (k low high : ℕ) (e : low ≡ slotOf b k) (f : high ≡ slotOf b (k + 1)) where
+    pub rise-stops : high ≤ low → false ≡ rises b (k + 1)
+    unfolding rises
+    rise-stops l = all-stops _ k (k + 1) (omega arith) (rw (← e, ← f) (le-ltb low high l))
+
+    pub rise-more : (g : Bool) → g ≡ rises b k → low < high → g ≡ rises b (k + 1)
+    unfolding rises
+    rise-more g q l = rw (all-step, ← e, ← f, lt-ltb low high l, and-true) q
+
+  -- slots that rise one by one are below all that come after
+  rise-far : (m : ℕ) → rises b m ≡ true → (j k : ℕ) → j < k → k ≤ m → slotOf b j < slotOf b k
+  unfolding rises
+  rise-far m t j zero l h = absurd (omega arith)
+  rise-far m t j (suc k) l h =
+      let next : slotOf b k < slotOf b (suc k) = rw (← add-one k) (ltb-true _ _ (all-at m _ t k h)) in
+      ⊎-elim (λ e. rw e next) (λ w. let r = rise-far m t j k w (omega arith) in omega arith) (below-suc l)
+
+module _ (N : ℕ) (b : List ℕ) where
+  pub slots-none : (L : ℕ) → L ≡ 0 → true ≡ slotsOk N b L
+  unfolding slotsOk
+  slots-none L e = rw e (sym (all-none _))
+
+  module _ (m L x : ℕ) (e : L ≡ m + 1) (f : x ≡ slotOf b m) where
+    pub slots-out : N ≤ x → false ≡ slotsOk N b L
+    unfolding slotsOk _and_
+    slots-out l = all-stops _ m L (omega arith) (rw (← f, le-ltb x N l) refl)
+
+    -- where the last slot is below N, all that rise to it are
+    pub slots-rise : x < N → rises b m ≡ slotsOk N b L
+    unfolding slotsOk rises
+    slots-rise l = same-test _ _
+        (λ t. all-of L _ (λ k h. and-of (lt-ltb _ _ (below t k h)) (all-of k _ (λ o g. lt-ltb _ _ (rise-far b m t o k g (omega arith))))))
+        (λ t. all-of m _ (λ o h. all-at (o + 1) _ (and-right _ _ (all-at L _ t (o + 1) (omega arith))) o (omega arith)))
+      where
+        below : rises b m ≡ true → (k : ℕ) → k < L → slotOf b k < N
+        below t k h = ⊎-elim
+            (λ (w : k ≡ m). rw (w, ← f) l)
+            (λ (w : k < m). let r = rise-far b m t k m w (omega arith) in omega arith)
+            (below-step (rw (← e) h))
 
 -- ---- the model's form
 

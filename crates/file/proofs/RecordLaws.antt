@@ -1,7 +1,7 @@
 -- The records of a file's darts as they are entered into a table.
 -- Assumes nothing.
 use Prim.Native.Nat.{ℕ, zero, suc, _+_, _*_, _≤_, _<_}
-use mathlib.Core.Path.{_≡_, refl, sym, ap, ap₂, _∙_}
+use mathlib.Core.Path.{_≡_, refl, sym, ap, _∙_}
 use mathlib.Core.Logic.{⊎-elim}
 use mathlib.Core.List.{List}
 use native.Mathlib.Nat.{mul-le-mul-left}
@@ -15,43 +15,32 @@ use Rattle.model.proofs.MapLaws.{state-not-tag, state-not-link, tag-not-link, p
 use Rattle.table.specs.Words.{Sized}
 use Rattle.table.proofs.WordLaws.{put-sized}
 use Rattle.file.specs.Form.{slotOf}
-use Rattle.file.specs.Records.{Formed, linkWord, linkPlace, tagPlace, rowOf, putRow, putLinks}
-
-pub put-number : (t : List ℕ) (f : Field) (x : ℕ) {v w : ℕ} (t' : List ℕ) → t' ≡ put t f x v → v ≡ w → t' ≡ put t f x w
-put-number t f x t' e h = rw (← h) e
+use Rattle.file.specs.Records.{Formed, Linked, linkOf, linkWord, linkPlace, tagPlace, rowOf, putRow, putLinks}
+use Rattle.file.specs.declared.records.Links.{Links}
 
 -- ---- the links of a dart
-
--- after k links of x, which stand from `at` on, t has become t', and the next stands at `next`
-pub record Linked (n : ℕ) (b : List ℕ) (at x : ℕ) (t : List ℕ) (k : ℕ) (t' : List ℕ) (next : ℕ) : Type 0 where
-  pub words : t' ≡ putLinks t x (linkWord n b at x) k
-  pub place : next ≡ at + 2 * k
 
 pub links-sized : (N : ℕ) (t : List ℕ) (x : ℕ) (g : ℕ → ℕ) (k : ℕ) → Sized N t → Sized N (putLinks t x g k)
 unfolding putLinks
 links-sized N t x g zero s = s
 links-sized N t x g (suc k) s = put-sized (putLinks t x g k) (Link k) x (g k) N (links-sized N t x g k s)
 
-module _ (n : ℕ) (b : List ℕ) (at x : ℕ) (t : List ℕ) where
-  pub link-start : Linked n b at x t 0 t at
-  unfolding putLinks
-  link-start = record { words = refl; place = omega arith }
+module _ (n : ℕ) (b : List ℕ) (at x : ℕ) where
+  -- a number that is read at the i-th place of the links
+  pub link-here : (i p v : ℕ) → i ≤ n → p ≡ at + 2 * i → v ≡ numberAt 2 b p → v ≡ linkWord n b at x i
+  unfolding linkWord
+  link-here i p v h e f = rw (le-leb i n h, ← e) f
 
-  module _ (k : ℕ) (t' : List ℕ) (p : ℕ) (u : Linked n b at x t k t' p) where
-    pub link-step : (t'' : List ℕ) (q : ℕ) → k ≤ n → t'' ≡ put t' (Link k) x (numberAt 2 b p) → q ≡ p + 2 → Linked n b at x t (suc k) t'' q
-    unfolding putLinks linkWord
-    link-step t'' q h e f = record {
-      words = rw (le-leb k n h, ← u .place, ← u .words) e;
-      place = rw (f, u .place) (omega arith);
-    }
+  -- with n = 2 the last is x itself
+  pub link-flat : n ≡ 2 → x ≡ linkWord n b at x 3
+  unfolding linkWord
+  link-flat e = rw e refl
 
-    pub linked-sized : (N : ℕ) → Sized N t → Sized N t'
-    linked-sized N s = rw (u .words) (links-sized N t x (linkWord n b at x) k s)
-
-  -- with n = 2 the last link is x itself
-  pub link-flat : (t' t'' : List ℕ) (p : ℕ) → n ≡ 2 → Linked n b at x t 3 t' p → t'' ≡ put t' (Link 3) x x → t'' ≡ putLinks t x (linkWord n b at x) 4
-  unfolding putLinks linkWord
-  link-flat t' t'' p e u f = f ∙ ap₂ (λ (l : List ℕ) (v : ℕ). put l (Link 3) x v) (u .words) (rw e refl)
+-- four links, as they are put
+pub links-put : (t t1 t2 t3 t4 : List ℕ) (x : ℕ) (l : Links) → t1 ≡ put t (Link 0) x (l .a0) → t2 ≡ put t1 (Link 1) x (l .a1)
+    → t3 ≡ put t2 (Link 2) x (l .a2) → t4 ≡ put t3 (Link 3) x (l .a3) → t4 ≡ putLinks t x (linkOf l) 4
+unfolding putLinks linkOf
+links-put t t1 t2 t3 t4 x l p q r s = rw (s, r, q, p) refl
 
 -- ---- a record
 
@@ -92,11 +81,11 @@ module _ (t : List ℕ) (x : ℕ) (g : Field → ℕ) where
   row-same N s h Tag l = put-same _ Tag x (g Tag) (omega arith) N (links-sized N _ x _ 4 (put-sized t State x (g State) N s) .long) h
 
 -- the words of the k-th dart, as they are put
-pub entered : (n : ℕ) (b : List ℕ) (k x v at tagged : ℕ) (t t1 t2 t3 : List ℕ)
-    → x ≡ slotOf b k → at ≡ linkPlace n b k → v ≡ numberAt 4 b tagged → tagged ≡ tagPlace b k
-    → t1 ≡ put t State x 1 → t2 ≡ putLinks t1 x (linkWord n b at x) 4 → t3 ≡ put t2 Tag x v → t3 ≡ putRow t (slotOf b k) (rowOf n b k)
-unfolding putRow rowOf
-entered n b k x v at tagged t t1 t2 t3 e f g h p q r = rw (r, q, p, g, h, f, e) refl
+pub entered : (n : ℕ) (b : List ℕ) (k x v at tagged : ℕ) (l : Links) (t t1 t2 t3 : List ℕ)
+    → x ≡ slotOf b k → at ≡ linkPlace n b k → v ≡ numberAt 4 b tagged → tagged ≡ tagPlace b k → Linked n b at x l
+    → t1 ≡ put t State x 1 → t2 ≡ putLinks t1 x (linkOf l) 4 → t3 ≡ put t2 Tag x v → t3 ≡ putRow t (slotOf b k) (rowOf n b k)
+unfolding putRow rowOf putLinks linkOf
+entered n b k x v at tagged l t t1 t2 t3 e f g h u p q r = rw (r, q, p, u .a0, u .a1, u .a2, u .a3, g, h, f, e) refl
 
 -- the links of a dart stand within the bytes, and its slot is below the number of slots
 module _ (n N : ℕ) (b : List ℕ) (F : Formed n N b) (L k : ℕ) (e : L ≡ numberAt 2 b 3) (h : k < L) where

@@ -1,6 +1,6 @@
 -- The form of a file, test by test. It stands for `fileForm` (proofs/FormLaws.antt).
 -- Assumes nothing.
-use Prim.Native.Nat.{ℕ, zero, suc, _+_, _*_}
+use Prim.Native.Nat.{ℕ, _+_, _*_}
 use mathlib.Core.Bool.{Bool, cond}
 use mathlib.Core.List.{List}
 use lib.ListN.{length}
@@ -32,10 +32,9 @@ framed n N b = cond (frameOk n N b) (Darts (numberAt 2 b 3)) Broken
 unfoldable pub slotOf : List ℕ → ℕ → ℕ
 slotOf b k = numberAt 2 b (5 + 2 * k)
 
--- the least slot that may stand at k
-unfoldable pub lowest : List ℕ → ℕ → ℕ
-lowest b zero = 0
-lowest b (suc k) = slotOf b k + 1
+-- each of the first k slots is below the one after it
+unfoldable pub rises : List ℕ → ℕ → Bool
+rises b k = allBelow k (λ o. ltb (slotOf b o) (slotOf b (o + 1)))
 
 unfoldable pub slotsOk : ℕ → List ℕ → ℕ → Bool
 slotsOk N b L = allBelow L (λ k. ltb (slotOf b k) N and allBelow k (λ o. ltb (slotOf b o) (slotOf b k)))

@@ -11,6 +11,7 @@ use Rattle.base.specs.Digits.{numberAt}
 use Rattle.model.specs.File.{atPlace}
 use Rattle.model.specs.Map.{Field, State, Link, Tag, put}
 use Rattle.file.specs.Form.{fileSize, slotOf}
+use Rattle.file.specs.declared.records.Links.{Links}
 
 -- what the form says of the darts
 pub record Formed (n N : ℕ) (b : List ℕ) : Type 0 where
@@ -21,6 +22,19 @@ pub record Formed (n N : ℕ) (b : List ℕ) : Type 0 where
 -- αi of x, where its links stand from `at` on
 unfoldable pub linkWord : ℕ → List ℕ → ℕ → ℕ → ℕ → ℕ
 linkWord n b at x i = cond (leb i n) (numberAt 2 b (at + 2 * i)) x
+
+unfoldable pub linkOf : Links → ℕ → ℕ
+linkOf l zero = l .a0
+linkOf l (suc zero) = l .a1
+linkOf l (suc (suc zero)) = l .a2
+linkOf l (suc (suc (suc i))) = l .a3
+
+-- l has the links of x
+pub record Linked (n : ℕ) (b : List ℕ) (at x : ℕ) (l : Links) : Type 0 where
+  pub a0 : l .a0 ≡ linkWord n b at x 0
+  pub a1 : l .a1 ≡ linkWord n b at x 1
+  pub a2 : l .a2 ≡ linkWord n b at x 2
+  pub a3 : l .a3 ≡ linkWord n b at x 3
 
 -- where the links and the tag of the k-th dart stand
 unfoldable pub linkPlace : ℕ → List ℕ → ℕ → ℕ

@@ -4,7 +4,7 @@ use numbers::Cursor;
 ghost use mathlib.Core.Path.{_≡_};
 ghost use Prim.Native.Nat.{_+_, _*_, _≤_};
 ghost use lib.ListN.{length};
-ghost use Rattle.file.specs.Form.{headOk, countsOk, framed, slotsOk};
+ghost use Rattle.file.specs.Form.{headOk, countsOk, framed, rises, slotsOk};
 
 // How many darts the frame has room for, or that it is none.
 pub enum Framing {
@@ -64,26 +64,38 @@ pub fn frame(n: u32, slots: usize, b: &[u8]) -> Framing
     Framing::Darts(darts)
 }
 
+// Each of the first `pairs` slots is below the one after it. All are compared, since the machine compares many at once where none ends the loop.
+fn rising(b: &[u8], pairs: usize) -> bool
+    requires { ⌜ 7 + 2 * pairs ≤ length (now b) ⌝ }
+    ensures { λ r. ⌜ r ≡ rises (now (b .entry)) pairs ⌝ }
+{
+    let mut from = Cursor { at: 5 };
+    let mut good = true;
+    let mut k = 0;
+    while k < pairs {
+        let low = from.two(b);
+        from = low.next;
+        let high = from.two(b);
+        if high.value <= low.value {
+            good = false;
+        }
+        k += 1;
+    }
+    good
+}
+
 // Each slot is below the number of slots, and above the slot before it.
 pub fn ascending(slots: usize, b: &[u8], darts: usize) -> bool
     requires { ⌜ 5 + 2 * darts ≤ length (now b) ⌝ }
     ensures { λ r. ⌜ r ≡ slotsOk slots (now (b .entry)) darts ⌝ }
 {
-    let mut from = Cursor { at: 5 };
-    let mut low = 0;
-    let mut k = 0;
-    while k < darts {
-        let slot = from.two(b);
-        let x = slot.value as usize;
-        if x < low {
-            return false;
-        }
-        if slots <= x {
-            return false;
-        }
-        low = x + 1;
-        from = slot.next;
-        k += 1;
+    if darts == 0 {
+        return true;
     }
-    true
+    let last = Cursor { at: 3 + 2 * darts };
+    let slot = last.two(b);
+    if slots <= slot.value as usize {
+        return false;
+    }
+    rising(b, darts - 1)
 }

@@ -8,41 +8,62 @@ ghost use mathlib.Core.Logic.{_⊎_};
 ghost use Prim.Native.Nat.{_+_, _*_, _≤_, _<_};
 ghost use lib.ListN.{length, replicate};
 ghost use Rattle.base.specs.Digits.{numberAt};
-ghost use Rattle.model.specs.Map.{Link, tableSize, put, tableOf, maxSlots};
+ghost use Rattle.model.specs.Map.{tableSize, tableOf, maxSlots};
 ghost use Rattle.model.specs.File.{fileMap};
 ghost use Rattle.table.specs.Words.{Sized};
 ghost use Rattle.file.specs.Form.{slotOf};
-ghost use Rattle.file.specs.Records.{Formed, linkWord, rowOf, putRow, putLinks};
+ghost use Rattle.file.specs.Records.{Formed, Linked, linkOf, rowOf, putRow, putLinks};
 
-// The next number is the i-link of x.
-fn link(slots: usize, table: &mut [u32], i: usize, x: usize, b: &[u8], from: Cursor) -> Cursor
-    requires { ⌜ Sized slots (now table) ⌝ }
-    requires { ⌜ (x < slots) × (i ≤ 3) × (from .at + 2 ≤ length (now b)) ⌝ }
-    ensures { λ r. ⌜ (now (table .exit) ≡ put (now (table .entry)) (Link i) x (numberAt 2 (now (b .entry)) (from .at))) × (r .at ≡ from .at + 2) ⌝ }
-{
-    let number = from.two(b);
-    put_link(slots, table, i, x, number.value);
-    number.next
+// The links of a dart, by dimension.
+struct Links {
+    a0: u32,
+    a1: u32,
+    a2: u32,
+    a3: u32,
 }
 
 // The links of x, from the next numbers. With n = 2 its own slot is the last.
-fn links(n: u32, slots: usize, table: &mut [u32], x: usize, b: &[u8], from: Cursor)
+fn read_links(n: u32, x: u32, b: &[u8], from: Cursor) -> Links
     requires { ⌜ (n ≡ 2) ⊎ (n ≡ 3) ⌝ }
-    requires { ⌜ Sized slots (now table) ⌝ }
-    requires { ⌜ (x < slots) × (from .at + 2 * (n + 1) ≤ length (now b)) ⌝ }
-    ensures { λ _. ⌜ now (table .exit) ≡ putLinks (now (table .entry)) x (linkWord n (now (b .entry)) (from .at) x) 4 ⌝ }
+    requires { ⌜ from .at + 2 * (n + 1) ≤ length (now b) ⌝ }
+    ensures { λ r. ⌜ Linked n (now (b .entry)) (from .at) x r ⌝ }
 {
-    let a = link(slots, table, 0, x, b, from);
-    let c = link(slots, table, 1, x, b, a);
-    let d = link(slots, table, 2, x, b, c);
+    let first = from.two(b);
+    let from1 = first.next;
+    let second = from1.two(b);
+    let from2 = second.next;
+    let third = from2.two(b);
     if n == 2 {
-        put_link(slots, table, 3, x, x as u32);
-    } else {
-        let _end = link(slots, table, 3, x, b, d);
+        return Links {
+            a0: first.value,
+            a1: second.value,
+            a2: third.value,
+            a3: x,
+        };
+    }
+    let from3 = third.next;
+    let fourth = from3.two(b);
+    Links {
+        a0: first.value,
+        a1: second.value,
+        a2: third.value,
+        a3: fourth.value,
     }
 }
 
-// The record of the k-th dart of the file.
+// The links of x become these.
+fn put_links(slots: usize, table: &mut [u32], x: usize, l: Links)
+    requires { ⌜ Sized slots (now table) ⌝ }
+    requires { ⌜ x < slots ⌝ }
+    ensures { λ _. ⌜ now (table .exit) ≡ putLinks (now (table .entry)) x (linkOf l) 4 ⌝ }
+{
+    put_link(slots, table, 0, x, l.a0);
+    put_link(slots, table, 1, x, l.a1);
+    put_link(slots, table, 2, x, l.a2);
+    put_link(slots, table, 3, x, l.a3);
+}
+
+// The record of the k-th dart of the file. It is read before any word of it is put, so that its words can be moved together.
 fn enter(n: u32, slots: usize, table: &mut [u32], b: &[u8], darts: usize, k: usize)
     requires { ⌜ (n ≡ 2) ⊎ (n ≡ 3) ⌝ }
     requires { ⌜ Sized slots (now table) ⌝ }
@@ -52,16 +73,17 @@ fn enter(n: u32, slots: usize, table: &mut [u32], b: &[u8], darts: usize, k: usi
 {
     let at = Cursor { at: 5 + 2 * k };
     let slot = at.two(b);
-    let x = slot.value as usize;
-    put_state(slots, table, x, 1);
     let first = Cursor {
         at: 9 + 6 * darts + 2 * ((n as usize + 1) * k),
     };
-    links(n, slots, table, x, b, first);
+    let row = read_links(n, slot.value, b, first);
     let last = Cursor {
         at: 7 + 2 * darts + 4 * k,
     };
     let tag = last.four(b);
+    let x = slot.value as usize;
+    put_state(slots, table, x, 1);
+    put_links(slots, table, x, row);
     put_tag(slots, table, x, tag.value);
 }
 

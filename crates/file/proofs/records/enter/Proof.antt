@@ -15,87 +15,55 @@ use Rattle.file.proofs.RecordLaws.{links-sized, entered, links-room, sl
 use Rattle.file.proofs.records.enter.Statement.{statement}
 use Rattle.file.proofs.records.enter.Tie as tie
 
-mul-t13 : tie.Need-mul-t13
-mul-t13 c = search needs
-
-add-t14 : tie.Need-add-t14
-add-t14 c = search needs
-
-two-requires : tie.Need-two-requires
-two-requires c κs = search needs
-
-cast-x : tie.Need-cast-x
-cast-x c = search needs
-
 room : (a : tie.Start) → 9 + 6 * a .args .darts + 2 * ((a .args .n + 1) * a .args .k) + 2 * (a .args .n + 1) ≤ length (now (a .args .b))
 room a = links-room _ _ _ (a .pre .1 .1 .0) _ _ (a .pre .1 .1 .1 .0) (a .pre .1 .1 .1 .1)
 
 slot : (c : tie.After-two) → let a = c .before .before .before .args in
     (c .two .result .value ≡ slotOf (now (a .b)) (a .k)) × (c .two .result .value < a .slots)
-slot c = let a = c .before .before .before .pre in slot-below _ _ _ (a .1 .1 .0) _ _ (a .1 .1 .1 .0) (a .1 .1 .1 .1) _ (c .two .ensures .value)
+slot c =
+    let a = c .before .before .before .pre in
+    slot-below _ _ _ (a .1 .1 .0) _ _ (a .1 .1 .1 .0) (a .1 .1 .1 .1) _ (c .two .ensures .value)
 
-sized : (c : tie.After-put-state) → Sized (c .before .before .before .before .before .before .args .slots) (c .put-state .last .1 .0)
-sized c = rw (c .put-state .ensures) (put-sized _ State _ 1 _ (c .before .before .before .before .before .before .pre .1 .0))
+sized : (c : tie.After-put-state) → Sized (c .before .before .before .before .before .before .before .before .args .slots) (c .put-state .last .1 .0)
+sized c = rw (c .put-state .ensures) (put-sized _ State _ 1 _ (c .before .before .before .before .before .before .before .before .pre .1 .0))
 
-put-state-requires : tie.Need-put-state-requires
-put-state-requires c κs = (c .before .before .before .before .before .pre .1 .0, slot (c .before .before) .1)
+mul-t18 : tie.Need-mul-t18
+mul-t18 c = omega (arith, room (c .before .before .before))
 
-mul-t13-2 : tie.Need-mul-t13-2
-mul-t13-2 c = search needs
-
-add-t14-2 : tie.Need-add-t14-2
-add-t14-2 c = search needs
-
-add-t19 : tie.Need-add-t19
-add-t19 c = search needs
-
-mul-t20 : tie.Need-mul-t20
-mul-t20 c = omega (arith, room (c .before .before .before .before .before .before .before .before))
-
-mul-t21 : tie.Need-mul-t21
-mul-t21 c = omega (arith, room (c .before .before .before .before .before .before .before .before))
-
-add-t22 : tie.Need-add-t22
-add-t22 c = omega (arith, room (c .before .before .before .before .before .before .before .before))
-
-links-requires : tie.Need-links-requires
-links-requires c κs =
-    let a = c .before .before .before .before .before .before .before .before .before in
-    (a .pre .0, (sized (c .before .before .before), (slot (c .before .before .before .before .before .before) .1, room a)))
-
-mul-t22 : tie.Need-mul-t22
-mul-t22 c = search needs
-
-add-t13 : tie.Need-add-t13
-add-t13 c = search needs
-
-mul-t21-2 : tie.Need-mul-t21-2
-mul-t21-2 c = search needs
+mul-t19 : tie.Need-mul-t19
+mul-t19 c = omega (arith, room (c .before .before .before))
 
 add-t20 : tie.Need-add-t20
-add-t20 c = search needs
+add-t20 c = omega (arith, room (c .before .before .before))
 
-four-requires : tie.Need-four-requires
-four-requires c κs = search needs
+read-links-requires : tie.Need-read-links-requires
+read-links-requires c κs = let a = c .before .before .before in (a .pre .0, room a)
+
+put-state-requires : tie.Need-put-state-requires
+put-state-requires c κs = (c .before .before .before .before .before .before .before .pre .1 .0, slot (c .before .before .before .before) .1)
+
+put-links-requires : tie.Need-put-links-requires
+put-links-requires c κs = (sized (c .before .before .before), slot (c .before .before .before .before .before .before .before .before) .1)
 
 put-tag-requires : tie.Need-put-tag-requires
 put-tag-requires c κs =
-    let l = c .before .before .before .before in (
-      rw (l .links .ensures) (links-sized _ _ _ _ 4 (sized (l .before .before .before .before))),
-      slot (l .before .before .before .before .before .before .before) .1,
-    )
+    let l = c .before .before .before in
+    let p = l .before .before .before .before in
+    (rw (l .put-links .ensures) (links-sized _ _ _ _ 4 (sized p)), slot (p .before .before .before .before .before) .1)
 
 returns : tie.Need-returns
 unfolding linkPlace tagPlace
 returns c =
-    let four = c .before .before .before .before in
-    let l = four .before .before .before in
+    let l = c .before .before .before .before .before .before in
     let p = l .before .before .before .before in
-    let e = p .before .before .before .before .before .before .pre .1 .1 .1 .0 in
-    entered _ _ _ _ _ _ _ _ _ _ _ (slot (p .before .before .before) .0) (rw (← e) refl) (four .four .ensures .value) (rw (← e) refl)
-    (p .put-state .ensures) (l .links .ensures) (c .before .before .put-tag .ensures)
+    let four = p .before .before .before in
+    let two = four .before .before in
+    let e = two .before .before .before .pre .1 .1 .1 .0 in
+    entered _ _ _ _ _ _ _ _ _ _ _ _ (slot two .0) (rw (← e) refl) (four .four .ensures .value) (rw (← e) refl) (four .before .read-links .ensures)
+    (p .put-state .ensures) (l .put-links .ensures) (c .before .before .put-tag .ensures)
 
 pub enter-spec : {M : Type 1} → statement M
 enter-spec =
-    tie.close (tie.spec mul-t13 add-t14 two-requires cast-x put-state-requires mul-t13-2 add-t14-2 add-t19 mul-t20 mul-t21 add-t22 links-requires
-    mul-t22 add-t13 mul-t21-2 add-t20 four-requires put-tag-requires (λ c. search needs) returns)
+    tie.close (tie.spec (λ c. search needs) (λ c. search needs) (λ c κs. search needs) (λ c. search needs) (λ c. search needs) (λ c. search needs)
+    mul-t18 mul-t19 add-t20 read-links-requires (λ c. search needs) (λ c. search needs) (λ c. search needs) (λ c. search needs) (λ c κs. search needs)
+    (λ c. search needs) put-state-requires put-links-requires put-tag-requires (λ c. search needs) returns)
