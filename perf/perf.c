@@ -411,6 +411,7 @@ int main(int argc, char **argv)
         if (dim == 2) continue;
         out_len = 14344;                      measure("write refused 12", WR, 1, 12); out_len = 14345;
         file_len--;                           measure("load refused 11 (a byte short)", LD, 1, 11); file_len++;
+        file[2049]++;                         measure("load refused 11 (last slot twice)", LD, 1, 11); file[2049]--;
         file[14344] = 255;                    measure("load of a broken map (last link)", LD, 1, 0);
                                               measure("load + check refused 7 (last link)", LC, 1, 7);
     }
