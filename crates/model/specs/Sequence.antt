@@ -103,6 +103,7 @@ pub record Event : Type 0 where
   pub call : Call
   pub outcome : Outcome
 
+-- the same after a call with its outcome
 abbrev pub knownOf : Bool → Event → Bool
 knownOf known e = knownAfter known (e .call .request) (e .outcome .answer)
 
