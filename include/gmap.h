@@ -118,11 +118,12 @@ uint64_t gmap_edit(uint32_t n, uint32_t slots, uint32_t *table, size_t table_len
  *
  * A load tests the file's form alone. Links are stored as they stand in the
  * file, also a link that is not below slots; with n = 2 a live a3 is its own
- * slot. Whether the map is well-formed, gmap_check_table says. A broken map can
- * be shown: gmap_check_table, gmap_edit (where the scheme is not refused before)
- * and gmap_write answer 7 to it, and leave the table as loaded. Following a link
- * of it may lead out of the table, so a program that follows links by itself
- * checks the table first, or tests each link before it follows it.
+ * slot. Whether the map is well-formed, gmap_check_table says. One that is not,
+ * a broken map, stays in the table and can be shown: gmap_check_table and
+ * gmap_write answer 7 to it, and so does gmap_edit, unless it refuses the scheme
+ * first (2 to 6); all of them leave the table as loaded. A link of a broken map
+ * may lead out of the table, so a program that follows links by itself checks
+ * the table first, or tests each link before it follows it.
  *
  *     uint64_t answer = gmap_load(n, slots, table, table_len, file, file_len);
  *     if (gmap_number(answer) == GMAP_DONE)

@@ -127,7 +127,7 @@ class Kernel:
                                                 *lent(ctypes.c_uint8, scheme), ctypes.c_uint32(dart)))
 
     def write(self, n, slots, table):
-        """The map file; the table must be one that `check_table` answers with 0, as `edit` leaves it."""
+        """The map file; the table must be one to which `check_table` answers 0."""
         out, length = lent(ctypes.c_uint8, bytes(self.max_file))
         answer = self.answer(self.calls.gmap_write(n, slots, table, ctypes.c_size_t(self.record * slots), out, length))
         if answer.number != 0:

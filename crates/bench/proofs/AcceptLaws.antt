@@ -29,13 +29,13 @@ module _ (n N : ℕ) (t b : List ℕ) (s : sizesOk n N t ≡ true) (f : fileForm
   unfolding loadTable loaded
   in-table = rw (s, f) refl
 
-  same-well : wellFormed n (view N (loadTable n N t b)) ≡ wellFormed n (fileMap n N b)
+  loaded-well : wellFormed n (view N (loadTable n N t b)) ≡ wellFormed n (fileMap n N b)
   unfolding fileMap
-  same-well = ap (λ (l : List ℕ). wellFormed n (view N l)) in-table ∙ words-formed n (fileMap n N b) (dimension-small n N t s)
+  loaded-well = ap (λ (l : List ℕ). wellFormed n (view N l)) in-table ∙ words-formed n (fileMap n N b) (dimension-small n N t s)
 
   check-loaded : checkTable n N (loadTable n N t b) ≡ firstOf true true (wellFormed n (fileMap n N b))
   unfolding checkTable tableFault mapFault someIf _orElse_
-  check-loaded = rw (load-slotted n N t b s .sizes, same-well) refl
+  check-loaded = rw (load-slotted n N t b s .sizes, loaded-well) refl
 
 -- a load with these tests, and c where it is done
 composed : (sizes form well : Bool) (c : Answer) → (sizes ≡ true → form ≡ true → c ≡ firstOf true true well)
@@ -55,6 +55,7 @@ module _ (b : List ℕ) where
   abbrev t : List ℕ
   t = replicate (tableSize N) 0
 
+  -- written out, to be read beside the order of the rules
   pub map-refusals : mapAnswer b ≡ Option·getD (someIf (not (sizesOk n N t)) BadCall orElse someIf (not (fileForm n N (mapBytes b))) BadFile
       orElse someIf (not (wellFormed n (fileMap n N (mapBytes b)))) BadTable) Done
   unfolding mapAnswer mapLoaded tableAfter loadAnswer loadFault loadFaultAt

@@ -101,7 +101,7 @@ pub record EditDone (n N : ℕ) (t b : List ℕ) (d : ℕ) (r : Answer) (t′ : 
   pub counted : values r ≡ counts (siteOver N t b d orbit)
   pub well : Holds n N t′
 
--- an accepted file: the kernel loads it with answer 0, and checks the table that it is then in with answer 0
+-- an accepted file: the kernel answers 0 to its load, and 0 to the check of the table that the load leaves
 pub record FileAccepted (K : Kernel) (n N : ℕ) (t b t′ : List ℕ) : Type 0 where
   pub loadAnswer : Answer
   pub loads : K .Load n N t b loadAnswer t′

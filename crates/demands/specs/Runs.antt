@@ -24,7 +24,7 @@ pub data Run (K : Kernel) (n N : ℕ) : List ℕ → List Event → Type 0 where
   next : {t : List ℕ} {e : Event} {s : List Event} → Allowed K n N t (e .call .request) (e .call .lent) (e .outcome)
       → Run K n N (e .outcome .table) s → Run K n N t (e ∷ s)
 
--- two sequences side by side, alike after every call; `known` says whether the maps are known to be well-formed before the first of them
+-- two sequences side by side, alike after every call; `known` says whether the maps are known to be well-formed before the first call
 pub data AlikeFrom (n N : ℕ) : Bool → List Event → List Event → Type 0 where
   alikeEnd : {known : Bool} → AlikeFrom n N known [] []
   alikeNext : {known : Bool} {e e′ : Event} {s s′ : List Event} → AlikeEvents n N (knownOf known e) e e′ → AlikeFrom n N (knownOf known e) s s′

@@ -39,9 +39,9 @@ module _ (n : ℕ) (m : Map) (h : n < 256) (few : m .slots ≤ maxSlots) where
   small : liveDarts m < 65536
   small = omega (arith, few-live n m _ refl)
 
-  darts-read : numberAt 2 b 3 ≡ liveDarts m
+  darts-loaded : numberAt 2 b 3 ≡ liveDarts m
   unfolding start
-  darts-read = count-back n m h Slots small
+  darts-loaded = count-back n m h Slots small
 
   -- the k-th dart of the file is the k-th live one
   dart-at : (k : ℕ) → k < liveDarts m → (x : ℕ) × (x < m .slots) × (live m x ≡ true) × (countBelow x (live m) ≡ k) × (slotOf b k ≡ x)
@@ -75,27 +75,27 @@ module _ (n : ℕ) (m : Map) (h : n < 256) (few : m .slots ≤ maxSlots) where
       let e = head-back n m h (omega arith) in
       let tags = count-back n m h Tags small in
       let links = count-back n m h Links small in
-      form-is n (m .slots) b ∙ rw darts-read (and-of
+      form-is n (m .slots) b ∙ rw darts-loaded (and-of
       (and-of (and-of (and-of (eq-eqb _ _ (e .0)) (eq-eqb _ _ (e .1))) (and-of (eq-eqb _ _ tags) (eq-eqb _ _ links))) (eq-eqb _ _ (length-file n m h)))
       (all-of (liveDarts m) _ (λ k l. let d = dart-at k l in and-of
       (lt-ltb (slotOf b k) (m .slots) (rw (d .4) (d .1))) (all-of k _ (λ o g. lt-ltb (slotOf b o) (slotOf b k) (ordered o k g l))))))
 
   place-live : (x : ℕ) → x < m .slots → m .state x ≡ 1 → placeOf b x ≡ some (countBelow x (live m))
   unfolding liveDarts
-  place-live x g e = sym (place-is b x) ∙ rw darts-read
+  place-live x g e = sym (place-is b x) ∙ rw darts-loaded
       (least-only (liveDarts m) _ (countBelow x (live m)) (count-lt (live m) x (m .slots) g (eq-eqb _ _ e)) (eq-eqb _ _ (slot-back n m h x g e (omega arith)))
       (λ j l t. let d = dart-at j l in sym (d .3) ∙ ap (λ (y : ℕ). countBelow y (live m)) (sym (d .4) ∙ eqb-true _ _ t)))
 
   place-unused : (x : ℕ) → live m x ≡ false → placeOf b x ≡ none
-  place-unused x e = sym (place-is b x) ∙ rw darts-read (least-none-of (liveDarts m) _ (λ k l.
+  place-unused x e = sym (place-is b x) ∙ rw darts-loaded (least-none-of (liveDarts m) _ (λ k l.
       let d = dart-at k l in
       ne-eqb (slotOf b k) x (λ q. true≢false (sym (d .2) ∙ ap (live m) (sym (d .4) ∙ q) ∙ e))))
 
   module _ (d : (n ≡ 2) ⊎ (n ≡ 3)) (w : WellFormed n m) (tags : (x : ℕ) → x < m .slots → m .state x ≡ 1 → m .tag x < 4294967296) where
-    link-read : (x : ℕ) → x < m .slots → m .state x ≡ 1 → (i : ℕ) → i ≤ 3
+    link-loaded : (x : ℕ) → x < m .slots → m .state x ≡ 1 → (i : ℕ) → i ≤ 3
         → linkWord n b (linkPlace n b (countBelow x (live m))) (slotOf b (countBelow x (live m))) i ≡ m .link i x
     unfolding linkWord linkPlace
-    link-read x g e i l = rw darts-read (⊎-elim
+    link-loaded x g e i l = rw darts-loaded (⊎-elim
         (λ (t : leb i n ≡ true). let k = leb-true i n t in
         rw t (link-back n m h x g e i k (omega (arith, w .below x g e i k))))
         (λ (t : leb i n ≡ false). let two : n ≡ 2 = omega (arith, leb-false i n t, two-le d) in
@@ -106,8 +106,8 @@ module _ (n : ℕ) (m : Map) (h : n < 256) (few : m .slots ≤ maxSlots) where
     live-record : (x : ℕ) → x < m .slots → m .state x ≡ 1 → (f : Field) → dimension f ≤ 3 → rowOf n b (countBelow x (live m)) f ≡ fieldOf m f x
     unfolding rowOf tagPlace
     live-record x g e State l = sym e
-    live-record x g e (Link i) l = link-read x g e i l
-    live-record x g e Tag l = ap (λ (L : ℕ). numberAt 4 b (7 + 2 * L + 4 * countBelow x (live m))) darts-read ∙ tag-back n m h x g e (tags x g e)
+    live-record x g e (Link i) l = link-loaded x g e i l
+    live-record x g e Tag l = ap (λ (L : ℕ). numberAt 4 b (7 + 2 * L + 4 * countBelow x (live m))) darts-loaded ∙ tag-back n m h x g e (tags x g e)
 
     -- written and loaded again, a map has its live records, and zeros in all others
     pub load-back : (f : Field) (x : ℕ) → dimension f ≤ 3 → x < m .slots → fieldOf (fileMap n (m .slots) b) f x ≡ cond (live m x) (fieldOf m f x) 0

@@ -1,5 +1,5 @@
 -- Demand 3: "Take two well-formed maps of one dimension and slot count, with the same live slots and equal live records; unused records and working
--- stores may hold anything. Give both the same sequence of edits, checks, loads and writes at that dimension and slot count, with equal other arguments
+-- stores may hold anything. Give both the same sequence of edits, checks, [loads] and writes at that dimension and slot count, with equal other arguments
 -- and lent buffers of equal length." After every call both have the same live slots and equal live records, and answers and written files are equal;
 -- both are well-formed "from the start and from each table check that answers 0 until the next load".
 -- The definitions below say this in its order for one call; `AlikeRuns` of crates/demands/specs/Runs.antt says it of sequences of any kernel's calls.
@@ -103,7 +103,7 @@ pub record Event : Type 0 where
   pub call : Call
   pub outcome : Outcome
 
--- the same after a call with its outcome
+-- whether they are known to be well-formed after an event, where `known` says it of before
 abbrev pub knownOf : Bool → Event → Bool
 knownOf known e = knownAfter known (e .call .request) (e .outcome .answer)
 
