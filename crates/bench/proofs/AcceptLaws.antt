@@ -8,15 +8,15 @@ use mathlib.Core.List.{List}
 use lib.ListN.{replicate}
 use lib.Dec.{eqb}
 use Rattle.base.specs.First.{someIf, _orElse_}
-use Rattle.model.specs.Map.{tableSize, view, tableOf}
+use Rattle.model.specs.Map.{tableSize, view}
 use Rattle.model.specs.WellFormed.{wellFormed}
 use Rattle.model.specs.File.{fileForm, fileMap}
 use Rattle.model.specs.Answer.{number}
-use Rattle.model.specs.Calls.{sizesOk, mapFault, tableFault, checkTable, loadFaultAt, loadFault, loadAnswer, loaded, loadTable}
+use Rattle.model.specs.Calls.{sizesOk, mapFault, tableFault, checkTable, loadFaultAt, loadFault, loadAnswer, loadTable}
 use Rattle.model.specs.declared.Answer.{Answer}
 use Rattle.model.specs.declared.Answer.the-variants.{Done, BadCall, BadTable, BadFile}
 use Rattle.model.proofs.AlikeLaws.{words-formed}
-use Rattle.model.proofs.HoldsLaws.{dimension-small, load-slotted}
+use Rattle.model.proofs.HoldsLaws.{dimension-small, load-table, load-slotted}
 use Rattle.bench.specs.Bench.{mapBytes, mapDimension, mapSlots, mapLoaded, mapAnswer, tableAfter}
 
 -- the first of three refusals
@@ -25,13 +25,9 @@ firstOf sizes form well = Option·getD (someIf (not sizes) BadCall orElse someIf
 
 -- a check that follows a load, where the sizes are right and the file is in the form
 module _ (n N : ℕ) (t b : List ℕ) (s : sizesOk n N t ≡ true) (f : fileForm n N b ≡ true) where
-  in-table : loadTable n N t b ≡ tableOf (fileMap n N b)
-  unfolding loadTable loaded
-  in-table = rw (s, f) refl
-
   loaded-well : wellFormed n (view N (loadTable n N t b)) ≡ wellFormed n (fileMap n N b)
   unfolding fileMap
-  loaded-well = ap (λ (l : List ℕ). wellFormed n (view N l)) in-table ∙ words-formed n (fileMap n N b) (dimension-small n N t s)
+  loaded-well = ap (λ (l : List ℕ). wellFormed n (view N l)) (load-table n N t b s f) ∙ words-formed n (fileMap n N b) (dimension-small n N t s)
 
   check-loaded : checkTable n N (loadTable n N t b) ≡ firstOf true true (wellFormed n (fileMap n N b))
   unfolding checkTable tableFault mapFault someIf _orElse_

@@ -3,9 +3,9 @@
 use Prim.Native.Nat.{ℕ}
 use mathlib.Core.Path.{_≡_, refl, sym, ap, _∙_, subst}
 use mathlib.Core.Logic.{_↔_}
-use mathlib.Core.Bool.{Bool, true}
+use mathlib.Core.Bool.{true}
 use mathlib.Core.Option.{Option, none, Option·getD}
-use mathlib.Core.List.{List, Forall₂, Forall₂·nil, Forall₂·cons}
+use mathlib.Core.List.{List}
 use native.Mathlib.Omega.{arith}
 use Rattle.base.specs.First.{someIf, _orElse_}
 use Rattle.base.proofs.FirstLaws.{or-else-none}
@@ -13,22 +13,22 @@ use Rattle.model.specs.Scheme.{inForm, schemeOf}
 use Rattle.model.specs.Accepted.{Accepted}
 use Rattle.model.specs.Answer.{number, values, Answers}
 use Rattle.model.specs.Calls.{bytesFault, checkScheme}
-use Rattle.model.specs.Sequence.{AlikeTables, Request, tableCheck, schemeCheck, edit, load, write, SameCall, Outcome, outcomeOf, outcome, Event}
-use Rattle.model.specs.Sequence.{BothHold, knownOf, AlikeEvents}
+use Rattle.model.specs.Sequence.{Request, tableCheck, schemeCheck, edit, load, write, Outcome, outcomeOf, outcome, Event, knownOf, AlikeEvents}
 use Rattle.model.specs.declared.Answer.{Answer}
 use Rattle.model.specs.declared.Answer.the-variants.{Done}
 use Rattle.model.proofs.AnswerLaws.{answers-same}
 use Rattle.model.proofs.SchemeLaws.{shaped}
 use Rattle.model.proofs.AcceptedLaws.{accepted-iff}
 use Rattle.model.proofs.CallLaws.{passed}
-use Rattle.model.proofs.SequenceLaws.{alike-tables, eventOf, call-alike}
+use Rattle.model.proofs.SequenceLaws.{eventOf, call-alike}
 use Rattle.demands.specs.Refusals.{Refusal, FirstOf}
 use Rattle.demands.specs.Ours.{ours}
-use Rattle.demands.specs.Runs.{Allowed, Run, end, next, AlikeFrom, alikeEnd, alikeNext}
+use Rattle.demands.specs.Runs.{Allowed}
 use Rattle.demands.specs.Demands.{Demand1, Demand2, Demand3}
 use Rattle.demands.proofs.OrderLaws.{table-order, scheme-order, edit-order, load-order, write-order}
 use Rattle.demands.proofs.RefusalLaws.{done-none, bytes-within, refused-edit, edit-one, edit-others, load-one, load-eleven, refused-write}
 use Rattle.demands.proofs.AdmitLaws.{no-match, nine-is, free-applicable, edit-done}
+use Rattle.demands.proofs.RunLaws.{AlikeCall, alike-runs}
 use Rattle.demands.proofs.FileDemandLaws.{load-filed, write-done, written-loaded, accepted-written}
 
 -- ---- demand 1
@@ -98,9 +98,7 @@ outcome-is n N t (load b) l o p = λ i. record { answer = answers-same (p .0 .an
 outcome-is n N t write l o p = λ i. record { answer = answers-same (p .0 .answer) i; table = p .1 i; lent = p .0 .output i }
 
 -- so one call of alike maps leaves alike maps
-event-alike : (n N : ℕ) (t t′ : List ℕ) → AlikeTables n N t t′ → (known : Bool) → (known ≡ true → BothHold n N t t′) → (e e′ : Event)
-    → SameCall (e .call) (e′ .call) → Allowed ours n N t (e .call .request) (e .call .lent) (e .outcome)
-    → Allowed ours n N t′ (e′ .call .request) (e′ .call .lent) (e′ .outcome) → AlikeEvents n N (knownOf known e) e e′
+event-alike : AlikeCall ours
 unfolding outcome
 event-alike n N t t′ a known k e e′ same p p′ =
     let is : e .outcome ≡ outcome n N t (e .call) = outcome-is n N t (e .call .request) (e .call .lent) (e .outcome) p in
@@ -109,13 +107,5 @@ event-alike n N t t′ a known k e e′ same p p′ =
     (subst (λ (o : Outcome). AlikeEvents n N (knownOf known (eventOf n N t (e .call))) (eventOf n N t (e .call)) (record { call = e′ .call; outcome = o }))
     (sym is′) (call-alike n N t t′ a known k (e .call) (e′ .call) same))
 
--- from alike maps on, well-formed where they are known to be
-alike-from : (n N : ℕ) (t t′ : List ℕ) → AlikeTables n N t t′ → (known : Bool) → (known ≡ true → BothHold n N t t′) → (s s′ : List Event)
-    → Run ours n N t s → Run ours n N t′ s′ → Forall₂ (λ e e′. SameCall (e .call) (e′ .call)) s s′ → AlikeFrom n N known s s′
-alike-from n N t t′ a known k s s′ end end Forall₂·nil = alikeEnd
-alike-from n N t t′ a known k s s′ (next {e = e} {s = r} p q) (next {e = e′} {s = r′} p′ q′) (Forall₂·cons same rest) =
-    let now : AlikeEvents n N (knownOf known e) e e′ = event-alike n N t t′ a known k e e′ same p p′ in
-    alikeNext now (alike-from n N _ _ (now .tables) (knownOf known e) (now .well) r r′ q q′ rest)
-
 pub demand3 : Demand3 ours
-demand3 = record { edits = demand2; throughout = λ n N t t′ h a. alike-from n N t t′ (alike-tables n N t t′ h a) true (λ e. h) }
+demand3 = record { edits = demand2; throughout = alike-runs ours event-alike }

@@ -5,5 +5,6 @@ pub mod AdmitLaws
 pub mod FileDemandLaws
 pub mod OneOutcome
 pub mod RefineLaws
+pub mod RunLaws
 pub mod Demands
 pub mod WrongKernels

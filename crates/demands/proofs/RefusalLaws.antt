@@ -19,6 +19,7 @@ use Rattle.model.specs.Site.{Site}
 use Rattle.model.specs.Calls.{zeros, sizesOk, mapFault, tableFault, bytesFault, fitFault, siteFault, siteOf, storedOk}
 use Rattle.model.specs.Calls.{siteDone, editFaultAt, editFault, editAnswer, editTable, editStore}
 use Rattle.model.specs.Calls.{loadFaultAt, loadFault, loadAnswer, loaded, loadTable, writeFaultAt, writeFault, writeAnswer, writeOut}
+use Rattle.model.proofs.HoldsLaws.{load-table}
 use Rattle.model.specs.declared.Scheme.{Scheme}
 use Rattle.model.specs.declared.Answer.{Answer}
 use Rattle.model.specs.declared.Answer.the-variants.{Done, BadCall, BadForm, BadHook, BadIncidence, BadFile}
@@ -162,20 +163,13 @@ load-tests true false = ((λ e. (refl, refl)), (λ e. absurd (omega arith)))
 load-tests true true = ((λ e. absurd (omega arith)), (λ e. (refl, refl)))
 
 module _ (n N : ℕ) (t b : List ℕ) where
-  loadRest : Option Answer
-  loadRest = someIf (not (fileForm n N b)) BadFile
-
-  load-rest : Within 2 11 loadRest
-  unfolding loadRest
-  load-rest = within-test 2 11 _ _ (omega arith) (omega arith)
-
   pub load-within : Within 1 11 (loadFault n N t b)
-  unfolding loadFault loadFaultAt loadRest
-  load-within = within-or 1 11 _ _ (within-test 1 11 _ _ (omega arith) (omega arith)) (within-more 2 11 (omega arith) (omega arith) load-rest)
+  unfolding loadFault loadFaultAt
+  load-within = within-or 1 11 _ _ (within-test 1 11 _ _ (omega arith) (omega arith)) (within-test 1 11 _ _ (omega arith) (omega arith))
 
   pub load-one : number (loadAnswer n N t b) ≡ 1 → loadTable n N t b ≡ t
-  unfolding loadAnswer loadTable loadFault loadFaultAt loadRest
-  load-one e = cond-false (sizesOk n N t) _ t (one-wrong (sizesOk n N t) loadRest _ 11 load-rest refl e)
+  unfolding loadAnswer loadTable loadFault loadFaultAt
+  load-one e = cond-false (sizesOk n N t) _ t (one-wrong (sizesOk n N t) _ _ 11 (within-test 2 11 (not (fileForm n N b)) BadFile (omega arith) (omega arith)) refl e)
 
   pub load-eleven : number (loadAnswer n N t b) ≡ 11 → loadTable n N t b ≡ zeros t
   unfolding loadAnswer loadTable loaded loadFault loadFaultAt
@@ -183,8 +177,8 @@ module _ (n N : ℕ) (t b : List ℕ) where
 
   -- a load that is done has found the sizes right and the file in the form, and leaves the map of the file
   pub load-done : number (loadAnswer n N t b) ≡ 0 → (sizesOk n N t ≡ true) × (fileForm n N b ≡ true) × (loadTable n N t b ≡ tableOf (fileMap n N b))
-  unfolding loadAnswer loadTable loaded loadFault loadFaultAt
-  load-done e = let r = load-tests (sizesOk n N t) (fileForm n N b) .1 e in (r .0, r .1, rw (r .0, r .1) refl)
+  unfolding loadAnswer loadFault loadFaultAt
+  load-done e = let r = load-tests (sizesOk n N t) (fileForm n N b) .1 e in (r .0, r .1, load-table n N t b (r .0) (r .1))
 
 -- ---- a table check and a write
 

@@ -6,7 +6,7 @@ use Prim.Native.Nat.{ℕ, zero, suc, _<_}
 use mathlib.Core.Path.{_≡_, refl, sym, ap, _∙_, subst}
 use mathlib.Core.Logic.{inl, inr}
 use mathlib.Core.Bool.{Bool, true, cond, true≢false}
-use mathlib.Core.List.{List, [], _++_, Forall₂, Forall₂·nil, Forall₂·cons}
+use mathlib.Core.List.{List, [], _++_}
 use native.Mathlib.Omega.{arith}
 use lib.ListN.{getD, take}
 use lib.Dec.{eqb}
@@ -18,19 +18,18 @@ use Rattle.model.specs.Edit.{edited}
 use Rattle.model.specs.Answer.{number, values}
 use Rattle.model.specs.File.{darts, slotAt}
 use Rattle.model.specs.Calls.{checkTable, editFault, editAnswer, editTable, editStore, loadAnswer, loadTable}
-use Rattle.model.specs.Sequence.{AlikeTables, BothHold, Request, tableCheck, schemeCheck, edit, load, write, SameCall, Outcome, fileOf, knownAfter}
-use Rattle.model.specs.Sequence.{Event, knownOf, AlikeEvents}
+use Rattle.model.specs.Sequence.{Request, tableCheck, schemeCheck, edit, load, write, Outcome, fileOf, knownAfter}
 use Rattle.model.specs.declared.Answer.{Answer}
 use Rattle.model.specs.declared.Answer.the-variants.{Done, Edited, BadCall, BadTable}
 use Rattle.model.proofs.Computes.{computes}
 use Rattle.model.proofs.Samples.{e8, unusedSlots, vBytes, wBytes, store8, vDarts, eFile, brokenFile}
-use Rattle.model.proofs.SequenceLaws.{alike-tables}
 use Rattle.demands.specs.Kernel.{Kernel}
 use Rattle.demands.specs.Ours.{ours}
-use Rattle.demands.specs.Runs.{Allowed, Run, end, next, AlikeFrom, alikeEnd, alikeNext, AlikeRuns}
+use Rattle.demands.specs.Runs.{Allowed, AlikeRuns}
 use Rattle.demands.specs.Refusals.{FirstOf, Nothing, loadRefusals, siteOver}
 use Rattle.demands.specs.Demands.{Demand1, Demand2, Demand3, Applicable}
 use Rattle.demands.proofs.AdmitLaws.{free-applicable, done-is}
+use Rattle.demands.proofs.RunLaws.{AlikeCall, alike-runs}
 
 -- ---- the kernels
 
@@ -231,22 +230,19 @@ no-more-known known (edit b d) a e k = k
 no-more-known known (load b) a e k = absurd (true≢false (sym k))
 no-more-known known write a e k = k
 
-constant-from : (n N : ℕ) (t t′ : List ℕ) → AlikeTables n N t t′ → (known : Bool) → (known ≡ true → BothHold n N t t′) → (s s′ : List Event)
-    → Run refusing n N t s → Run refusing n N t′ s′ → Forall₂ (λ e e′. SameCall (e .call) (e′ .call)) s s′ → AlikeFrom n N known s s′
-constant-from n N t t′ a known k s s′ end end Forall₂·nil = alikeEnd
-constant-from n N t t′ a known k s s′ (next {e = e} {s = r} p q) (next {e = e′} {s = r′} p′ q′) (Forall₂·cons same rest) =
+constant-call : AlikeCall refusing
+constant-call n N t t′ a known k e e′ same p p′ =
     let one = left-alone n N t (e .call .request) (e .call .lent) (e .outcome) p in
     let other = left-alone n N t′ (e′ .call .request) (e′ .call .lent) (e′ .outcome) p′ in
-    let now : AlikeEvents n N (knownOf known e) e e′ = record {
+    record {
       tables = rw (one .1, other .1) a;
       answers = one .0 ∙ sym (other .0);
       files = no-file (e .call .request) (e .outcome) (one .0) ∙ sym (no-file (e′ .call .request) (e′ .outcome) (other .0));
       well = λ h. rw (one .1, other .1) (k (no-more-known known (e .call .request) (e .outcome .answer) (one .0) h));
-    } in
-    alikeNext now (constant-from n N _ _ (now .tables) (knownOf known e) (now .well) r r′ q q′ rest)
+    }
 
 pub constant-alike : AlikeRuns refusing
-constant-alike n N t t′ h a = constant-from n N t t′ (alike-tables n N t t′ h a) true (λ e. h)
+constant-alike = alike-runs refusing constant-call
 
 -- .. and yet it does not carry the demand, which speaks of demand 2's edits
 pub constant-falls : Demand3 refusing → ⊥

@@ -1,4 +1,4 @@
--- Refusals 1 and 7, test by test.
+-- A table check: refusal 1, and done. Refusal 7 is `broken-check` of the model.
 -- Assumes nothing.
 use Prim.Native.Nat.{ℕ}
 use mathlib.Core.Path.{_≡_}
@@ -9,9 +9,10 @@ use Rattle.base.specs.First.{someIf, _orElse_}
 use Rattle.model.specs.Map.{view}
 use Rattle.model.specs.WellFormed.{wellFormed}
 use Rattle.model.specs.Calls.{sizesOk, mapFault, tableFault, checkTable}
-use Rattle.model.specs.declared.Answer.the-variants.{Done, BadCall, BadTable}
+use Rattle.model.specs.declared.Answer.the-variants.{Done, BadCall}
 use Rattle.base.proofs.TestLaws.{true-or-false}
 use Rattle.model.proofs.SizeLaws.{sizes-iff}
+use Rattle.model.proofs.BrokenLaws.{broken-check}
 use Rattle.table.specs.Words.{Sized}
 use Rattle.word.specs.Word.{Small}
 
@@ -23,16 +24,12 @@ module _ (n N : ℕ) (t : List ℕ) where
   unfolding checkTable tableFault mapFault someIf _orElse_
   is-1 e = rw e
 
-  pub is-7 : sizesOk n N t ≡ true → wellFormed n (view N t) ≡ false → BadTable ≡ checkTable n N t
-  unfolding checkTable tableFault mapFault someIf _orElse_
-  is-7 e w = rw (e, w)
-
   pub is-0 : sizesOk n N t ≡ true → wellFormed n (view N t) ≡ true → Done ≡ checkTable n N t
   unfolding checkTable tableFault mapFault someIf _orElse_
   is-0 e w = rw (e, w)
 
   pub check-small : Small (checkTable n N t)
   check-small = ⊎-elim
-      (λ e. ⊎-elim (λ w. rw (← is-0 e w) tt) (λ w. rw (← is-7 e w) tt) (true-or-false (wellFormed n (view N t))))
+      (λ e. ⊎-elim (λ w. rw (← is-0 e w) tt) (λ w. rw (broken-check n N t w e) tt) (true-or-false (wellFormed n (view N t))))
       (λ e. rw (← is-1 e) tt)
       (true-or-false (sizesOk n N t))

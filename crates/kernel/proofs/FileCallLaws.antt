@@ -3,7 +3,7 @@
 use Prim.Native.Nat.{ℕ, _+_, _*_, _≤_, _<_}
 use mathlib.Core.Path.{_≡_, refl, sym, ap, _∙_}
 use mathlib.Core.Logic.{_⊎_, ⊎-elim}
-use mathlib.Core.Bool.{Bool, true, false, not}
+use mathlib.Core.Bool.{Bool, true, false, not, cond}
 use mathlib.Core.Option.{Option·getD}
 use mathlib.Core.List.{List, _++_}
 use native.Mathlib.Nat.{mul-le-mul}
@@ -12,6 +12,7 @@ use lib.ListN.{length, drop}
 use lib.Dec.{ltb}
 use borrow.Author.Tests.{lt-ltb, le-ltb}
 use Rattle.model.proofs.AnswerLaws.{answers-of}
+use Rattle.model.proofs.BrokenLaws.{broken-write}
 use Rattle.model.specs.declared.Answer.{Answer}
 use Rattle.demands.specs.Promises.{FileLoaded, FileWritten}
 use Rattle.base.specs.Below.{countBelow}
@@ -37,14 +38,15 @@ module _ (n N : ℕ) (t b : List ℕ) where
   unfolding loadAnswer loadTable loadFault loadFaultAt someIf _orElse_
   load-1 e = (rw e refl, rw e refl)
 
-  module _ (s : sizesOk n N t ≡ true) (t' : List ℕ) where
-    pub load-11 : fileForm n N b ≡ false → t' ≡ loaded n N t b → (BadFile ≡ loadAnswer n N t b) × (t' ≡ loadTable n N t b)
-    unfolding loadAnswer loadTable loadFault loadFaultAt someIf _orElse_
-    load-11 f e = (rw (s, f) refl, e ∙ rw s refl)
-
-    pub load-0 : fileForm n N b ≡ true → t' ≡ loaded n N t b → (Done ≡ loadAnswer n N t b) × (t' ≡ loadTable n N t b)
-    unfolding loadAnswer loadTable loadFault loadFaultAt someIf _orElse_
-    load-0 f e = (rw (s, f) refl, e ∙ rw s refl)
+  -- 11 where f, whether the file is in the form, is false, and 0 where it is true
+  pub load-sized : sizesOk n N t ≡ true → (f : Bool) → fileForm n N b ≡ f → (t' : List ℕ) → t' ≡ loaded n N t b
+      → (cond f Done BadFile ≡ loadAnswer n N t b) × (t' ≡ loadTable n N t b)
+  unfolding loadAnswer loadTable loadFault loadFaultAt someIf _orElse_
+  load-sized s f q t' e = (rw (s, q) (answer f), e ∙ rw s refl)
+    where
+      answer : (f : Bool) → cond f Done BadFile ≡ Option·getD (someIf (not f) BadFile) Done
+      answer true = refl
+      answer false = refl
 
   pub load-small : Small (loadAnswer n N t b)
   unfolding loadAnswer loadFault loadFaultAt someIf _orElse_
@@ -64,8 +66,7 @@ module _ (n N : ℕ) (t out : List ℕ) where
 
   module _ (s : sizesOk n N t ≡ true) where
     pub write-7 : wellFormed n (view N t) ≡ false → (BadTable ≡ writeAnswer n N t out) × (out ≡ writeOut n N t out)
-    unfolding writeAnswer writeOut writeFault writeFaultAt tableFault mapFault someIf _orElse_ there
-    write-7 w = (rw (s, w) refl, rw (s, w) refl)
+    write-7 w = let b = broken-write n N t w s out in (sym (b .0), sym (b .1))
 
     module _ (k : ℕ) (e : k ≡ countBelow N (live (view N t))) where
       -- so the length of the file can be asked for

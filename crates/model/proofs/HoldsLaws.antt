@@ -124,7 +124,7 @@ module _ (n N : ℕ) (t store b : List ℕ) (d : ℕ) (s : sizesOk n N t ≡ tru
   unfolding editStore _and_
   store-kept ne = rw (s, ne-eqb (length store) (16 * N) ne) refl
 
--- every slot of a loaded table is live or unused, whatever the file
+-- a load whose sizes are right: every slot is live or unused afterwards, whatever the file
 module _ (n N : ℕ) (t b : List ℕ) (s : sizesOk n N t ≡ true) where
   filed-slotted : Slotted n N (tableOf (fileMap n N b))
   unfolding fileMap
@@ -134,6 +134,11 @@ module _ (n N : ℕ) (t b : List ℕ) (s : sizesOk n N t ≡ true) where
         let same = field-words (fileMap n N b) x h State (omega arith) in
         ⊎-elim (λ e. inr (same ∙ ap bit e)) (λ e. inl (same ∙ ap bit e)) (true-or-false (there (placeOf b x)));
   }
+
+  -- a file in the form leaves its map
+  pub load-table : fileForm n N b ≡ true → loadTable n N t b ≡ tableOf (fileMap n N b)
+  unfolding loadTable loaded
+  load-table f = rw (s, f) refl
 
   pub load-slotted : Slotted n N (loadTable n N t b)
   unfolding loadTable loaded
