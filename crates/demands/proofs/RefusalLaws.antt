@@ -169,7 +169,8 @@ module _ (n N : ℕ) (t b : List ℕ) where
 
   pub load-one : number (loadAnswer n N t b) ≡ 1 → loadTable n N t b ≡ t
   unfolding loadAnswer loadTable loadFault loadFaultAt
-  load-one e = cond-false (sizesOk n N t) _ t (one-wrong (sizesOk n N t) _ _ 11 (within-test 2 11 (not (fileForm n N b)) BadFile (omega arith) (omega arith)) refl e)
+  load-one e = cond-false (sizesOk n N t) _ t
+      (one-wrong (sizesOk n N t) _ _ 11 (within-test 2 11 (not (fileForm n N b)) BadFile (omega arith) (omega arith)) refl e)
 
   pub load-eleven : number (loadAnswer n N t b) ≡ 11 → loadTable n N t b ≡ zeros t
   unfolding loadAnswer loadTable loaded loadFault loadFaultAt

@@ -48,35 +48,30 @@ refusing = record {
   writes = λ n N t out. (BadCall, out, (refl, refl));
 }
 
--- ours, but for what an edit answers and how it leaves the table
-abbrev pub editing : (answer : ℕ → ℕ → List ℕ → List ℕ → List ℕ → ℕ → Answer) (table : ℕ → ℕ → List ℕ → List ℕ → List ℕ → ℕ → List ℕ) → Kernel
-editing answer table = record {
-  TableCheck = ours .TableCheck;
-  SchemeCheck = ours .SchemeCheck;
-  Edit = λ n N t store b d r t′ store′. (r ≡ answer n N t store b d) × (t′ ≡ table n N t store b d) × (store′ ≡ editStore n N t store b d);
-  Load = ours .Load;
-  Write = ours .Write;
-  checksTable = ours .checksTable;
-  checksScheme = ours .checksScheme;
-  edits = λ n N t store b d. (answer n N t store b d, table n N t store b d, editStore n N t store b d, (refl, refl, refl));
-  loads = ours .loads;
-  writes = ours .writes;
-}
+-- ours, but for what edits and loads answer and how they leave the table
+module _ (answer : ℕ → ℕ → List ℕ → List ℕ → List ℕ → ℕ → Answer) (table : ℕ → ℕ → List ℕ → List ℕ → List ℕ → ℕ → List ℕ)
+    (loadsAs : ℕ → ℕ → List ℕ → List ℕ → Answer) (leaves : ℕ → ℕ → List ℕ → List ℕ → List ℕ) where
+  abbrev pub changed : Kernel
+  changed = record {
+    TableCheck = ours .TableCheck;
+    SchemeCheck = ours .SchemeCheck;
+    Edit = λ n N t store b d r t′ store′. (r ≡ answer n N t store b d) × (t′ ≡ table n N t store b d) × (store′ ≡ editStore n N t store b d);
+    Load = λ n N t b r t′. (r ≡ loadsAs n N t b) × (t′ ≡ leaves n N t b);
+    Write = ours .Write;
+    checksTable = ours .checksTable;
+    checksScheme = ours .checksScheme;
+    edits = λ n N t store b d. (answer n N t store b d, table n N t store b d, editStore n N t store b d, (refl, refl, refl));
+    loads = λ n N t b. (loadsAs n N t b, leaves n N t b, (refl, refl));
+    writes = ours .writes;
+  }
 
--- ours, but for what a load answers and how it leaves the table
+-- but for edits alone
+abbrev pub editing : (answer : ℕ → ℕ → List ℕ → List ℕ → List ℕ → ℕ → Answer) (table : ℕ → ℕ → List ℕ → List ℕ → List ℕ → ℕ → List ℕ) → Kernel
+editing answer table = changed answer table loadAnswer loadTable
+
+-- but for loads alone
 abbrev pub loading : (answer : ℕ → ℕ → List ℕ → List ℕ → Answer) (table : ℕ → ℕ → List ℕ → List ℕ → List ℕ) → Kernel
-loading answer table = record {
-  TableCheck = ours .TableCheck;
-  SchemeCheck = ours .SchemeCheck;
-  Edit = ours .Edit;
-  Load = λ n N t b r t′. (r ≡ answer n N t b) × (t′ ≡ table n N t b);
-  Write = ours .Write;
-  checksTable = ours .checksTable;
-  checksScheme = ours .checksScheme;
-  edits = ours .edits;
-  loads = λ n N t b. (answer n N t b, table n N t b, (refl, refl));
-  writes = ours .writes;
-}
+loading answer table = changed editAnswer editTable answer table
 
 -- every edit answers with the counts of P8
 abbrev pub fixed : Kernel
