@@ -32,10 +32,10 @@
 extern "C" {
 #endif
 
-/* The version of this interface, 100 times its first number and its second: 2.0.
+/* The version of this interface, 100 times its first number and its second: 2.1.
  * The second grows where something is added; the first where a program that was
  * written for the version before must be looked at again. */
-#define GMAP_VERSION 200
+#define GMAP_VERSION 201
 
 /* ---- limits and sizes */
 
@@ -43,7 +43,7 @@ enum {
     GMAP_MAX_SLOTS = 1024,   /* slots of a table: 1 to this */
     GMAP_RECORD = 6,         /* words of a table for each slot */
     GMAP_STORE = 16,         /* words of a working store for each slot */
-    GMAP_MAX_SCHEME = 537,   /* bytes of the longest scheme in the form */
+    GMAP_MAX_SCHEME = 538,   /* bytes of the longest scheme in the form */
     GMAP_MAX_FILE = 14345,   /* bytes of the longest map file */
     GMAP_STACK = 8192        /* bytes of stack that a call needs at most */
 };
@@ -61,14 +61,14 @@ enum {
 enum {
     GMAP_DONE = 0,
     GMAP_BAD_CALL = 1,         /* n, slots or the length of table or store */
-    GMAP_BAD_FORM = 2,         /* scheme: bytes not in the form */
-    GMAP_BAD_HOOK = 3,         /* scheme: gmap_node is 0, or the least node not reached from 0 */
+    GMAP_BAD_FORM = 2,         /* scheme: bytes not in the form, or more or fewer hooks than darts */
+    GMAP_BAD_HOOK = 3,         /* scheme: gmap_node is a hook, or the least node not reached from one */
     GMAP_BAD_INCIDENCE = 4,    /* scheme: arcs at gmap_node */
     GMAP_BAD_CYCLE = 5,        /* scheme: cycle of gmap_i and gmap_j at gmap_node */
     GMAP_OTHER_DIMENSION = 6,  /* scheme: made for another n than the table's */
     GMAP_BAD_TABLE = 7,        /* table not well-formed */
-    GMAP_NO_DART = 8,          /* dart not below slots, or not live */
-    GMAP_NO_MATCH = 9,         /* the scheme's left side is not there at the dart */
+    GMAP_NO_DART = 8,          /* a dart not below slots, or not live */
+    GMAP_NO_MATCH = 9,         /* the scheme's left side is not there at the dart or darts */
     GMAP_NO_ROOM = 10,         /* too few unused slots before the edit */
     GMAP_BAD_FILE = 11,        /* file not in its form, or not of this n and slots */
     GMAP_SHORT_OUTPUT = 12     /* output shorter than the file */
@@ -85,12 +85,14 @@ enum {
 uint64_t gmap_check_table(uint32_t n, uint32_t slots, const uint32_t *table, size_t table_len);
 
 /* Is the scheme in the form and accepted?
- * Answers 0, 2, 3, 4, 5. Writes nothing. */
+ * Answers 0, 2, 3, 4, 5. Writes nothing.
+ * A scheme has one hook, which is node 0, or names a second one. Its first byte
+ * says which: n, for gmap_edit, or n + 32, for gmap_edit2. */
 uint64_t gmap_check_scheme(const uint8_t *scheme, size_t scheme_len);
 
-/* Applies the scheme to the table at a dart.
- * Answers 0, 1, 2, 3, 4, 5, 6, 7, 8, 9, 10; done carries gmap_orbit, gmap_added
- * and gmap_deleted.
+/* Applies a scheme with one hook to the table at a dart.
+ * Answers 0, 1, 2, 3, 4, 5, 6, 7, 8, 9, 10; 2 also for a scheme with two hooks.
+ * Done carries gmap_orbit, gmap_added and gmap_deleted.
  * table: the edited map after 0, which is well-formed again; unchanged after any
  * refusal. New darts take the lowest unused slots; records of deleted darts
  * become six zeros.
@@ -110,6 +112,20 @@ uint64_t gmap_edit(uint32_t n, uint32_t slots, uint32_t *table, size_t table_len
                    uint32_t *store, size_t store_len,
                    const uint8_t *scheme, size_t scheme_len, uint32_t dart);
 
+/* Applies a scheme with two hooks to the table at two darts, as where two flanges
+ * are sewn and the operator points at a dart of each edge: node 0 falls on dart,
+ * the second hook on other.
+ * Answers 0, 1, 2, 3, 4, 5, 6, 7, 8, 9, 10 as gmap_edit, but 2 for a scheme with
+ * one hook. 3 is also given with the second hook as gmap_node, 8 for either dart,
+ * and 9 also where dart and other are the same dart, or their orbits share a dart
+ * or are not of one shape.
+ * Done carries gmap_orbit, gmap_added and gmap_deleted; the orbit is that of dart,
+ * and new darts take their tags from it.
+ * table, store: as gmap_edit leaves them. */
+uint64_t gmap_edit2(uint32_t n, uint32_t slots, uint32_t *table, size_t table_len,
+                    uint32_t *store, size_t store_len,
+                    const uint8_t *scheme, size_t scheme_len, uint32_t dart, uint32_t other);
+
 /* Loads a map file into the table, well-formed or not.
  * Answers 0, 1, 11; 11 also for a file of another n or number of slots than the
  * call's: gmap_file_n and gmap_file_slots say which table a file is for.
@@ -120,10 +136,10 @@ uint64_t gmap_edit(uint32_t n, uint32_t slots, uint32_t *table, size_t table_len
  * file, also a link that is not below slots; with n = 2 a live a3 is its own
  * slot. Whether the map is well-formed, gmap_check_table says. One that is not,
  * a broken map, stays in the table and can be shown: gmap_check_table and
- * gmap_write answer 7 to it, and so does gmap_edit, unless it refuses the scheme
- * first (2 to 6); all of them leave the table as loaded. A link of a broken map
- * may lead out of the table, so a program that follows links by itself checks
- * the table first, or tests each link before it follows it.
+ * gmap_write answer 7 to it, and so do gmap_edit and gmap_edit2, unless they
+ * refuse the scheme first (2 to 6); all of them leave the table as loaded. A link
+ * of a broken map may lead out of the table, so a program that follows links by
+ * itself checks the table first, or tests each link before it follows it.
  *
  *     uint64_t answer = gmap_load(n, slots, table, table_len, file, file_len);
  *     if (gmap_number(answer) == GMAP_DONE)
@@ -165,7 +181,7 @@ static inline const char *gmap_words(uint32_t number)
     switch (number) {
     case GMAP_DONE: return "done";
     case GMAP_BAD_CALL: return "the table's dimension or size is not one the kernel takes";
-    case GMAP_BAD_FORM: return "the scheme's bytes are damaged";
+    case GMAP_BAD_FORM: return "the scheme's bytes are damaged, or it is for another number of darts";
     case GMAP_BAD_HOOK: return "the scheme does not hang together at a node";
     case GMAP_BAD_INCIDENCE: return "the scheme has too many or too few arcs at a node";
     case GMAP_BAD_CYCLE: return "the scheme would tear the map at a node";

@@ -51,9 +51,9 @@ static void counter_open(void)
 /* ------------------------------------------------------------------- state */
 static u32 table[6 * N + 64], table0[6 * N], store[16 * N + 64];
 static u8 scheme[700], file[16384], out[16384];
-static u32 scheme_len, file_len, out_len, dim, dart, store_len, slots = N;
-typedef enum { CT, CS, ED, LD, LC, WR, CALLS } call;
-static const char *const call_names[CALLS] = { "check_table", "check_scheme", "edit", "load", "load + check", "write" };
+static u32 scheme_len, file_len, out_len, dim, dart, other, store_len, slots = N;
+typedef enum { CT, CS, ED, E2, LD, LC, WR, CALLS } call;
+static const char *const call_names[CALLS] = { "check_table", "check_scheme", "edit", "edit2", "load", "load + check", "write" };
 
 static PIN u64 base_call(call c)
 {
@@ -61,6 +61,7 @@ static PIN u64 base_call(call c)
     case CT: return base_check_table(dim, slots, table, 6 * slots);
     case CS: return base_check_scheme(scheme, scheme_len);
     case ED: return base_edit(dim, slots, table, 6 * slots, store, store_len, scheme, scheme_len, dart);
+    case E2: return base_edit2(dim, slots, table, 6 * slots, store, store_len, scheme, scheme_len, dart, other);
     case LD: return base_load(dim, slots, table, 6 * slots, file, file_len);
     case LC: { u64 a = base_load(dim, slots, table, 6 * slots, file, file_len); return a ? a : base_check_table(dim, slots, table, 6 * slots); }
     default: return base_write(dim, slots, table, 6 * slots, out, out_len);
@@ -72,6 +73,7 @@ static PIN u64 gmap_call(call c)
     case CT: return gmap_check_table(dim, slots, table, 6 * slots);
     case CS: return gmap_check_scheme(scheme, scheme_len);
     case ED: return gmap_edit(dim, slots, table, 6 * slots, store, store_len, scheme, scheme_len, dart);
+    case E2: return gmap_edit2(dim, slots, table, 6 * slots, store, store_len, scheme, scheme_len, dart, other);
     case LD: return gmap_load(dim, slots, table, 6 * slots, file, file_len);
     case LC: { u64 a = gmap_load(dim, slots, table, 6 * slots, file, file_len); return a ? a : gmap_check_table(dim, slots, table, 6 * slots); }
     default: return gmap_write(dim, slots, table, 6 * slots, out, out_len);
@@ -80,7 +82,7 @@ static PIN u64 gmap_call(call c)
 static void restore(call c)
 {
     memcpy(table, table0, sizeof table0);
-    if (c == ED) memset(store, 0x5A, 64 * N);
+    if (c == ED || c == E2) memset(store, 0x5A, 64 * N);
 }
 
 /* -------------------------------------------------------------------- maps */
@@ -111,16 +113,17 @@ static u32 torus(u32 w, u32 h)
 }
 static void mirror(u32 f, u32 m) { for (u32 x = 0; x < m; x++) join(f + x, f + m + x, 3); }
 static void mirrored(u32 w, u32 m) { u32 f = torus(w, 8); torus(w, 8); mirror(f, m); }
+static u32 moved[N];                   /* where shuffle put each slot */
 static void shuffle(void)              /* slots in no order */
 {
-    static u32 o[N], t[6 * N];
+    static u32 t[6 * N];
     u64 s = 12345;
-    for (u32 x = 0; x < N; x++) o[x] = x;
-    for (u32 x = N; x > 1; x--) { s = s * 6364136223846793005u + 1442695040888963407u; u32 y = (u32)((s >> 33) % x), z = o[x - 1]; o[x - 1] = o[y]; o[y] = z; }
+    for (u32 x = 0; x < N; x++) moved[x] = x;
+    for (u32 x = N; x > 1; x--) { s = s * 6364136223846793005u + 1442695040888963407u; u32 y = (u32)((s >> 33) % x), z = moved[x - 1]; moved[x - 1] = moved[y]; moved[y] = z; }
     for (u32 x = 0; x < N; x++) {
-        u32 *r = t + 6 * o[x];
+        u32 *r = t + 6 * moved[x];
         memcpy(r, table0 + 6 * x, 24);
-        if (r[0]) for (u32 i = 0; i < 4; i++) r[1 + i] = o[r[1 + i]];
+        if (r[0]) for (u32 i = 0; i < 4; i++) r[1 + i] = moved[r[1 + i]];
     }
     memcpy(table0, t, sizeof t);
     for (dart = 0; table0[6 * dart] != 1; dart++) ;
@@ -130,7 +133,8 @@ static void shuffle(void)              /* slots in no order */
 static void text(const char *t)        /* as in the catalogue of tests/differential/fuzz.c */
 {
     u8 *b = scheme; u32 k = 0; u8 *count;
-    *b++ = (u8)(*t++ - '0'); t++;
+    const char *hook = strstr(t, ";h");
+    *b++ = (u8)(*t++ - '0' + (hook ? 32 : 0)); t++;
     count = b++;
     while (*t != ';') { *b++ = (u8)(*t++ - '0'); k++; }
     *count = (u8)k; t++;
@@ -144,6 +148,7 @@ static void text(const char *t)        /* as in the catalogue of tests/different
         for (u32 p = 0; p < k; p++) *b++ = kd == 'D' ? 255 : *t == '_' ? (t++, 255) : (u8)(*t++ - '0');
         while (*t == ' ') t++;
     }
+    if (hook) *b++ = (u8)(hook[2] - '0');
     t++;
     for (int side = 0; side < 2; side++) {
         count = b++; *count = 0;
@@ -180,14 +185,15 @@ static void longest_accepted(void)
     for (u32 i = 0; i < 4; i++) for (u32 v = 0; v < 16; v++) { *b++ = (u8)i; *b++ = (u8)v; *b++ = (u8)v; }
     scheme_len = (u32)(b - scheme);
 }
-/* 537 bytes in the form: k = 4 fills node 0's left side, so with 64 left arcs it
- * can only be refused (3 or 4); here every node is reached and it is 4 at node 0. */
-static void longest_form(void)
+/* 537 bytes in the form, 538 with a second hook: k = 4 fills node 0's left side, so with
+ * 64 left arcs it can only be refused (3 or 4); here every node is reached and it is 4 at node 0. */
+static void longest_form(u32 second)   /* the second hook, 0 for none */
 {
     u8 *b = scheme;
     static const u8 head[] = { 3, 4, 0, 1, 2, 3, 16 };
     memcpy(b, head, 7); b += 7;
     for (u32 v = 0; v < 16; v++) { *b++ = 2; for (u32 p = 0; p < 8; p++) *b++ = (u8)(p & 3); }
+    if (second) { scheme[0] += 32; *b++ = (u8)second; }
     for (int side = 0; side < 2; side++) {
         *b++ = 64;
         for (u32 i = 0; i < 4; i++) for (u32 v = 0; v < 16; v++) { *b++ = (u8)i; *b++ = (u8)v; *b++ = (u8)(v < 15 ? v + 1 : v); }
@@ -292,6 +298,7 @@ static void floor_of(const char *name, void (*f)(void))
     printf("%-50s %10.1f\n", name, median(v, 2001));
 }
 static void edit(const char *name, u64 want) { measure(name, ED, want != 0, want); }
+static void edit2(const char *name, u64 want) { measure(name, E2, want != 0, want); }
 
 /* The same edit on tables of 64 to 1,024 slots, live to the given part: how the time grows. */
 static void growth(const char *name, const char *operation, u32 part)
@@ -348,9 +355,14 @@ int main(int argc, char **argv)
     longest_accepted();
     if (scheme_len != 447) { printf("longest accepted: %u bytes\n", scheme_len); return 2; }
                                               measure("check_scheme longest accepted (447 bytes)", CS, 1, 0);
-    longest_form();
+    longest_form(0);
     if (scheme_len != 537) { printf("longest form: %u bytes\n", scheme_len); return 2; }
                                               measure("check_scheme longest form (537 bytes): 4", CS, 1, 4);
+    longest_form(15);
+    if (scheme_len != 538) { printf("longest form, two hooks: %u bytes\n", scheme_len); return 2; }
+                                              measure("check_scheme longest form, two hooks (538): 4", CS, 1, 4);
+    text("2;0;P0>0 P0>0 A0 A_ A_ A0;200 211;034 123 145 202 215 233 244;h1");
+                                              measure("check_scheme two hooks (bridge edges)", CS, 1, 0);
     /* edits, small orbits */
     dim = 2; zero(); torus(16, 7); dart = 5;
     text("2;;P> P>;001;001");                 edit("edit n=2 look at edge (orbit 1)", 0);
@@ -401,6 +413,23 @@ int main(int argc, char **argv)
     zero(); torus(16, 8);
     text("2;02;P02>_2 A12;;001");             edit("edit refused 10 (orbit 4)", 10);
     text("2;012;P012>012 A012;;");            edit("edit refused 10 (orbit 1024)", 10);
+    /* edits at two darts */
+    dim = 2; zero(); for (u32 e = 0; e < 128; e++) polygon(4);
+    dart = 0; other = 8;
+    text("2;0;P0>0 P0>0;200 211;201;h1");     edit2("edit2 n=2 sew edges (orbit 2)", 0);
+    other = 0;                                edit2("edit2 refused 9 (both darts one)", 9);
+    zero(); for (u32 e = 0; e < 112; e++) polygon(4);
+    other = 8;
+    text("2;0;P0>0 P0>0 A0 A_ A_ A0;200 211;034 123 145 202 215 233 244;h1");
+                                              edit2("edit2 n=2 bridge edges (orbit 2, four added)", 0);
+    zero(); polygon(256); other = polygon(256);
+    text("2;01;P01>01 P01>01;200 211;201;h1"); edit2("edit2 n=2 sew faces (orbit 512)", 0);
+    dim = 3; zero(); torus(8, 8); other = torus(8, 8);
+    text("3;012;P012>012 P012>012;300 311;301;h1"); edit2("edit2 n=3 sew volumes (orbit 512)", 0);
+    shuffle(); dart = moved[0]; other = moved[512]; edit2("edit2 n=3 sew volumes (orbit 512), shuffled", 0);
+    zero(); dart = torus(8, 8); other = torus(16, 4); edit2("edit2 refused 9 (orbit 512, other piece)", 9);
+    other = N;                                edit2("edit2 refused 8 (the other dart)", 8);
+    text("3;012;P012>012 P012>012;301;300 311"); edit2("edit2 refused 2 (one hook)", 2);
     /* files */
     for (dim = 2; dim <= 3; dim++) {
         zero(); if (dim == 2) torus(16, 8); else mirrored(8, 512);

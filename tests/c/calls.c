@@ -1,5 +1,5 @@
-/* Scheme check, edit, load and write through the C interface: the samples P4 to P13, every answer of each call, the order of
- * refusals, and what each call leaves in each buffer. */
+/* Scheme check, edit at one dart and at two, load and write through the C interface: the samples P4 to P13, every answer of each
+ * call, the order of refusals, and what each call leaves in each buffer. */
 #include "gmap.h"
 #include "check.h"
 #include <string.h>
@@ -14,6 +14,21 @@ static const uint8_t P6[23] = { 2, 2, 0, 2, 2, 2, 0, 2, 255, 2, 3, 255, 255, 1, 
 static const uint8_t P7[20] = { 2, 2, 0, 1, 2, 2, 0, 1, 0, 1, 3, 255, 255, 0, 2, 0, 1, 1, 1, 1 };
 static const uint8_t unreached[7] = { 2, 0, 2, 2, 2, 0, 0 };
 static const uint8_t added_hook[6] = { 2, 0, 1, 3, 0, 0 };
+
+/* Schemes with a second hook. Two free edges are sewn: */
+enum { SEW_WORD = 5, SEW_WORD2 = 8, SEW_HOOK = 10, SEAM_HOOK = 16 };
+static const uint8_t sew[22] = { 34, 1, 0, 2, 2, 0, 0, 2, 0, 0, 1, 2, 2, 0, 0, 2, 1, 1, 1, 2, 0, 1 };
+/* ... with a face of two edges between them, which is added: */
+static const uint8_t seam[34] = { 34, 1, 0, 4, 2, 0, 0, 2, 0, 0, 3, 255, 0, 3, 255, 0, 1, 2, 2, 0, 0, 2, 1, 1, 3, 1, 2, 3, 2, 0, 2, 2, 1, 3 };
+/* Two corners exchange their sides; the hooks are nodes 0 and 2, and node 3 is reached from the second alone: */
+static const uint8_t swap[22] = { 34, 0, 4, 2, 2, 2, 2, 2, 2, 1, 0, 1, 1, 2, 3, 2, 1, 0, 2, 1, 1, 3 };
+/* Two pieces go: */
+static const uint8_t drop[23] = { 34, 3, 0, 1, 2, 2, 1, 0, 1, 2, 255, 255, 255, 1, 0, 1, 2, 255, 255, 255, 1, 0, 0 };
+/* With n = 3, two faces are sewn: */
+static const uint8_t sew3[27] = { 35, 2, 0, 1, 2, 2, 0, 1, 0, 1, 2, 0, 1, 0, 1, 1, 2, 3, 0, 0, 3, 1, 1, 1, 3, 0, 1 };
+/* Refused: node 1 is reached from neither hook (3); two edges would be sewn with their 0-links apart (5): */
+static const uint8_t no_way[16] = { 34, 1, 0, 3, 2, 0, 0, 2, 255, 255, 2, 0, 0, 2, 0, 0 };
+static const uint8_t torn[25] = { 34, 1, 0, 2, 2, 0, 0, 2, 0, 255, 1, 2, 2, 0, 0, 2, 1, 1, 2, 0, 1, 1, 2, 0, 1 };
 
 /* The file of the sample map E: n, N, then slots, tags and links, each after their count. */
 enum { SLOT = 5, TAG = 11, LINK = 21 };
@@ -138,6 +153,208 @@ static void edits(void)
     memcpy(before, table, sizeof table);
     refuse("6 before 7", edit(3, N, V, sizeof V, 0), refusal(6), N);
     refuse("7 before 8", edit(2, N, V, sizeof V, 5), refusal(7), N);
+}
+
+/* A scheme with another byte somewhere. */
+static const uint8_t *but(const uint8_t *scheme, size_t length, size_t at, uint8_t byte)
+{
+    static uint8_t changed[64];
+    memcpy(changed, scheme, length);
+    changed[at] = byte;
+    return changed;
+}
+
+static void schemes_with_two_hooks(void)
+{
+    static const uint8_t no_node[] = { 0, 2, 3, 15, 16, 34, 254, 255 }, no_left_node[] = { 0, 2, 3, 4, 255 };
+    static const uint8_t added_first[] = { 34, 0, 2, 3, 2, 1, 0, 0 };
+    static const uint8_t no_way_one_hook[] = { 2, 0, 4, 2, 2, 2, 2, 2, 1, 0, 1, 1, 2, 3, 2, 1, 0, 2, 1, 1, 3 };
+    static const uint8_t lacks[] = { 34, 1, 0, 2, 2, 0, 0, 2, 0, 0, 1, 2, 2, 0, 0, 2, 1, 1, 1, 2, 0, 0 };
+    uint8_t longest[GMAP_MAX_SCHEME + 1] = { 35, 4, 0, 1, 2, 3, 16 }, *b = longest + 7;
+
+    expect("two hooks", gmap_check_scheme(sew, sizeof sew), 0);
+    expect("two hooks, nodes are added", gmap_check_scheme(seam, sizeof seam), 0);
+    expect("two hooks, nodes reached from the second", gmap_check_scheme(swap, sizeof swap), 0);
+    expect("two hooks, both deleted", gmap_check_scheme(drop, sizeof drop), 0);
+    expect("two hooks, n = 3", gmap_check_scheme(sew3, sizeof sew3), 0);
+    for (uint32_t first = 0; first < 256; first++)
+        expect("first byte", gmap_check_scheme(but(sew, sizeof sew, 0, (uint8_t)first), sizeof sew), first == 34 || first == 35 ? 0 : refusal(2));
+    expect("V with the mark", gmap_check_scheme(but(V, sizeof V, 0, 34), sizeof V), refusal(2));
+    for (size_t length = 0; length < sizeof sew; length++) expect("two hooks, cut short", gmap_check_scheme(sew, length), refusal(2));
+    expect("two hooks, a byte too many", gmap_check_scheme(but(sew, sizeof sew, sizeof sew, 0), sizeof sew + 1), refusal(2));
+    for (size_t e = 0; e < sizeof no_node; e++)
+        expect("no second hook", gmap_check_scheme(but(sew, sizeof sew, SEW_HOOK, no_node[e]), sizeof sew), refusal(2));
+    for (size_t e = 0; e < sizeof no_left_node; e++)
+        expect("no second hook, or an added one", gmap_check_scheme(but(seam, sizeof seam, SEAM_HOOK, no_left_node[e]), sizeof seam), refusal(2));
+
+    expect("3, node 0 is added", gmap_check_scheme(added_first, sizeof added_first), refused(3, 0, 0, 0));
+    expect("3, node 0's word", gmap_check_scheme(but(sew, sizeof sew, SEW_WORD, 1), sizeof sew), refused(3, 0, 0, 0));
+    expect("3, the second hook's word", gmap_check_scheme(but(sew, sizeof sew, SEW_WORD2, 1), sizeof sew), refused(3, 1, 0, 0));
+    expect("3, the second hook without a word", gmap_check_scheme(but(sew, sizeof sew, SEW_WORD2, 255), sizeof sew), refused(3, 1, 0, 0));
+    uint8_t both[sizeof sew];
+    memcpy(both, but(sew, sizeof sew, SEW_WORD, 1), sizeof sew);
+    expect("3, node 0 before the second hook", gmap_check_scheme(but(both, sizeof both, SEW_WORD2, 1), sizeof both), refused(3, 0, 0, 0));
+    expect("3, reached from neither", gmap_check_scheme(no_way, sizeof no_way), refused(3, 1, 0, 0));
+    expect("3, the second hook before the unreached", gmap_check_scheme(but(no_way, sizeof no_way, 11, 1), sizeof no_way), refused(3, 2, 0, 0));
+    expect("3, reached from the second hook, which is not named", gmap_check_scheme(no_way_one_hook, sizeof no_way_one_hook), refused(3, 2, 0, 0));
+    expect("4 at the second hook", gmap_check_scheme(lacks, sizeof lacks), refused(4, 1, 0, 0));
+    expect("5 between the hooks", gmap_check_scheme(torn, sizeof torn), refused(5, 0, 0, 2));
+
+    for (uint32_t v = 0; v < 16; v++) {
+        *b++ = 2;
+        for (uint32_t p = 0; p < 8; p++) *b++ = (uint8_t)(p % 4);
+    }
+    *b++ = 15;
+    for (uint32_t side = 0; side < 2; side++) {
+        *b++ = 64;
+        for (uint32_t a = 0; a < 64; a++) *b++ = (uint8_t)(a / 16), *b++ = (uint8_t)(a % 16), *b++ = (uint8_t)(a % 16);
+    }
+    expect("the longest scheme in the form", (uint64_t)(b - longest), GMAP_MAX_SCHEME);
+    expect("the longest scheme in the form", gmap_check_scheme(longest, GMAP_MAX_SCHEME), refused(3, 1, 0, 0));
+    expect("the longest scheme, cut short", gmap_check_scheme(longest, GMAP_MAX_SCHEME - 1), refusal(2));
+    expect("a longer scheme", gmap_check_scheme(longest, GMAP_MAX_SCHEME + 1), refusal(2));
+}
+
+/* Two edges, 0-1 and 4-6, or with i = 1 two corners; all other links are loops. Unused words hold anything, and so does the store. */
+static void two_edges(uint32_t i)
+{
+    static const uint32_t from[4] = { 0, 1, 4, 6 }, to[4] = { 1, 0, 6, 4 }, tag[4] = { 7, 9, 11, 13 };
+    sample();
+    for (uint32_t e = 0; e < 4; e++) {
+        uint32_t x = from[e], record[GMAP_RECORD] = { 1, x, x, x, x, tag[e] };
+        record[GMAP_LINK + i] = to[e];
+        memcpy(table + GMAP_RECORD * x, record, sizeof record);
+    }
+    memcpy(before, table, sizeof table);
+}
+
+/* The records of the slots that are not in the list are as before, and the store is zero. */
+static void others(const char *what, uint32_t slots)
+{
+    for (uint32_t x = 0; x < N; x++)
+        if (!(slots >> x & 1)) expect(what, memcmp(table + GMAP_RECORD * x, before + GMAP_RECORD * x, 4 * GMAP_RECORD) == 0, 1);
+    expect(what, all(store, sizeof store, 0), 1);
+}
+
+static uint64_t edit2(uint32_t n, uint32_t slots, const uint8_t *scheme, size_t length, uint32_t dart, uint32_t other)
+{
+    return gmap_edit2(n, slots, table, GMAP_RECORD * slots, store, GMAP_STORE * slots, scheme, length, dart, other);
+}
+
+static void edits_at_two_darts(void)
+{
+    enum { EDGES = 1 << 0 | 1 << 1 | 1 << 4 | 1 << 6 };
+    two_edges(0);
+    expect("sew 0 and 6", edit2(2, N, sew, sizeof sew, 0, 6), edited(2, 0, 0));
+    record("sew, dart 0", 0, 1, 0, 6, 0, 7);
+    record("sew, dart 1", 1, 0, 1, 4, 1, 9);
+    record("sew, dart 4", 4, 6, 4, 1, 4, 11);
+    record("sew, dart 6", 6, 4, 6, 0, 6, 13);
+    others("sew, other records and store", EDGES);
+    expect("sew, check", gmap_check_table(2, N, table, GMAP_RECORD * N), 0);
+    memcpy(before, table, sizeof table);
+    memset(store, JUNK, sizeof store);
+    refuse("9, no edge is free any more", edit2(2, N, sew, sizeof sew, 0, 6), refusal(9), N);
+
+    two_edges(0);
+    expect("sew 0 and 4, the other way round", edit2(2, N, sew, sizeof sew, 0, 4), edited(2, 0, 0));
+    record("the other way round, dart 0", 0, 1, 0, 4, 0, 7);
+    record("the other way round, dart 1", 1, 0, 1, 6, 1, 9);
+    record("the other way round, dart 4", 4, 6, 4, 0, 4, 11);
+    record("the other way round, dart 6", 6, 4, 6, 1, 6, 13);
+    others("the other way round, other records and store", EDGES);
+
+    two_edges(0);
+    expect("seam", edit2(2, N, seam, sizeof seam, 0, 6), edited(2, 4, 0));
+    record("seam, dart 0", 0, 1, 0, 2, 0, 7);
+    record("seam, dart 1", 1, 0, 1, 5, 1, 9);
+    record("seam, dart 4", 4, 6, 4, 7, 4, 11);
+    record("seam, dart 6", 6, 4, 6, 3, 6, 13);
+    record("seam, new dart 2", 2, 5, 3, 0, 2, 7);
+    record("seam, new dart 3", 3, 7, 2, 6, 3, 7);
+    record("seam, new dart 5", 5, 2, 7, 1, 5, 9);
+    record("seam, new dart 7", 7, 3, 5, 4, 7, 9);
+    others("seam, store", 255);
+    expect("seam, check", gmap_check_table(2, N, table, GMAP_RECORD * N), 0);
+
+    two_edges(0);
+    expect("seam from the other side", edit2(2, N, seam, sizeof seam, 6, 0), edited(2, 4, 0));
+    record("seam from the other side, new dart 2", 2, 5, 3, 4, 2, 11);
+    record("seam from the other side, new dart 3", 3, 7, 2, 1, 3, 11);
+    record("seam from the other side, new dart 5", 5, 2, 7, 6, 5, 13);
+    record("seam from the other side, new dart 7", 7, 3, 5, 0, 7, 13);
+
+    two_edges(0);
+    refuse("10", edit2(2, 7, seam, sizeof seam, 0, 6), refusal(10), 7);
+    two_edges(0);
+    expect("two pieces go", edit2(2, N, drop, sizeof drop, 0, 4), edited(2, 0, 4));
+    for (uint32_t x = 0; x < N; x++)
+        if (EDGES >> x & 1) expect("two pieces go, records", all(table + GMAP_RECORD * x, 4 * GMAP_RECORD, 0), 1);
+    others("two pieces go, other records and store", EDGES);
+
+    two_edges(1);
+    expect("swap", edit2(2, N, swap, sizeof swap, 0, 6), edited(1, 0, 0));
+    record("swap, dart 0", 0, 0, 6, 0, 0, 7);
+    record("swap, dart 1", 1, 1, 4, 1, 1, 9);
+    record("swap, dart 4", 4, 4, 1, 4, 4, 11);
+    record("swap, dart 6", 6, 6, 0, 6, 6, 13);
+    others("swap, other records and store", EDGES);
+
+    two_edges(0);
+    expect("n = 3", edit2(3, N, sew3, sizeof sew3, 1, 4), edited(2, 0, 0));
+    record("n = 3, dart 0", 0, 1, 0, 0, 6, 7);
+    record("n = 3, dart 1", 1, 0, 1, 1, 4, 9);
+    record("n = 3, dart 4", 4, 6, 4, 4, 1, 11);
+    record("n = 3, dart 6", 6, 4, 6, 6, 0, 13);
+    others("n = 3, other records and store", EDGES);
+}
+
+static void refusals_at_two_darts(void)
+{
+    static const uint32_t nowhere[] = { UNUSED, N, N + 1, GMAP_MAX_SLOTS, UINT32_MAX };
+    two_edges(0);
+    refuse("edit2, 1, n", edit2(4, N, sew, sizeof sew, 0, 6), refusal(1), N);
+    refuse("edit2, 1, n = 34", edit2(34, N, sew, sizeof sew, 0, 6), refusal(1), N);
+    refuse("edit2, 1, no slots", gmap_edit2(2, 0, table, 0, store, 0, sew, sizeof sew, 0, 6), refusal(1), N);
+    refuse("edit2, 1, store", gmap_edit2(2, N, table, GMAP_RECORD * N, store, GMAP_STORE * N - 1, sew, sizeof sew, 0, 6), refusal(1), N);
+    refuse("edit2, 1, table", gmap_edit2(2, N, table, GMAP_RECORD * N - 1, store, GMAP_STORE * N, sew, sizeof sew, 0, 6), refusal(1), N);
+    refuse("edit2, 1 before 2", edit2(1, N, V, sizeof V, 0, 6), refusal(1), N);
+    for (size_t length = 0; length < sizeof sew; length++) refuse("edit2, 2", edit2(2, N, sew, length, 0, 6), refusal(2), N);
+    refuse("edit2, 2, one hook", edit2(2, N, V, sizeof V, 0, 6), refusal(2), N);
+    refuse("edit2, 2, one hook, before 3", edit2(2, N, unreached, sizeof unreached, 0, 6), refusal(2), N);
+    refuse("edit2, 2, one hook, before 6 and 8", edit2(3, N, W, sizeof W, 99, 99), refusal(2), N);
+    refuse("edit, 2, two hooks", edit(2, N, sew, sizeof sew, 0), refusal(2), N);
+    refuse("edit, 2, two hooks, before 3", edit(2, N, no_way, sizeof no_way, 0), refusal(2), N);
+    refuse("edit, 2, two hooks, before 6 and 8", edit(3, N, sew, sizeof sew, 99), refusal(2), N);
+    refuse("edit, 1 before 2, two hooks", edit(1, N, sew, sizeof sew, 0), refusal(1), N);
+    refuse("edit2, 3, node 0", edit2(2, N, but(sew, sizeof sew, SEW_WORD, 1), sizeof sew, 0, 6), refused(3, 0, 0, 0), N);
+    refuse("edit2, 3, the second hook", edit2(2, N, but(sew, sizeof sew, SEW_WORD2, 1), sizeof sew, 0, 6), refused(3, 1, 0, 0), N);
+    refuse("edit2, 3 before 6", edit2(3, N, no_way, sizeof no_way, 0, 6), refused(3, 1, 0, 0), N);
+    refuse("edit2, 4", edit2(2, N, but(sew, sizeof sew, sizeof sew - 1, 0), sizeof sew, 0, 6), refused(4, 1, 0, 0), N);
+    refuse("edit2, 5 before 8", edit2(2, N, torn, sizeof torn, 99, 99), refused(5, 0, 0, 2), N);
+    refuse("edit2, 6 before 8", edit2(3, N, sew, sizeof sew, 99, 99), refusal(6), N);
+    refuse("edit2, 6, n = 3", edit2(2, N, sew3, sizeof sew3, 0, 6), refusal(6), N);
+    for (size_t e = 0; e < sizeof nowhere / sizeof nowhere[0]; e++) {
+        refuse("edit2, 8, the first dart", edit2(2, N, sew, sizeof sew, nowhere[e], 6), refusal(8), N);
+        refuse("edit2, 8, the second dart", edit2(2, N, sew, sizeof sew, 0, nowhere[e]), refusal(8), N);
+        refuse("edit2, 8 before 9", edit2(2, N, sew, sizeof sew, nowhere[e], nowhere[e]), refusal(8), N);
+    }
+    refuse("edit2, 8 before 10", edit2(2, 7, seam, sizeof seam, 0, 5), refusal(8), 7);
+    for (uint32_t x = 0; x < N; x++)
+        if (table[GMAP_RECORD * x] == 1) refuse("edit2, 9, one dart twice", edit2(2, N, sew, sizeof sew, x, x), refusal(9), N);
+    refuse("edit2, 9, two darts of one edge", edit2(2, N, sew, sizeof sew, 0, 1), refusal(9), N);
+    refuse("edit2, 9 before 10", edit2(2, 7, seam, sizeof seam, 0, 0), refusal(9), 7);
+    refuse("edit2, 9, the second hook's arc is not there", edit2(2, N, swap, sizeof swap, 0, 6), refusal(9), N);
+
+    uint32_t lone[GMAP_RECORD] = { 1, UNUSED, UNUSED, UNUSED, UNUSED, 5 };
+    memcpy(table + GMAP_RECORD * UNUSED, lone, sizeof lone);
+    memcpy(before, table, sizeof table);
+    refuse("edit2, 9, the second orbit is smaller", edit2(2, N, sew, sizeof sew, 0, UNUSED), refusal(9), N);
+    refuse("edit2, 9, the second orbit is larger", edit2(2, N, sew, sizeof sew, UNUSED, 0), refusal(9), N);
+    table[GMAP_RECORD * 7] = 2;
+    memcpy(before, table, sizeof table);
+    refuse("edit2, 6 before 7", edit2(3, N, sew, sizeof sew, 0, 6), refusal(6), N);
+    refuse("edit2, 7 before 8", edit2(2, N, sew, sizeof sew, 99, 99), refusal(7), N);
 }
 
 static void writes(void)
@@ -268,6 +485,7 @@ static void broken(const char *what, uint32_t n, const uint8_t *scheme, size_t l
     refuse(what, edit(n, N, scheme, length, 0), refusal(7), N);
     refuse(what, edit(n, N, scheme, length, UINT32_MAX), refusal(7), N);
     refuse(what, edit(n, N, scheme, length - 1, 0), refusal(2), N);
+    refuse(what, n == 2 ? edit2(2, N, sew, sizeof sew, 0, 1) : edit2(3, N, sew3, sizeof sew3, 0, 1), refusal(7), N);
     expect(what, gmap_write(n, N, table, GMAP_RECORD * N, out, sizeof out), refusal(7));
     expect("  table as loaded", memcmp(table, before, sizeof table) == 0, 1);
     expect("  output", all(out, sizeof out, JUNK), 1);
@@ -310,6 +528,9 @@ int main(void)
 {
     schemes();
     edits();
+    schemes_with_two_hooks();
+    edits_at_two_darts();
+    refusals_at_two_darts();
     writes();
     loads_of_wrong_size();
     loads_out_of_form();

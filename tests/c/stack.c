@@ -19,18 +19,22 @@ static void nothing(void) { answer = 0; }
 static void check_table(void) { answer = gmap_check_table(n, N, table, GMAP_RECORD * N); }
 static void check_scheme(void) { answer = gmap_check_scheme(scheme, scheme_len); }
 static void edit(void) { answer = gmap_edit(n, N, table, GMAP_RECORD * N, store, GMAP_STORE * N, scheme, scheme_len, 0); }
+static uint32_t other;
+static void edit2(void) { answer = gmap_edit2(n, N, table, GMAP_RECORD * N, store, GMAP_STORE * N, scheme, scheme_len, 0, other); }
 static void load_file(void) { answer = gmap_load(n, N, table, GMAP_RECORD * N, file, gmap_file_length(n, N)); }
 static void write_file(void) { answer = gmap_write(n, N, table, GMAP_RECORD * N, file, sizeof file); }
 
-/* A closed chain of edges through the first `live` slots, with other links loops. */
-static void polygon(uint32_t live)
+/* Closed chains of edges through the first slots, `live` darts in each, with other links loops. */
+static void polygons(uint32_t count, uint32_t live)
 {
     memset(table, 0, sizeof table);
-    for (uint32_t x = 0; x < live; x++) {
-        uint32_t record[GMAP_RECORD] = { 1, x ^ 1, (x + (x % 2 ? 1 : live - 1)) % live, x, x, x };
+    for (uint32_t x = 0; x < count * live; x++) {
+        uint32_t first = x - x % live, next = (x - first + (x % 2 ? 1 : live - 1)) % live;
+        uint32_t record[GMAP_RECORD] = { 1, x ^ 1, first + next, x, x, x };
         memcpy(table + GMAP_RECORD * x, record, sizeof record);
     }
 }
+static void polygon(uint32_t live) { polygons(1, live); }
 
 /* Sixteen darts in a row, 1-links and 2-links in turn, and the longest accepted scheme, whose left side is just that. */
 static void longest(void)
@@ -103,6 +107,9 @@ int main(void)
 {
     static const uint8_t split[] = { 2, 2, 0, 2, 2, 2, 0, 2, 255, 2, 3, 255, 255, 1, 2, 0, 1, 0, 0, 1 };
     static const uint8_t drop[] = { 2, 3, 0, 1, 2, 1, 1, 0, 1, 2, 255, 255, 255, 0, 0 };
+    static const uint8_t sew[] = { 34, 1, 0, 2, 2, 0, 0, 2, 0, 0, 1, 2, 2, 0, 0, 2, 1, 1, 1, 2, 0, 1 };
+    static const uint8_t sew_faces[] = { 34, 2, 0, 1, 2, 2, 0, 1, 0, 1, 2, 0, 1, 0, 1, 1, 2, 2, 0, 0, 2, 1, 1, 1, 2, 0, 1 };
+    static const uint8_t sew3[] = { 35, 2, 0, 1, 2, 2, 0, 1, 0, 1, 2, 0, 1, 0, 1, 1, 2, 3, 0, 0, 3, 1, 1, 1, 3, 0, 1 };
     static const uint8_t look[] = { 2, 0, 2, 2, 2, 1, 0, 0, 1, 1, 0, 0, 1 };
     for (n = 2; n <= 3; n++) {
         polygon(N);
@@ -136,5 +143,24 @@ int main(void)
     table[0] = 1;
     scheme_len--;
     measure("edit, refused 2", edit, 2);
+    polygons(2, N / 2);
+    other = N / 2;
+    use(sew, sizeof sew);
+    measure("check_scheme, two hooks", check_scheme, 0);
+    measure("edit2 n=2, sew two edges", edit2, 0);
+    polygons(2, N / 2);
+    use(sew_faces, sizeof sew_faces);
+    measure("edit2 n=2, sew two faces of 512 darts", edit2, 0);
+    polygons(2, N / 2);
+    use(sew3, sizeof sew3);
+    n = 3;
+    measure("edit2 n=3, sew two faces of 512 darts", edit2, 0);
+    polygons(2, N / 2);
+    other = 0;
+    measure("edit2, refused 9", edit2, 9);
+    other = N;
+    measure("edit2, refused 8", edit2, 8);
+    scheme_len--;
+    measure("edit2, refused 2", edit2, 2);
     return wrong != 0;
 }

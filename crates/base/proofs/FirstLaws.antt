@@ -39,6 +39,17 @@ module _ {A : Type 0} where
   unfolding there
   there-none e = rw e
 
+  -- where one of two is there, the first that is there is
+  pub there-first : (o r : Option A) → there o ≡ true → there (o orElse r) ≡ true
+  unfolding there _orElse_
+  there-first none r e = absurd (true≢false (sym e))
+  there-first (some a) r e = refl
+
+  pub there-second : (o r : Option A) → there r ≡ true → there (o orElse r) ≡ true
+  unfolding there _orElse_
+  there-second none r e = e
+  there-second (some a) r e = refl
+
   pub when-at : (b : Bool) {a c : A} → someIf b a ≡ some c → (b ≡ true) × (a ≡ c)
   unfolding someIf
   when-at true e = (refl, cc)

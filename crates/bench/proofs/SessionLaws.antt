@@ -22,6 +22,8 @@ use Rattle.model.specs.Answer.{number}
 use Rattle.model.specs.Calls.{zeros, sizesOk, checkTable, loadAnswer, loadTable, editAnswer, editTable, editStore}
 use Rattle.bench.specs.Bench.{mapLength, schemeLength, dartLine, dartAt, answerAt, mapBytes, schemeBytes, mapDimension, mapSlots}
 use Rattle.bench.specs.Bench.{mapLoaded, mapAnswer, tableAfter}
+use Rattle.model.specs.declared.Darts.{Darts}
+use Rattle.model.specs.declared.Darts.the-variants.{One}
 use Rattle.model.specs.declared.Answer.{Answer}
 use Rattle.model.proofs.AnswerLaws.{answers-same}
 use Rattle.numbers.specs.Places.{Put}
@@ -109,7 +111,7 @@ module _ (b : List ℕ) (n N : ℕ) (asked : Asked b n N) where
 
 -- ---- an edit
 
-pub edit-part : (n N : ℕ) (t s part scheme : List ℕ) (d : ℕ) (r : Answer) (t′ s′ : List ℕ) → part ≡ scheme → MapEdited n N t s part d r t′ s′
+pub edit-part : (n N : ℕ) (t s part scheme : List ℕ) (d : Darts) (r : Answer) (t′ s′ : List ℕ) → part ≡ scheme → MapEdited n N t s part d r t′ s′
     → (r ≡ editAnswer n N t s scheme d) × ((t′ ≡ editTable n N t s scheme d) × (s′ ≡ editStore n N t s scheme d))
 edit-part n N t s part scheme d r t′ s′ p x = (
   answers-same (x .answer) ∙ ap (λ (y : List ℕ). editAnswer n N t s y d) p,
@@ -139,15 +141,15 @@ going-none b l N t s out x = record {
 
 module _ (b : List ℕ) (l : Layout) (laid : Laid b l) (n N : ℕ) (asked : Asked b n N) (k : ℕ) (t s out₀ out : List ℕ) (from at : ℕ)
     (g : Going b l N k t s out₀ out from at) (v : ℕ) (read : v ≡ numberAt 2 b from) where
-  moved : {A : Type 0} (f : ℕ → ℕ → List ℕ → List ℕ → List ℕ → ℕ → A)
-      → f n N t s (schemeBytes b) v ≡ f (mapDimension b) (mapSlots b) (tableAfter b k) (replicate (16 * mapSlots b) 0) (schemeBytes b) (dartAt b k)
+  moved : {A : Type 0} (f : ℕ → ℕ → List ℕ → List ℕ → List ℕ → Darts → A)
+      → f n N t s (schemeBytes b) (One v) ≡ f (mapDimension b) (mapSlots b) (tableAfter b k) (replicate (16 * mapSlots b) 0) (schemeBytes b) (One (dartAt b k))
   moved f =
-      ap₂ (λ (x y : List ℕ). f n N x y (schemeBytes b) v) (g .stands .table) (g .stands .store)
-      ∙ ap₂ (λ (i j : ℕ). f i j (tableAfter b k) (replicate (16 * j) 0) (schemeBytes b) v) (asked .dimension) (asked .slots)
-      ∙ ap (λ (d : ℕ). f (mapDimension b) (mapSlots b) (tableAfter b k) (replicate (16 * mapSlots b) 0) (schemeBytes b) d)
+      ap₂ (λ (x y : List ℕ). f n N x y (schemeBytes b) (One v)) (g .stands .table) (g .stands .store)
+      ∙ ap₂ (λ (i j : ℕ). f i j (tableAfter b k) (replicate (16 * j) 0) (schemeBytes b) (One v)) (asked .dimension) (asked .slots)
+      ∙ ap (λ (d : ℕ). f (mapDimension b) (mapSlots b) (tableAfter b k) (replicate (16 * mapSlots b) 0) (schemeBytes b) (One d))
       (dart-here b l laid k v from (g .place) read)
 
-  module _ (a : Answer) (edit : a ≡ editAnswer n N t s (schemeBytes b) v) (small : v < 65536) where
+  module _ (a : Answer) (edit : a ≡ editAnswer n N t s (schemeBytes b) (One v)) (small : v < 65536) where
     line-few : length (dartLine v a) ≤ 23
     line-few = rw edit (line-short n N t s (schemeBytes b) v (omega arith))
 
@@ -156,7 +158,7 @@ module _ (b : List ℕ) (l : Layout) (laid : Laid b l) (n N : ℕ) (asked : Aske
     line-room h r = omega (arith, line-few, g .short)
 
     pub going-more : (t′ s′ out′ : List ℕ) (from′ at′ : ℕ) → from′ ≡ from + 2
-        → t′ ≡ editTable n N t s (schemeBytes b) v → s′ ≡ editStore n N t s (schemeBytes b) v
+        → t′ ≡ editTable n N t s (schemeBytes b) (One v) → s′ ≡ editStore n N t s (schemeBytes b) (One v)
         → Put out at (dartLine v a) out′ at′ → Going b l N (k + 1) t′ s′ out₀ out′ from′ at′
     unfolding dartLines answerAt tableAfter editStore
     going-more t′ s′ out′ from′ at′ f x y p = record {

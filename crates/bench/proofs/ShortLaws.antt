@@ -17,6 +17,7 @@ use Rattle.model.specs.Scheme.{schemeOf, deleted}
 use Rattle.model.specs.Edit.{orbitSize, addedDarts, deletedDarts}
 use Rattle.model.specs.Calls.{siteDone, siteOf, editFault, editAnswer}
 use Rattle.bench.specs.Bench.{shown, dartLine, lastLine}
+use Rattle.model.specs.declared.Darts.the-variants.{One}
 use Rattle.model.specs.declared.Answer.{Answer}
 use Rattle.model.specs.declared.Answer.the-variants.{Edited}
 use Rattle.model.proofs.AnswerLaws.{number-few}
@@ -49,27 +50,27 @@ done-short d o e f h x y z =
     )
 
 module _ (n N : ℕ) (t store b : List ℕ) (d : ℕ) where
-  granted-short : editFault n N t store b d ≡ none → length (dartLine d (siteDone (siteOf N t b d))) ≤ 23
+  granted-short : editFault n N t store b (One d) ≡ none → length (dartLine d (siteDone (siteOf N t b (One d)))) ≤ 23
   unfolding siteDone orbitSize deletedDarts schemeOf
   granted-short q =
-      let g = granted n N t store b d q in
+      let g = granted n N t store b (One d) q in
       let few = sizes-iff n N t .0 (g .sizes) .few in
-      let O = siteOf N t b d .orbit in
+      let O = siteOf N t b (One d) .orbit in
       let orbits : countBelow N O ≤ N = count-le N O in
       let nodes : countBelow (nodesOf b) (deleted (schemeOf b)) ≤ 16 = omega (arith, count-le (nodesOf b) (deleted (schemeOf b)), nodes-few b (g .form)) in
-      let room : addedDarts (siteOf N t b d) ≤ maxSlots = omega (arith, g .room, count-le N (unused (view N t))) in
+      let room : addedDarts (siteOf N t b (One d)) ≤ maxSlots = omega (arith, g .room, count-le N (unused (view N t))) in
       let gone : countBelow N O * countBelow (nodesOf b) (deleted (schemeOf b)) ≤ 16 * maxSlots =
       omega (arith, mul-le-mul-left (countBelow N O) nodes) in
-      done-short d _ _ _ (omega (arith, g .slot)) (omega arith) room gone
+      done-short d _ _ _ (omega (arith, g .dart .slot)) (omega arith) room gone
 
-  pub line-short : d < 100000 → length (dartLine d (editAnswer n N t store b d)) ≤ 23
+  pub line-short : d < 100000 → length (dartLine d (editAnswer n N t store b (One d))) ≤ 23
   unfolding editAnswer
-  line-short h = go (editFault n N t store b d) refl
+  line-short h = go (editFault n N t store b (One d)) refl
     where
-      go : (o : Option Answer) → editFault n N t store b d ≡ o
-          → length (dartLine d (Option·getD (editFault n N t store b d) (siteDone (siteOf N t b d)))) ≤ 23
+      go : (o : Option Answer) → editFault n N t store b (One d) ≡ o
+          → length (dartLine d (Option·getD (editFault n N t store b (One d)) (siteDone (siteOf N t b (One d))))) ≤ 23
       go none q = rw q (granted-short q)
-      go (some a) q = rw q (refused-short d a h (λ e. omega (arith, edit-within n N t store b d .least a q)))
+      go (some a) q = rw q (refused-short d a h (λ e. omega (arith, edit-within n N t store b (One d) .least a q)))
 
 -- ---- the last line
 

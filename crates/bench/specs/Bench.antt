@@ -12,6 +12,7 @@ use Rattle.model.specs.Answer.{number, values}
 use Rattle.model.specs.Map.{view, tableSize, live, unused}
 use Rattle.model.specs.File.{twoAt}
 use Rattle.model.specs.Calls.{checkTable, editAnswer, editTable, loadAnswer, loadTable}
+use Rattle.model.specs.declared.Darts.the-variants.{One}
 use Rattle.model.specs.declared.Answer.{Answer}
 use Rattle.lines.specs.Lines.{decimal, space, lineFeed, refusedLine}
 
@@ -81,14 +82,14 @@ module _ (b : List ℕ) where
   -- the table after the first k edits
   unfoldable pub tableAfter : ℕ → List ℕ
   tableAfter zero = loadTable mapDimension mapSlots (replicate (tableSize mapSlots) 0) mapBytes
-  tableAfter (suc k) = editTable mapDimension mapSlots (tableAfter k) (replicate (16 * mapSlots) 0) schemeBytes (dartAt k)
+  tableAfter (suc k) = editTable mapDimension mapSlots (tableAfter k) (replicate (16 * mapSlots) 0) schemeBytes (One (dartAt k))
 
   -- what the check of the table answers where the map is loaded, else what the load answers
   unfoldable pub mapAnswer : Answer
   mapAnswer = cond (eqb (number mapLoaded) 0) (checkTable mapDimension mapSlots (tableAfter 0)) mapLoaded
 
   unfoldable pub answerAt : ℕ → Answer
-  answerAt k = editAnswer mapDimension mapSlots (tableAfter k) (replicate (16 * mapSlots) 0) schemeBytes (dartAt k)
+  answerAt k = editAnswer mapDimension mapSlots (tableAfter k) (replicate (16 * mapSlots) 0) schemeBytes (One (dartAt k))
 
   unfoldable pub runLines : List ℕ
   runLines = joined dartCount (λ k. dartLine (dartAt k) (answerAt k))

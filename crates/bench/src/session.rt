@@ -5,6 +5,7 @@ use crate::writer::last_line;
 use lines::answer::number;
 use lines::refused_line;
 use model::Answer;
+use model::Darts;
 use numbers::Cursor;
 use table::words::state;
 ghost use mathlib.Core.Path.{_≡_};
@@ -52,9 +53,9 @@ fn edit(
     dart: u32,
 ) -> Answer
     requires { ⌜ Laid (now input) layout ⌝ }
-    ensures { λ r. ⌜ r ≡ editAnswer n slots (now (table .entry)) (now (store .entry)) (schemeBytes (now (input .entry))) dart ⌝ }
-    ensures { λ r. ⌜ now (table .exit) ≡ editTable n slots (now (table .entry)) (now (store .entry)) (schemeBytes (now (input .entry))) dart ⌝ }
-    ensures { λ r. ⌜ now (store .exit) ≡ editStore n slots (now (table .entry)) (now (store .entry)) (schemeBytes (now (input .entry))) dart ⌝ }
+    ensures { λ r. ⌜ r ≡ editAnswer n slots (now (table .entry)) (now (store .entry)) (schemeBytes (now (input .entry))) (Darts.One dart) ⌝ }
+    ensures { λ r. ⌜ now (table .exit) ≡ editTable n slots (now (table .entry)) (now (store .entry)) (schemeBytes (now (input .entry))) (Darts.One dart) ⌝ }
+    ensures { λ r. ⌜ now (store .exit) ≡ editStore n slots (now (table .entry)) (now (store .entry)) (schemeBytes (now (input .entry))) (Darts.One dart) ⌝ }
 {
     let start = 4 + layout.map;
     let end = start + layout.scheme;

@@ -8,7 +8,7 @@ use mathlib.Core.List.{List}
 use native.Mathlib.Omega.{arith}
 use lib.ListN.{length, getD}
 use lib.Dec.{eqb}
-use borrow.Author.Tests.{eqb-true, eqb-false, eq-eqb, ne-eqb}
+use borrow.Author.Tests.{eqb-true, eqb-false, eq-eqb, ne-eqb, not-true, not-false}
 use Rattle.base.specs.Test.{_and_, _or_}
 use Rattle.base.specs.Below.{allBelow}
 use Rattle.base.specs.First.{least, there}
@@ -61,16 +61,25 @@ module _ (kinds : List ℕ) (reached : List Bool) (s : ℕ) where
   unfolding leftOut _and_
   out-left ne = rw (ne-eqb _ _ ne)
 
--- ---- the hook's fault
+-- ---- the hook's fault, from the tests of the first hook and the second
 
-module _ (places : ℕ) (orbit kinds words : List ℕ) (out : Found) where
-  pub hook-wrong : hookedBy places orbit kinds words firstHook ≡ false → Node firstHook ≡ hookBy places orbit kinds words out
+module _ (places : ℕ) (orbit kinds words : List ℕ) (second : ℕ) (out : Found) {b : Bool} (e : b ≡ hookedBy places orbit kinds words firstHook) where
+  pub first-wrong : not b ≡ true → Node firstHook ≡ hookBy places orbit kinds words second out
   unfolding hookBy
-  hook-wrong q = rw q
+  first-wrong q = rw (sym e ∙ not-true b q)
 
-  pub hook-left : hookedBy places orbit kinds words firstHook ≡ true → out ≡ hookBy places orbit kinds words out
-  unfolding hookBy
-  hook-left q = rw q
+  module _ (q : not b ≡ false) {d : Bool} (g : d ≡ hookedBy places orbit kinds words second) where
+    pub second-wrong : not d ≡ true → Node second ≡ hookBy places orbit kinds words second out
+    unfolding hookBy
+    second-wrong r = rw (sym e ∙ not-false b q, sym g ∙ not-true d r)
+
+    pub hooks-right : not d ≡ false → out ≡ hookBy places orbit kinds words second out
+    unfolding hookBy
+    hooks-right r = rw (sym e ∙ not-false b q, sym g ∙ not-false d r)
+
+  -- where there is no second hook, node 0 stands for it
+  pub no-second : not b ≡ false → second ≡ firstHook → out ≡ hookBy places orbit kinds words second out
+  no-second q z = hooks-right q (e ∙ ap (hookedBy places orbit kinds words) (sym z)) q
 
 -- ---- whether the walk over targets was enough
 

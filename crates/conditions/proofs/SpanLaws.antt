@@ -1,87 +1,94 @@
--- The tree that no arc leads out of has the nodes that a path over left arcs leads to, and so tells the hook's fault.
+-- The trees that no arc leads out of have the nodes that a path over left arcs leads to from a hook.
 -- Assumes nothing.
-use Prim.Native.Nat.{ℕ, zero, suc, _<_}
+use Prim.Native.Nat.{ℕ, zero, suc, _-_, _<_}
 use mathlib.Core.Path.{_≡_, sym, ap, _∙_, subst}
 use mathlib.Core.Logic.{inl, inr, ⊎-elim}
 use mathlib.Core.Bool.{true, false, true≢false}
-use mathlib.Core.Option.{some}
-use mathlib.Core.List.{List}
+use native.Mathlib.Nat.{lt-of-not-le}
 use native.Mathlib.Omega.{arith}
 use lib.ListN.{getD}
+use lib.Dec.{eqb}
 use Rattle.base.specs.First.{there}
 use Rattle.base.proofs.TestLaws.{same-test}
-use Rattle.base.proofs.FirstLaws.{there-at, there-of}
-use Rattle.model.specs.Reach.{here, step}
+use Rattle.base.proofs.BelowLaws.{le-or-lt}
+use Rattle.base.proofs.FirstLaws.{there-none}
 use Rattle.model.specs.Scheme.{left, arcs, arcPart, firstHook, isHook}
-use Rattle.model.specs.Conditions.{leftArc, pathTo}
+use Rattle.model.specs.Conditions.{leftArc, pathFrom, pathTo, Reached, atHook, overArc}
 use Rattle.model.specs.Shaped.{Shaped}
 use Rattle.model.specs.declared.Scheme.{Scheme}
-use Rattle.model.proofs.HookLaws.{Path, first-hook, only-hook, hook-path, arc-between, between-arc, joined-below}
-use Rattle.model.proofs.ReachLaws.{path-leads, path-found, path-none}
-use Rattle.conditions.specs.Tree.{Ends, Spanning, TreeOf}
+use Rattle.model.proofs.HookLaws.{first-hook, second-hook, two-hooks, path-cases, joined-below, hook-below, reached-found, found-reached}
+use Rattle.model.proofs.ReachLaws.{path-none}
+use Rattle.conditions.specs.Tree.{Ends, rootsOf, Spanning, TreeOf}
 use Rattle.conditions.specs.declared.tree.Tree.{Tree}
-use Rattle.conditions.proofs.TreeLaws.{few}
-use Rattle.base.proofs.BelowLaws.{le-or-lt}
+use Rattle.conditions.proofs.TreeLaws.{roots-few, root-cases, few}
 
 module _ (S : Scheme) (f : Shaped S) where
-  -- a path leads where a step leads from where a path leads
-  path-step : (x y i : ℕ) → x < S .nodes → y < S .nodes → there (pathTo S x) ≡ true → leftArc S x y ≡ some i → there (pathTo S y) ≡ true
-  unfolding pathTo
-  path-step x y i h l e j =
-      let p = there-at _ e in
-      path-found (S .nodes) (isHook S) (leftArc S) (step (path-leads (S .nodes) (isHook S) (leftArc S) x (p .0) h (p .1)) l j)
+  -- what is reached is a node
+  reached-below : {s : ℕ} → Reached S s → s < S .nodes
+  reached-below (atHook {h} e) = hook-below S f h e
+  reached-below (overArc {s} {t} r a h j) = joined-below S f a s t h j
 
-  module _ (t : Tree) (g : Spanning (S .larcs) (S .lcount) t) where
-    node-below : (k : ℕ) → k < t .size → getD (t .node) k 0 < S .nodes
-    node-below zero h = rw (g .spans .root) (f .nodesSome)
-    node-below (suc k) h = let b = g .spans .branch (suc k) (omega arith) h in joined-below S f (b .joined .arc) _ _ (b .joined .below) (b .joined .ends)
+  -- a path leads to nodes alone
+  from-below : (h s : ℕ) → there (pathFrom S h s) ≡ true → s < S .nodes
+  unfolding pathFrom
+  from-below h s e = lt-of-not-le (λ l. true≢false (sym e ∙ there-none (path-none (S .nodes) (eqb h) (leftArc S) s l)))
 
-    -- an entry is reached, since an earlier one is
-    entry-path : (n k : ℕ) → k < n → k < t .size → there (pathTo S (getD (t .node) k 0)) ≡ true
-    entry-path zero k h l = absurd (omega arith)
-    entry-path (suc n) zero h l = rw (g .spans .root) (there-of (hook-path S f firstHook (first-hook S)))
-    entry-path (suc n) (suc k) h l =
-        let b = g .spans .branch (suc k) (omega arith) l in
-        let e = b .earlier in
-        let q = b .before in
-        let s = between-arc S _ _ (b .joined .arc) (b .joined .below)
-        (subst (λ (z : ℕ). Ends (arcPart S left) (b .joined .arc) z (getD (t .node) (suc k) 0)) (sym (b .parentIs)) (b .joined .ends)) in
-        path-step (getD (t .node) e 0) (getD (t .node) (suc k) 0) (s .0) (node-below e (omega arith)) (node-below (suc k) l)
-        (entry-path n e (omega arith) (omega arith)) (s .1)
+  path-below : (s : ℕ) → there (pathTo S s) ≡ true → s < S .nodes
+  path-below s e = ⊎-elim (λ q. from-below firstHook s q) (λ q. from-below (S .second) s (q .1)) (path-cases S s e)
+
+  module _ (t : Tree) (g : Spanning (S .larcs) (S .lcount) (S .second) t) where
+    -- an entry is reached: as a hook, or since an earlier one is
+    entry-reached : (n k : ℕ) → k < n → k < t .size → Reached S (getD (t .node) k 0)
+    entry-reached zero k h l = absurd (omega arith)
+    entry-reached (suc n) k h l = ⊎-elim
+        (λ q. let b = g .spans .branch k q l in
+        let e = b .before in
+        overArc (entry-reached n (b .earlier) (omega arith) (omega arith)) (b .joined .arc) (b .joined .below)
+        (subst (λ (z : ℕ). Ends (arcPart S left) (b .joined .arc) z (getD (t .node) k 0)) (sym (b .parentIs)) (b .joined .ends)))
+        (λ q. atHook (⊎-elim
+        (λ e. ap (isHook S) e ∙ first-hook S)
+        (λ e. ap (isHook S) e ∙ second-hook S)
+        (root-cases _ _ _ (g .spans .roots) k q)))
+        (le-or-lt (rootsOf (S .second)) k)
 
     -- what is marked on one end of an arc is marked on the other
     across : (a x y : ℕ) → a < arcs S left → Ends (arcPart S left) a x y → getD (t .reached) x false ≡ true → getD (t .reached) y false ≡ true
     across a x y h (inl (p, q)) e = ap (λ (z : ℕ). getD (t .reached) z false) (sym q) ∙ sym (g .even a h) ∙ ap (λ (z : ℕ). getD (t .reached) z false) p ∙ e
     across a x y h (inr (p, q)) e = ap (λ (z : ℕ). getD (t .reached) z false) (sym p) ∙ g .even a h ∙ ap (λ (z : ℕ). getD (t .reached) z false) q ∙ e
 
-    leads-marked : {p : List ℕ} {y : ℕ} → Path S p y → getD (t .reached) y false ≡ true
-    leads-marked (here {y} h e) =
-        ap (λ (z : ℕ). getD (t .reached) z false) (only-hook S y e ∙ sym (g .spans .root)) ∙ g .spans .marked 0 (g .spans .some)
-    leads-marked (step {p} {x} {y} {i} l h e) = let a = arc-between S x y i e in across (a .0) x y (a .1) (a .3) (leads-marked l)
+    -- an entry that is the node s marks it
+    entry-marked : (k s : ℕ) → k < t .size → s ≡ getD (t .node) k 0 → getD (t .reached) s false ≡ true
+    entry-marked k s h e = ap (λ (z : ℕ). getD (t .reached) z false) e ∙ g .spans .marked k h
 
-    path-below : (s : ℕ) → there (pathTo S s) ≡ true → s < S .nodes
-    unfolding pathTo there
-    path-below s e = ⊎-elim
-        (λ l. absurd (true≢false (sym e ∙ ap there (path-none (S .nodes) (isHook S) (leftArc S) s l))))
-        (λ l. l)
-        (le-or-lt (S .nodes) s)
+    reached-marked : {s : ℕ} → Reached S s → getD (t .reached) s false ≡ true
+    reached-marked (atHook {h} e) =
+        let b = roots-few (S .second) in
+        let some = g .spans .some in
+        ⊎-elim
+        (λ q. entry-marked 0 h (omega arith) (q ∙ sym (g .spans .roots .first)))
+        (λ q. entry-marked (rootsOf (S .second) - 1) h (omega arith) (q ∙ sym (g .spans .roots .last)))
+        (two-hooks S h e)
+    reached-marked (overArc r a h j) = across a _ _ h j (reached-marked r)
 
     path-marked : (s : ℕ) → there (pathTo S s) ≡ true → getD (t .reached) s false ≡ true
-    unfolding pathTo
-    path-marked s e = let p = there-at _ e in leads-marked (path-leads (S .nodes) (isHook S) (leftArc S) s (p .0) (path-below s e) (p .1))
+    path-marked s e = reached-marked (found-reached S f s (path-below s e) e)
+
+    entry-path : (k : ℕ) → k < t .size → there (pathTo S (getD (t .node) k 0)) ≡ true
+    entry-path k h = reached-found S f (entry-reached (suc k) k (omega arith) h)
 
     marked-path : (s : ℕ) → getD (t .reached) s false ≡ true → there (pathTo S s) ≡ true
-    marked-path s e = let k = g .spans .found s e in ap (λ (z : ℕ). there (pathTo S z)) (sym (k .2)) ∙ entry-path (suc (k .0)) (k .0) (omega arith) (k .1)
+    marked-path s e = let k = g .spans .found s e in ap (λ (z : ℕ). there (pathTo S z)) (sym (k .2)) ∙ entry-path (k .0) (k .1)
 
-    pub tree-of : TreeOf S t
-    tree-of = record {
-      some = g .spans .some;
-      few = few _ _ _ _ _ _ (g .spans);
-      root = g .spans .root;
-      below = node-below;
-      branch = g .spans .branch;
+    pub tree-of : t .roots ≡ rootsOf (S .second) → TreeOf S t
+    tree-of e = record {
+      rootsIs = e;
+      some = omega (arith, g .spans .some);
+      few = few _ _ _ _ _ _ _ (g .spans);
+      roots = g .spans .roots;
+      below = λ k h. reached-below (entry-reached (suc k) k (omega arith) h);
+      branch = λ k l h. g .spans .branch k (omega arith) h;
       once = g .spans .once;
-      path = λ k h. entry-path (suc k) k (omega arith) h;
-      entry = λ s e. g .spans .found s (path-marked s e);
+      path = entry-path;
+      entry = λ s q. g .spans .found s (path-marked s q);
       reached = λ s h. same-test (getD (t .reached) s false) (there (pathTo S s)) (marked-path s) (path-marked s);
     }

@@ -20,6 +20,7 @@ hookedBy places orbit kinds words h =
 unfoldable pub leftOut : List ℕ → List Bool → ℕ → Bool
 leftOut kinds reached s = not (eqb (getD kinds s 0) 3) and not (getD reached s false)
 
--- the hook's fault: the hook itself, or else the node that is left out, if any
-unfoldable pub hookBy : ℕ → List ℕ → List ℕ → List ℕ → Found → Found
-hookBy places orbit kinds words out = cond (hookedBy places orbit kinds words firstHook) out (Node firstHook)
+-- the hook's fault: the first hook, or else the second, or else the node that is left out, if any
+unfoldable pub hookBy : ℕ → List ℕ → List ℕ → List ℕ → ℕ → Found → Found
+hookBy places orbit kinds words second out =
+    cond (hookedBy places orbit kinds words firstHook) (cond (hookedBy places orbit kinds words second) out (Node second)) (Node firstHook)

@@ -1,11 +1,12 @@
--- The tree of left arcs that reaches from the hook, while it is grown and when it spans all that is reached.
+-- The trees of left arcs that reach from the hooks, while they are grown and when they span all that is reached.
 -- Assumes nothing.
-use Prim.Native.Nat.{ℕ, _≤_, _<_}
+use Prim.Native.Nat.{ℕ, _-_, _≤_, _<_}
 use mathlib.Core.Path.{_≡_}
 use mathlib.Core.Logic.{_⊎_}
-use mathlib.Core.Bool.{Bool, true, false}
+use mathlib.Core.Bool.{Bool, true, false, cond}
 use mathlib.Core.List.{List}
 use lib.ListN.{length, getD}
+use lib.Dec.{ltb}
 use Rattle.base.specs.Below.{countBelow}
 use Rattle.base.specs.First.{there}
 use Rattle.model.specs.Scheme.{left, arcs, arcPart, firstHook}
@@ -39,27 +40,37 @@ pub record Branch (J : ℕ → ℕ → ℕ → Type 0) (node parent dim : List �
   pub parentIs : getD node earlier 0 ≡ getD parent k 0
   pub joined : J (getD dim k 0) (getD parent k 0) (getD node k 0)
 
--- the first `size` entries are a tree whose branches are of J, and `reached` marks its nodes
-pub record TreeBy (J : ℕ → ℕ → ℕ → Type 0) (node parent dim : List ℕ) (reached : List Bool) (size : ℕ) : Type 0 where
+-- how many hooks there are, where `second` is the second one or 0
+abbrev pub rootsOf : ℕ → ℕ
+rootsOf second = cond (ltb firstHook second) 2 1
+
+-- the first entries are the hooks, node 0 and then `second`, with no dimension
+pub record Roots (node dim : List ℕ) (second : ℕ) : Type 0 where
+  pub first : getD node 0 0 ≡ firstHook
+  pub last : getD node (rootsOf second - 1) 0 ≡ second
+  pub bare : (k : ℕ) → k < rootsOf second → getD dim k 0 ≡ 255
+
+-- the first `size` entries are trees from the hooks whose branches are of J, and `reached` marks their nodes
+pub record TreeBy (J : ℕ → ℕ → ℕ → Type 0) (second : ℕ) (node parent dim : List ℕ) (reached : List Bool) (size : ℕ) : Type 0 where
   pub longNode : length node ≡ 16
   pub longParent : length parent ≡ 16
   pub longDim : length dim ≡ 16
   pub longReached : length reached ≡ 16
-  pub some : 1 ≤ size
+  pub some : rootsOf second ≤ size
   pub total : size ≤ countBelow 16 (λ s. getD reached s false)
-  pub root : getD node 0 0 ≡ firstHook
-  pub branch : (k : ℕ) → 1 ≤ k → k < size → Branch J node parent dim k
+  pub roots : Roots node dim second
+  pub branch : (k : ℕ) → rootsOf second ≤ k → k < size → Branch J node parent dim k
   pub marked : (k : ℕ) → k < size → getD reached (getD node k 0) false ≡ true
   pub found : (s : ℕ) → getD reached s false ≡ true → (k : ℕ) × (k < size) × (getD node k 0 ≡ s)
   pub once : (j k : ℕ) → j < size → k < size → getD node j 0 ≡ getD node k 0 → j ≡ k
 
--- a tree over targets that has reached s
-pub record Reaching (targets node parent dim : List ℕ) (reached : List Bool) (size s : ℕ) : Type 0 where
-  pub tree : TreeBy (ByTarget targets) node parent dim reached size
+-- trees over targets that have reached s
+pub record Reaching (targets : List ℕ) (second : ℕ) (node parent dim : List ℕ) (reached : List Bool) (size s : ℕ) : Type 0 where
+  pub tree : TreeBy (ByTarget targets) second node parent dim reached size
   pub at : getD reached s false ≡ true
 
--- a tree of the first c arcs
-abbrev pub Spans : List ℕ → ℕ → List ℕ → List ℕ → List ℕ → List Bool → ℕ → Type 0
+-- trees of the first c arcs, from node 0 and a second hook
+abbrev pub Spans : List ℕ → ℕ → ℕ → List ℕ → List ℕ → List ℕ → List Bool → ℕ → Type 0
 Spans arcs c = TreeBy (ByArc (partOf arcs) c)
 
 -- targets are the far ends of arcs
@@ -76,33 +87,34 @@ abbrev pub Even : List ℕ → List Bool → ℕ → Type 0
 Even arcs reached a = getD reached (partOf arcs a 1) false ≡ getD reached (partOf arcs a 2) false
 
 -- after arc a was looked at
-pub record Joined (arcs : List ℕ) (c a : ℕ) (node parent dim : List ℕ) (reached₀ reached : List Bool) (size₀ size : ℕ) : Type 0 where
-  pub spans : Spans arcs c node parent dim reached size
+pub record Joined (arcs : List ℕ) (c a second : ℕ) (node parent dim : List ℕ) (reached₀ reached : List Bool) (size₀ size : ℕ) : Type 0 where
+  pub spans : Spans arcs c second node parent dim reached size
   pub longer : size₀ ≤ size
   pub even : size ≡ size₀ → (reached ≡ reached₀) × Even arcs reached a
 
 -- after the first k arcs were looked at
-pub record Grown (arcs : List ℕ) (c k : ℕ) (node parent dim : List ℕ) (reached : List Bool) (size₀ size : ℕ) : Type 0 where
-  pub spans : Spans arcs c node parent dim reached size
+pub record Grown (arcs : List ℕ) (c k second : ℕ) (node parent dim : List ℕ) (reached : List Bool) (size₀ size : ℕ) : Type 0 where
+  pub spans : Spans arcs c second node parent dim reached size
   pub longer : size₀ ≤ size
   pub even : size ≡ size₀ → (a : ℕ) → a < k → Even arcs reached a
 
--- a tree of the first c arcs that none of them leads out of
-pub record Closed (arcs : List ℕ) (c : ℕ) (node parent dim : List ℕ) (reached : List Bool) (size : ℕ) : Type 0 where
-  pub spans : Spans arcs c node parent dim reached size
+-- trees of the first c arcs that none of them leads out of
+pub record Closed (arcs : List ℕ) (c second : ℕ) (node parent dim : List ℕ) (reached : List Bool) (size : ℕ) : Type 0 where
+  pub spans : Spans arcs c second node parent dim reached size
   pub even : (a : ℕ) → a < c → Even arcs reached a
 
--- such a tree as one value
-abbrev pub Spanning : List ℕ → ℕ → Tree → Type 0
-Spanning arcs c t = Closed arcs c (t .node) (t .parent) (t .dim) (t .reached) (t .size)
+-- such trees as one value
+abbrev pub Spanning : List ℕ → ℕ → ℕ → Tree → Type 0
+Spanning arcs c second t = Closed arcs c second (t .node) (t .parent) (t .dim) (t .reached) (t .size)
 
--- the tree of a scheme's left arcs: its entries are the nodes that a path leads to, each once, parents first
+-- the trees of a scheme's left arcs: their entries are the nodes that a path leads to, each once, the hooks first and parents before their branches
 pub record TreeOf (S : Scheme) (t : Tree) : Type 0 where
-  pub some : 1 ≤ t .size
+  pub rootsIs : t .roots ≡ rootsOf (S .second)
+  pub some : t .roots ≤ t .size
   pub few : t .size ≤ 16
-  pub root : getD (t .node) 0 0 ≡ firstHook
+  pub roots : Roots (t .node) (t .dim) (S .second)
   pub below : (k : ℕ) → k < t .size → getD (t .node) k 0 < S .nodes
-  pub branch : (k : ℕ) → 1 ≤ k → k < t .size → Branch (ByArc (arcPart S left) (arcs S left)) (t .node) (t .parent) (t .dim) k
+  pub branch : (k : ℕ) → t .roots ≤ k → k < t .size → Branch (ByArc (arcPart S left) (arcs S left)) (t .node) (t .parent) (t .dim) k
   pub once : (j k : ℕ) → j < t .size → k < t .size → getD (t .node) j 0 ≡ getD (t .node) k 0 → j ≡ k
   pub path : (k : ℕ) → k < t .size → there (pathTo S (getD (t .node) k 0)) ≡ true
   pub entry : (s : ℕ) → there (pathTo S s) ≡ true → (k : ℕ) × (k < t .size) × (getD (t .node) k 0 ≡ s)

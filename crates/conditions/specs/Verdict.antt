@@ -1,4 +1,4 @@
--- What comes of a scheme: its first fault, or done, and the tree of its left arcs.
+-- What comes of a scheme: its first fault, or done, and the trees of its left arcs.
 -- Assumes nothing.
 use Prim.Native.Nat.{ℕ}
 use mathlib.Core.Path.{_≡_}
@@ -26,17 +26,18 @@ hookElse Nothing a = a
 hookElse (Node x) a = BadHook x
 
 -- the first fault, over the lists that go with a scheme: the hook's, then those of the arcs
-unfoldable pub faultBy : ℕ → ℕ → ℕ → List ℕ → List ℕ → List ℕ → Found → List ℕ → List ℕ → List Bool → List Bool → Answer
-faultBy n places nodes orbit kinds words out lefts rights leftTwice rightTwice =
-    hookElse (hookBy places orbit kinds words out) (arcsAnswer n nodes orbit kinds lefts rights leftTwice rightTwice)
+unfoldable pub faultBy : ℕ → ℕ → ℕ → List ℕ → List ℕ → List ℕ → ℕ → Found → List ℕ → List ℕ → List Bool → List Bool → Answer
+faultBy n places nodes orbit kinds words second out lefts rights leftTwice rightTwice =
+    hookElse (hookBy places orbit kinds words second out) (arcsAnswer n nodes orbit kinds lefts rights leftTwice rightTwice)
 
 -- the numbers and lists are parts of a scheme in the form, and its nodes with two arcs of a dimension
-pub record Judging (n places nodes : ℕ) (orbit kinds lwords ltargets rtargets : List ℕ) (lcount : ℕ) (larcs : List ℕ) (ltwice rtwice : List Bool) : Type 0 where
+pub record Judging (n places nodes second : ℕ) (orbit kinds lwords ltargets rtargets : List ℕ) (lcount : ℕ) (larcs : List ℕ) (ltwice rtwice : List Bool) : Type 0 where
   pub scheme : Scheme
   pub shaped : Shaped scheme
   pub nIs : n ≡ scheme .n
   pub placesIs : places ≡ scheme .places
   pub nodesIs : nodes ≡ scheme .nodes
+  pub secondIs : second ≡ scheme .second
   pub orbitIs : orbit ≡ scheme .orbit
   pub kindsIs : kinds ≡ scheme .kinds
   pub lwordsIs : lwords ≡ scheme .lwords

@@ -11,29 +11,35 @@ use model::Answer;
 use tree::Tree;
 use tree::reach_of;
 ghost use mathlib.Core.Path.{_≡_};
-ghost use Prim.Native.Nat.{_≤_};
+ghost use Prim.Native.Nat.{_<_, _≤_};
 ghost use Rattle.conditions.specs.Hook.{hookBy};
 ghost use Rattle.incidence.specs.Cycles.{Coding};
 ghost use Rattle.conditions.specs.Verdict.{faultBy, Judging, VerdictOf};
 
-// The hook's fault: the hook, node 0, or the least left node that is not reached, which is `out`.
+// The hook's fault: node 0, the second hook, or the least left node that is not reached, which is `out`.
 fn hook_fault<'a>(
     places: usize,
     orbit: &'a [u8; 4],
     kinds: &'a [u8; 16],
     words: &'a [u8; 64],
+    second: usize,
     out: Found,
 ) -> Found
-    requires { ⌜ places ≤ 4 ⌝ }
-    ensures { λ r. ⌜ r ≡ hookBy places (now (orbit .entry)) (now (kinds .entry)) (now (words .entry)) out ⌝ }
+    requires { ⌜ (places ≤ 4) × (second < 16) ⌝ }
+    ensures { λ r. ⌜ r ≡ hookBy places (now (orbit .entry)) (now (kinds .entry)) (now (words .entry)) second out ⌝ }
 {
     if !hooked(places, orbit, kinds, words, 0) {
         return Found::Node(0);
     }
+    if second != 0 {
+        if !hooked(places, orbit, kinds, words, second) {
+            return Found::Node(second as u32);
+        }
+    }
     out
 }
 
-// The first fault, from the left node that the tree leaves out, if any, and the targets of both sides.
+// The first fault, from the left node that the trees leave out, if any, and the targets of both sides.
 fn fault<'a>(
     n: u8,
     places: usize,
@@ -41,24 +47,25 @@ fn fault<'a>(
     orbit: &'a [u8; 4],
     kinds: &'a [u8; 16],
     words: &'a [u8; 64],
+    second: usize,
     out: Found,
     lefts: &'a [u8; 64],
     rights: &'a [u8; 64],
     ltwice: &'a [bool; 16],
     rtwice: &'a [bool; 16],
 ) -> Answer
-    requires { ⌜ (2 ≤ n) × (n ≤ 3) × (places ≤ 4) × (nodes ≤ 16) ⌝ }
+    requires { ⌜ (2 ≤ n) × (n ≤ 3) × (places ≤ 4) × (nodes ≤ 16) × (second < 16) ⌝ }
     requires { ⌜ Coding nodes (now lefts) × Coding nodes (now rights) ⌝ }
-    ensures { λ r. ⌜ r ≡ faultBy n places nodes (now (orbit .entry)) (now (kinds .entry)) (now (words .entry)) out (now (lefts .entry)) (now (rights .entry)) (now (ltwice .entry)) (now (rtwice .entry)) ⌝ }
+    ensures { λ r. ⌜ r ≡ faultBy n places nodes (now (orbit .entry)) (now (kinds .entry)) (now (words .entry)) second out (now (lefts .entry)) (now (rights .entry)) (now (ltwice .entry)) (now (rtwice .entry)) ⌝ }
 {
-    let hook = hook_fault(places, orbit, kinds, words, out);
+    let hook = hook_fault(places, orbit, kinds, words, second, out);
     if let Found::Node(x) = hook {
         return Answer::BadHook(x);
     }
     arcs_fault(n, nodes, orbit, kinds, lefts, rights, ltwice, rtwice)
 }
 
-// What is known of a scheme: its first fault of refusals 3 to 5, or done where it is accepted, and the tree of its left arcs.
+// What is known of a scheme: its first fault of refusals 3 to 5, or done where it is accepted, and the trees of its left arcs.
 pub struct Verdict {
     pub answer: Answer,
     pub tree: Tree,
@@ -69,6 +76,7 @@ pub fn judge<'a>(
     n: u8,
     places: u8,
     nodes: u8,
+    second: u8,
     orbit: &'a [u8; 4],
     kinds: &'a [u8; 16],
     lwords: &'a [u8; 64],
@@ -79,11 +87,12 @@ pub fn judge<'a>(
     ltwice: &'a [bool; 16],
     rtwice: &'a [bool; 16],
 ) -> Verdict
-    requires { ⌜ Judging n places nodes (now orbit) (now kinds) (now lwords) (now ltargets) (now rtargets) lcount (now larcs) (now ltwice) (now rtwice) ⌝ }
-    ensures { λ r. ⌜ ((J : Judging n places nodes (now (orbit .entry)) (now (kinds .entry)) (now (lwords .entry)) (now (ltargets .entry)) (now (rtargets .entry)) lcount (now (larcs .entry)) (now (ltwice .entry)) (now (rtwice .entry))) → VerdictOf (J .scheme) r) ⌝ }
+    requires { ⌜ Judging n places nodes second (now orbit) (now kinds) (now lwords) (now ltargets) (now rtargets) lcount (now larcs) (now ltwice) (now rtwice) ⌝ }
+    ensures { λ r. ⌜ ((J : Judging n places nodes second (now (orbit .entry)) (now (kinds .entry)) (now (lwords .entry)) (now (ltargets .entry)) (now (rtargets .entry)) lcount (now (larcs .entry)) (now (ltwice .entry)) (now (rtwice .entry))) → VerdictOf (J .scheme) r) ⌝ }
 {
     let c = wide(nodes);
-    let reach = reach_of(c, kinds, ltargets, wide(lcount), larcs);
+    let h = wide(second);
+    let reach = reach_of(c, h, kinds, ltargets, wide(lcount), larcs);
     let out = reach.out;
     let answer = fault(
         n,
@@ -92,6 +101,7 @@ pub fn judge<'a>(
         orbit,
         kinds,
         lwords,
+        h,
         out,
         ltargets,
         rtargets,

@@ -1,4 +1,4 @@
-// The tree of left arcs that reaches from the hook, node 0.
+// The trees of left arcs that reach from the hooks, node 0 and the second hook.
 use crate::arcs::part;
 use crate::arcs::wide;
 use crate::hook::unreached;
@@ -9,14 +9,16 @@ ghost use mathlib.Core.Bool.{true, false};
 ghost use lib.ListN.{set};
 ghost use Rattle.base.specs.First.{least};
 ghost use Rattle.conditions.specs.Arcs.{Joining};
-ghost use Rattle.conditions.specs.Tree.{ByTarget, TreeBy, Reaching, Aimed, Lefts, Spans, Joined, Grown, Closed, Spanning};
+ghost use Rattle.conditions.specs.Tree.{ByTarget, rootsOf, TreeBy, Reaching, Aimed, Lefts, Spans, Joined, Grown, Closed, Spanning};
 ghost use Rattle.conditions.specs.Hook.{leftOut};
 ghost use Rattle.incidence.specs.Incidence.{foundOf};
 
-// What is reached from the hook over left arcs, as a tree: its first `size` entries. Entry 0 is the hook, node 0; any other is a node, with an
-// earlier one to which a left arc of dimension `dim` joins it. `reached` tells of each node whether it is an entry.
+// What is reached from the hooks over left arcs, as trees: the first `size` entries. The first `roots` are the hooks, node 0 and, where there is
+// one, the second hook; their `dim` is 255. Any other is a node, with an earlier one to which a left arc of dimension `dim` joins it. `reached`
+// tells of each node whether it is an entry.
 pub struct Tree {
     pub size: usize,
+    pub roots: usize,
     pub node: [u8; 16],
     pub parent: [u8; 16],
     pub dim: [u8; 16],
@@ -47,7 +49,9 @@ fn push<'a>(
 }
 
 // Where just one end of arc a is reached, the other becomes an entry. It returns the new number of entries.
+// Here and below `second` is the second hook, or 0: the hooks are the first entries, and stay so.
 fn join<'a>(
+    second: usize,
     count: usize,
     arcs: &[u8; 192],
     a: usize,
@@ -59,8 +63,8 @@ fn join<'a>(
 ) -> usize
     requires { ⌜ Joining (now arcs) count ⌝ }
     requires { ⌜ a < count ⌝ }
-    requires { ⌜ Spans (now arcs) count (now node) (now parent) (now dim) (now reached) size ⌝ }
-    ensures { λ r. ⌜ Joined (now (arcs .entry)) count a (now (node .exit)) (now (parent .exit)) (now (dim .exit)) (now (reached .entry)) (now (reached .exit)) size r ⌝ }
+    requires { ⌜ Spans (now arcs) count second (now node) (now parent) (now dim) (now reached) size ⌝ }
+    ensures { λ r. ⌜ Joined (now (arcs .entry)) count a second (now (node .exit)) (now (parent .exit)) (now (dim .exit)) (now (reached .entry)) (now (reached .exit)) size r ⌝ }
 {
     let i = part(arcs, a, 0);
     let s = part(arcs, a, 1);
@@ -81,6 +85,7 @@ fn join<'a>(
 
 // One pass over the arcs. It returns the new number of entries.
 fn grow<'a>(
+    second: usize,
     count: usize,
     arcs: &[u8; 192],
     node: &'a mut [u8; 16],
@@ -90,13 +95,13 @@ fn grow<'a>(
     size: usize,
 ) -> usize
     requires { ⌜ Joining (now arcs) count ⌝ }
-    requires { ⌜ Spans (now arcs) count (now node) (now parent) (now dim) (now reached) size ⌝ }
-    ensures { λ r. ⌜ Grown (now (arcs .entry)) count count (now (node .exit)) (now (parent .exit)) (now (dim .exit)) (now (reached .exit)) size r ⌝ }
+    requires { ⌜ Spans (now arcs) count second (now node) (now parent) (now dim) (now reached) size ⌝ }
+    ensures { λ r. ⌜ Grown (now (arcs .entry)) count count second (now (node .exit)) (now (parent .exit)) (now (dim .exit)) (now (reached .exit)) size r ⌝ }
 {
     let mut k = size;
     let mut a = 0;
     while a < count {
-        k = join(count, arcs, a, node, parent, dim, reached, k);
+        k = join(second, count, arcs, a, node, parent, dim, reached, k);
         a += 1;
     }
     k
@@ -104,6 +109,7 @@ fn grow<'a>(
 
 // The target of node s at dimension i, where it is a node that is not reached, becomes an entry. It returns the new number of entries.
 fn meet<'a>(
+    second: usize,
     targets: &[u8; 64],
     node: &'a mut [u8; 16],
     parent: &'a mut [u8; 16],
@@ -114,8 +120,8 @@ fn meet<'a>(
     i: usize,
 ) -> usize
     requires { ⌜ (s < 16) × (i < 4) ⌝ }
-    requires { ⌜ Reaching (now targets) (now node) (now parent) (now dim) (now reached) size s ⌝ }
-    ensures { λ r. ⌜ Reaching (now (targets .entry)) (now (node .exit)) (now (parent .exit)) (now (dim .exit)) (now (reached .exit)) r s ⌝ }
+    requires { ⌜ Reaching (now targets) second (now node) (now parent) (now dim) (now reached) size s ⌝ }
+    ensures { λ r. ⌜ Reaching (now (targets .entry)) second (now (node .exit)) (now (parent .exit)) (now (dim .exit)) (now (reached .exit)) r s ⌝ }
 {
     let t = wide(targets[4 * s + i]);
     if 16 <= t {
@@ -130,6 +136,7 @@ fn meet<'a>(
 
 // The targets of node s become entries. It returns the new number of entries.
 fn spread<'a>(
+    second: usize,
     targets: &[u8; 64],
     node: &'a mut [u8; 16],
     parent: &'a mut [u8; 16],
@@ -139,34 +146,45 @@ fn spread<'a>(
     s: usize,
 ) -> usize
     requires { ⌜ s < 16 ⌝ }
-    requires { ⌜ Reaching (now targets) (now node) (now parent) (now dim) (now reached) size s ⌝ }
-    ensures { λ r. ⌜ Reaching (now (targets .entry)) (now (node .exit)) (now (parent .exit)) (now (dim .exit)) (now (reached .exit)) r s ⌝ }
+    requires { ⌜ Reaching (now targets) second (now node) (now parent) (now dim) (now reached) size s ⌝ }
+    ensures { λ r. ⌜ Reaching (now (targets .entry)) second (now (node .exit)) (now (parent .exit)) (now (dim .exit)) (now (reached .exit)) r s ⌝ }
 {
     let mut k = size;
     let mut i = 0;
     while i < 4 {
-        k = meet(targets, node, parent, dim, reached, k, s, i);
+        k = meet(second, targets, node, parent, dim, reached, k, s, i);
         i += 1;
     }
     k
 }
 
-// The tree over targets, from the hook, the only entry at first. It returns the number of entries.
+// How many hooks there are.
+fn roots_of(second: usize) -> usize
+    ensures { λ r. ⌜ (r ≡ rootsOf second) × (1 ≤ r) × (r ≤ 2) ⌝ }
+{
+    if second == 0 {
+        return 1;
+    }
+    2
+}
+
+// The trees over targets, from the hooks, the only entries at first. It returns the number of entries.
 fn walk<'a>(
+    second: usize,
     targets: &[u8; 64],
     node: &'a mut [u8; 16],
     parent: &'a mut [u8; 16],
     dim: &'a mut [u8; 16],
     reached: &'a mut [bool; 16],
 ) -> usize
-    requires { ⌜ TreeBy (ByTarget (now targets)) (now node) (now parent) (now dim) (now reached) 1 ⌝ }
-    ensures { λ r. ⌜ TreeBy (ByTarget (now (targets .entry))) (now (node .exit)) (now (parent .exit)) (now (dim .exit)) (now (reached .exit)) r ⌝ }
+    requires { ⌜ TreeBy (ByTarget (now targets)) second (now node) (now parent) (now dim) (now reached) (rootsOf second) ⌝ }
+    ensures { λ r. ⌜ TreeBy (ByTarget (now (targets .entry))) second (now (node .exit)) (now (parent .exit)) (now (dim .exit)) (now (reached .exit)) r ⌝ }
 {
-    let mut size = 1;
+    let mut size = roots_of(second);
     let mut k = 0;
     while k < size {
         let s = wide(node[k]);
-        size = spread(targets, node, parent, dim, reached, size, s);
+        size = spread(second, targets, node, parent, dim, reached, size, s);
         k += 1;
     }
     size
@@ -174,6 +192,7 @@ fn walk<'a>(
 
 // Passes over the arcs until one adds nothing. It returns the new number of entries.
 fn pass<'a>(
+    second: usize,
     count: usize,
     arcs: &[u8; 192],
     node: &'a mut [u8; 16],
@@ -183,50 +202,63 @@ fn pass<'a>(
     size: usize,
 ) -> usize
     requires { ⌜ Joining (now arcs) count ⌝ }
-    requires { ⌜ Spans (now arcs) count (now node) (now parent) (now dim) (now reached) size ⌝ }
-    ensures { λ r. ⌜ Closed (now (arcs .entry)) count (now (node .exit)) (now (parent .exit)) (now (dim .exit)) (now (reached .exit)) r ⌝ }
+    requires { ⌜ Spans (now arcs) count second (now node) (now parent) (now dim) (now reached) size ⌝ }
+    ensures { λ r. ⌜ Closed (now (arcs .entry)) count second (now (node .exit)) (now (parent .exit)) (now (dim .exit)) (now (reached .exit)) r ⌝ }
 {
     let mut k = size;
     let mut last = 0;
     while last < k {
         last = k;
-        k = grow(count, arcs, node, parent, dim, reached, last);
+        k = grow(second, count, arcs, node, parent, dim, reached, last);
     }
     k
 }
 
-// What is reached from the hook: the tree, and the least left node that is no entry of it.
+// What is reached from the hooks: the trees, and the least left node that is no entry of them.
 pub struct Reach {
     pub tree: Tree,
     pub out: Found,
 }
 
-// The tree of the first `count` arcs, and what it leaves out. A target that is a node is the far end of the first arc of its
+// The trees of the first `count` arcs, and what they leave out. A target that is a node is the far end of the first arc of its
 // dimension, so the targets reach all left nodes unless one is reached by a second arc alone, or not at all: then the arcs are
 // passed over.
 pub fn reach_of<'a>(
     nodes: usize,
+    second: usize,
     kinds: &'a [u8; 16],
     targets: &'a [u8; 64],
     count: usize,
     arcs: &'a [u8; 192],
 ) -> Reach
-    requires { ⌜ nodes ≤ 16 ⌝ }
+    requires { ⌜ (nodes ≤ 16) × (second < 16) ⌝ }
     requires { ⌜ Joining (now arcs) count ⌝ }
     requires { ⌜ Aimed (now targets) (now arcs) count ⌝ }
     requires { ⌜ Lefts nodes (now kinds) (now arcs) count ⌝ }
-    ensures { λ r. ⌜ Spanning (now (arcs .entry)) count (r .tree) ⌝ }
+    ensures { λ r. ⌜ Spanning (now (arcs .entry)) count second (r .tree) ⌝ }
+    ensures { λ r. ⌜ r .tree .roots ≡ rootsOf second ⌝ }
     ensures { λ r. ⌜ r .out ≡ foundOf (least nodes (leftOut (now (kinds .entry)) (r .tree .reached))) ⌝ }
 {
     let mut node = [0u8; 16];
     let mut parent = [0u8; 16];
-    let mut dim = [0u8; 16];
+    let mut dim = [255u8; 16];
     let mut reached = [false; 16];
+    let roots = roots_of(second);
+    node[roots - 1] = second as u8;
     reached[0] = true;
-    let mut size = walk(targets, &mut node, &mut parent, &mut dim, &mut reached);
+    reached[second] = true;
+    let mut size = walk(
+        second,
+        targets,
+        &mut node,
+        &mut parent,
+        &mut dim,
+        &mut reached,
+    );
     let mut out = unreached(nodes, kinds, &reached);
     if let Found::Node(_) = out {
         size = pass(
+            second,
             count,
             arcs,
             &mut node,
@@ -240,6 +272,7 @@ pub fn reach_of<'a>(
     Reach {
         tree: Tree {
             size: size,
+            roots: roots,
             node: node,
             parent: parent,
             dim: dim,

@@ -9,22 +9,24 @@ use mathlib.Core.List.{List}
 use native.Mathlib.Omega.{arith}
 use lib.ListN.{length}
 use lib.Dec.{eqb, ltb}
-use borrow.Author.Tests.{eqb-true, eq-eqb, ltb-true, lt-ltb, ltb-false, le-ltb}
+use borrow.Author.Tests.{eqb-true, eq-eqb, ltb-false, le-ltb}
 use Rattle.base.specs.Test.{_and_}
 use Rattle.base.specs.Below.{countBelow}
 use Rattle.base.specs.First.{someIf, _orElse_}
 use Rattle.base.proofs.TestLaws.{and-left, and-right, and-of}
 use Rattle.base.proofs.FirstLaws.{when-none, or-else-none}
-use Rattle.model.specs.Map.{view, unused, live}
+use Rattle.model.specs.Map.{view, unused}
 use Rattle.model.specs.WellFormed.{WellFormed, wellFormed}
-use Rattle.model.specs.Scheme.{inForm, schemeOf}
+use Rattle.model.specs.Scheme.{schemeOf}
 use Rattle.model.specs.Match.{matches}
 use Rattle.model.specs.Edit.{addedDarts, dartOf, edited}
 use Rattle.model.specs.Rewriting.{Rewriting}
 use Rattle.model.specs.Answer.{number, values}
 use Rattle.model.specs.Site.{Site, Sound}
-use Rattle.model.specs.Calls.{bytesFault, fitFault, siteFault, siteDone, siteOf, storedOk, editFaultAt, editFault, editAnswer, editTable}
+use Rattle.model.specs.Calls.{bytesFault, firstDart, secondDart, takes, isDart, fitFault, siteFault, siteDone, siteOf, storedOk}
+use Rattle.model.specs.Calls.{editFaultAt, editFault, editAnswer, editTable}
 use Rattle.model.specs.Sequence.{Holds}
+use Rattle.model.specs.declared.Darts.{Darts}
 use Rattle.model.specs.declared.Answer.{Answer}
 use Rattle.model.specs.declared.Answer.the-variants.{NoMatch, NoRoom}
 use Rattle.model.proofs.SizeLaws.{sizes-iff}
@@ -34,12 +36,12 @@ use Rattle.model.proofs.AcceptedLaws.{accepted, no-fault}
 use Rattle.model.proofs.EditLaws.{Ready}
 use Rattle.model.proofs.RewritingLaws.{rewriting}
 use Rattle.model.proofs.RewritingOnce.{edit-once}
-use Rattle.model.proofs.CallLaws.{passed, ready, edit-table}
+use Rattle.model.proofs.CallLaws.{passed, darts-alone, ready, edit-table}
 use Rattle.model.proofs.HoldsLaws.{edit-holds}
 use Rattle.demands.specs.Refusals.{Orbit, siteOver, Matched}
 use Rattle.demands.specs.Demands.{counts, Admitted, Applicable, EditDone}
 use Rattle.demands.specs.Promises.{MapEdited}
-use Rattle.demands.proofs.FaultLaws.{orbit-of, site-one, matched-iff}
+use Rattle.demands.proofs.FaultLaws.{many-iff, taken-iff, darts-iff, orbit-of, site-one, matched-iff}
 use Rattle.demands.proofs.RefusalLaws.{within-test, bytes-within, fit-within, past, done-none}
 
 -- refusal 9 comes before 10
@@ -48,7 +50,7 @@ unfolding someIf _orElse_
 missed true r done f = absurd (f refl)
 missed false r done f = refl
 
-module _ (n N : ℕ) (t store b : List ℕ) (d : ℕ) where
+module _ (n N : ℕ) (t store b : List ℕ) (d : Darts) where
   abbrev E : Site
   E = siteOf N t b d
 
@@ -57,11 +59,11 @@ module _ (n N : ℕ) (t store b : List ℕ) (d : ℕ) where
   unfolding editFault editFaultAt siteFault bytesFault someIf _orElse_
   admitted-fault a = rw (
     and-of (sizes-iff n N t .1 (a .sizes)) (eq-eqb (length store) (16 * N) (a .stored)),
-    a .form,
+    taken-iff d b .1 (a .form, a .many),
     no-fault (schemeOf b) (a .accepted),
     eq-eqb (schemeOf b .n) n (a .dimension),
     wellFormed-iff n (view N t) .1 (a .well),
-    and-of (lt-ltb d N (a .dart .slot)) (eq-eqb (view N t .state d) 1 (a .dart .live)),
+    darts-iff N t d .1 (a .dart, a .other),
   )
 
   -- an answer that no refusal from 1 to 8 has says that none of them applies
@@ -81,20 +83,24 @@ module _ (n N : ℕ) (t store b : List ℕ) (d : ℕ) where
     unfolding editFault editFaultAt siteFault bytesFault
     admitted-by e =
         let p1 = by-test (storedOk n N t store) _ _ (omega arith) (omega arith) e in
-        let p2 = past k (bytesFault b) _ done (bytes-within b) (⊎-elim (λ z. inl (omega arith)) (λ l. inr (omega arith)) far) (p1 .1) in
+        let p2 = past k (bytesFault (takes d b) b) _ done (bytes-within (takes d b) b)
+        (⊎-elim (λ z. inl (omega arith)) (λ l. inr (omega arith)) far) (p1 .1) in
         let bytes = or-else-none _ _ (p2 .0) in
-        let form : inForm b ≡ true = passed _ _ (bytes .0) in
+        let taken = taken-iff d b .0 (passed _ _ (bytes .0)) in
         let p6 = by-test (eqb (schemeOf b .n) n) _ _ (omega arith) (omega arith) (p2 .1) in
         let p7 = by-test (wellFormed n (view N t)) _ _ (omega arith) (omega arith) (p6 .1) in
-        let p8 = by-test (ltb d N and live (view N t) d) _ _ (omega arith) (omega arith) (p7 .1) in (
+        let p8 = by-test (isDart (view N t) (firstDart d) and isDart (view N t) (secondDart d)) _ _ (omega arith) (omega arith) (p7 .1) in
+        let darts = darts-iff N t d .0 (p8 .0) in (
           record {
             sizes = sizes-iff n N t .0 (and-left _ _ (p1 .0));
             stored = eqb-true _ _ (and-right _ _ (p1 .0));
-            form = form;
-            accepted = accepted (schemeOf b) (shaped b form) (bytes .1);
+            form = taken .0;
+            many = taken .1;
+            accepted = accepted (schemeOf b) (shaped b (taken .0)) (bytes .1);
             dimension = eqb-true _ _ (p6 .0);
             well = wellFormed-iff n (view N t) .0 (p7 .0);
-            dart = record { slot = ltb-true _ _ (and-left _ _ (p8 .0)); live = eqb-true _ _ (and-right _ _ (p8 .0)) };
+            dart = darts .0;
+            other = darts .1;
           },
           p8 .1,
         )
@@ -104,11 +110,12 @@ module _ (n N : ℕ) (t store b : List ℕ) (d : ℕ) where
     sound = record {
       accepted = a .accepted;
       well = subst (λ (k : ℕ). WellFormed k (view N t)) (sym (a .dimension)) (a .well);
-      slot = a .dart .slot;
-      alive = a .dart .live;
+      dart = a .dart;
+      other = a .other;
+      alone = darts-alone d (schemeOf b) (many-iff d (schemeOf b) .1 (a .many));
     }
 
-    -- the laws of the match at this dart
+    -- the laws of the match at these darts
     is-matched : matches E ≡ true → Matched N t b d
     is-matched = matched-iff N t b d sound .0
 

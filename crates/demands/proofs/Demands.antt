@@ -56,7 +56,7 @@ demand1 = record {
 -- ---- demand 2
 
 module _ (b : List ℕ) where
-  scheme-free : (inForm b ≡ true) × Accepted (schemeOf b) → bytesFault b ≡ none
+  scheme-free : (inForm b ≡ true) × Accepted (schemeOf b) → bytesFault (inForm b) b ≡ none
   unfolding bytesFault someIf _orElse_
   scheme-free p = rw (p .0, accepted-iff (schemeOf b) (p .1 .shaped) .1 (p .1)) refl
 
@@ -64,7 +64,7 @@ module _ (b : List ℕ) where
   unfolding checkScheme bytesFault
   scheme-iff = (
     (λ e.
-        let parts = or-else-none _ _ (done-none (bytesFault b) Done (bytes-within b) (omega arith) e) in
+        let parts = or-else-none _ _ (done-none (bytesFault (inForm b) b) Done (bytes-within (inForm b) b) (omega arith) e) in
         let form = passed _ _ (parts .0) in
         (form, accepted-iff (schemeOf b) (shaped b form) .0 (parts .1))),
     (λ p. ap (λ (o : Option Answer). number (Option·getD o Done)) (scheme-free p)),

@@ -1,4 +1,4 @@
--- What the searches of refusals 3 to 5 and the test of refusal 9 find is what the rules of specs/Refusals.antt say.
+-- What the tests of refusals 2, 8 and 9 and the searches of refusals 3 to 5 find is what the rules of specs/Refusals.antt say.
 -- Assumes nothing.
 use Prim.Native.Nat.{ℕ, suc, _+_, _≤_, _<_}
 use mathlib.Core.Path.{_≡_, refl, sym, ap, _∙_, subst}
@@ -8,27 +8,31 @@ use mathlib.Core.Option.{Option, none, some}
 use mathlib.Core.List.{List}
 use native.Mathlib.Omega.{arith}
 use lib.Dec.{leb}
-use borrow.Author.Tests.{leb-true, le-leb}
+use borrow.Author.Tests.{leb-true, le-leb, ltb-true, lt-ltb, ltb-false, le-ltb, eq-eqb}
 use Rattle.base.specs.Test.{_and_}
 use Rattle.base.specs.First.{someIf, there, first, least}
 use Rattle.base.proofs.TestLaws.{and-left, and-right, and-of, brings, impossible}
 use Rattle.base.proofs.BelowLaws.{le-or-lt}
 use Rattle.base.proofs.FirstLaws.{when-at, when-none, or-else-cases, or-else-none, first-at, first-none, least-at, least-none}
-use Rattle.model.specs.Map.{view}
-use Rattle.model.specs.Scheme.{left, has, isHook, orbitDim, schemeOf}
+use Rattle.model.specs.Map.{Map, view}
+use Rattle.model.specs.Scheme.{left, has, firstHook, isHook, orbitDim, schemeOf}
 use Rattle.model.specs.Shaped.{Shaped}
 use Rattle.model.specs.Conditions.{pathTo, hookOk, hookFault, incidenceOk, incidenceFault, cycleOk, cycleFault}
 use Rattle.model.specs.Orbit.{orbit}
 use Rattle.model.specs.Match.{matches, Assignment}
-use Rattle.model.specs.Site.{Site, Sound}
-use Rattle.model.specs.Calls.{siteOf}
+use Rattle.model.specs.Site.{Site, LiveDart, Sound}
+use Rattle.model.specs.Calls.{firstDart, secondDart, asMany, takes, isDart, siteOf}
 use Rattle.model.specs.declared.Scheme.{Scheme}
+use Rattle.model.specs.declared.Darts.{Darts}
+use Rattle.model.specs.declared.Darts.the-variants.{One, Two}
 use Rattle.model.specs.declared.Answer.{Answer}
 use Rattle.model.specs.declared.Answer.the-variants.{BadCycle}
 use Rattle.model.proofs.HookLaws.{hook-iff, hook-below, found-reached, reached-found}
 use Rattle.model.proofs.OrbitLaws.{orbit-is, orbit-only}
 use Rattle.model.proofs.MatchIff.{match-iff}
-use Rattle.demands.specs.Refusals.{LeastNode, WrongHook, Unreached, HookFault, Offends, FirstPair, Orbit, siteOver, Matched}
+use Rattle.model.proofs.CallLaws.{live-dart}
+use Rattle.demands.specs.Refusals.{AsMany, Taken, LeastNode, WrongHook, Unreached, HookFault, Offends, FirstPair}
+use Rattle.demands.specs.Refusals.{LiveDarts, Orbit, siteOver, Matched}
 
 -- ---- tests
 
@@ -38,6 +42,33 @@ not-true false e = refl
 
 pub not-iff : (b : Bool) → (not b ≡ true) ↔ (b ≡ false)
 not-iff b = (not-true b, λ e. ap not e)
+
+-- ---- the bytes that an edit takes, and its darts
+
+pub many-iff : (d : Darts) (S : Scheme) → (asMany d S ≡ true) ↔ AsMany d S
+many-iff (One d) S = (
+  (λ e. let none = ltb-false firstHook (S .second) (not-true _ e) in omega arith),
+  (λ z. ap not (le-ltb firstHook (S .second) (omega arith))),
+)
+many-iff (Two d e) S = (
+  (λ e z. let more = ltb-true firstHook (S .second) e in omega arith),
+  (λ ne. ⊎-elim (λ z. absurd (ne (omega arith))) (λ more. lt-ltb firstHook (S .second) more) (le-or-lt (S .second) firstHook)),
+)
+
+pub taken-iff : (d : Darts) (b : List ℕ) → (takes d b ≡ true) ↔ Taken d b
+taken-iff d b = (
+  (λ e. (and-left _ _ e, many-iff d (schemeOf b) .0 (and-right _ _ e))),
+  (λ p. and-of (p .0) (many-iff d (schemeOf b) .1 (p .1))),
+)
+
+dart-iff : (m : Map) (x : ℕ) → (isDart m x ≡ true) ↔ LiveDart m x
+dart-iff m x = (live-dart m x, λ l. and-of (lt-ltb _ _ (l .slot)) (eq-eqb _ _ (l .alive)))
+
+pub darts-iff : (N : ℕ) (t : List ℕ) (d : Darts) → ((isDart (view N t) (firstDart d) and isDart (view N t) (secondDart d)) ≡ true) ↔ LiveDarts N t d
+darts-iff N t d = (
+  (λ e. (dart-iff (view N t) (firstDart d) .0 (and-left _ _ e), dart-iff (view N t) (secondDart d) .0 (and-right _ _ e))),
+  (λ p. and-of (dart-iff (view N t) (firstDart d) .1 (p .0)) (dart-iff (view N t) (secondDart d) .1 (p .1))),
+)
 
 -- ---- the least node that has a property
 
@@ -156,19 +187,19 @@ module _ (S : Scheme) where
 
 -- ---- the match
 
-module _ (N : ℕ) (t b : List ℕ) (d : ℕ) (g : Sound (siteOf N t b d)) where
+module _ (N : ℕ) (t b : List ℕ) (d : Darts) (g : Sound (siteOf N t b d)) where
   -- the computed orbit is the orbit
   pub orbit-of : Orbit N t b d (siteOf N t b d .orbit)
-  orbit-of = orbit-is (view N t) (schemeOf b .places) (orbitDim (schemeOf b)) d (schemeOf b .n) (g .well) (g .accepted .shaped .orbitDims)
-      (g .slot) (g .alive)
+  orbit-of = orbit-is (view N t) (schemeOf b .places) (orbitDim (schemeOf b)) (firstDart d) (schemeOf b .n) (g .well) (g .accepted .shaped .orbitDims)
+      (g .dart .slot) (g .dart .alive)
 
   -- so that the site over any other is the same
   pub site-one : {O : ℕ → Bool} → Orbit N t b d O → siteOver N t b d O ≡ siteOf N t b d
-  site-one o = ap (siteOver N t b d) (orbit-only (view N t) (schemeOf b .places) (orbitDim (schemeOf b)) d o orbit-of)
+  site-one o = ap (siteOver N t b d) (orbit-only (view N t) (schemeOf b .places) (orbitDim (schemeOf b)) (firstDart d) o orbit-of)
 
   pub matched-iff : (matches (siteOf N t b d) ≡ true) ↔ Matched N t b d
   matched-iff =
-      let found = match-iff (view N t) (schemeOf b) d g in (
+      let found = match-iff (view N t) (schemeOf b) (firstDart d) (secondDart d) g in (
         (λ q. let f = found .0 q in record { orbit = siteOf N t b d .orbit; isOrbit = orbit-of; dart = f .0; assigned = f .1 }),
         (λ m. found .1 (m .dart, subst (λ (E : Site). Assignment E (m .dart)) (site-one (m .isOrbit)) (m .assigned))),
       )

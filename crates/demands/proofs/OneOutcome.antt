@@ -4,6 +4,7 @@ use Prim.Native.Nat.{ℕ}
 use mathlib.Core.Path.{_≡_, sym, _∙_}
 use mathlib.Core.List.{List}
 use Rattle.model.specs.Answer.{Answers}
+use Rattle.model.specs.declared.Darts.{Darts}
 use Rattle.model.specs.declared.Answer.{Answer}
 use Rattle.model.proofs.AnswerLaws.{answers-same}
 use Rattle.demands.specs.Promises.{TableChecked, SchemeChecked, MapEdited, FileLoaded, FileWritten}
@@ -17,7 +18,7 @@ one-table-check p q = one-answer (p .answer) (q .answer)
 pub one-scheme-check : {b : List ℕ} {r r₂ : Answer} → SchemeChecked b r → SchemeChecked b r₂ → r ≡ r₂
 one-scheme-check p q = one-answer (p .answer) (q .answer)
 
-pub one-edit : {n N : ℕ} {t store b : List ℕ} {d : ℕ} {r r₂ : Answer} {t′ t₂ store′ store₂ : List ℕ}
+pub one-edit : {n N : ℕ} {t store b : List ℕ} {d : Darts} {r r₂ : Answer} {t′ t₂ store′ store₂ : List ℕ}
     → MapEdited n N t store b d r t′ store′ → MapEdited n N t store b d r₂ t₂ store₂ → (r ≡ r₂) × (t′ ≡ t₂) × (store′ ≡ store₂)
 one-edit p q = (one-answer (p .answer) (q .answer), p .table ∙ sym (q .table), p .cleared ∙ sym (q .cleared))
 

@@ -9,12 +9,11 @@ use mathlib.Core.List.{List, [], _∷_}
 use lib.ListN.{length}
 use lib.Dec.{eqb, ltb}
 use borrow.Author.Tests.{eqb-true, eq-eqb, ltb-true, lt-ltb}
-use Rattle.base.specs.Test.{_and_}
 use Rattle.base.specs.Below.{countBelow}
 use Rattle.base.specs.First.{someIf, _orElse_}
 use Rattle.base.proofs.TestLaws.{and-left, and-right, and-of}
 use Rattle.base.proofs.FirstLaws.{or-else-last}
-use Rattle.model.specs.Map.{view, unused, live}
+use Rattle.model.specs.Map.{view, unused}
 use Rattle.model.specs.WellFormed.{WellFormed}
 use Rattle.model.specs.Scheme.{inForm, schemeOf}
 use Rattle.model.specs.Accepted.{Accepted}
@@ -23,19 +22,21 @@ use Rattle.model.specs.Edit.{addedDarts}
 use Rattle.model.specs.File.{file, fileForm}
 use Rattle.model.specs.Answer.{number, values}
 use Rattle.model.specs.Site.{Site, Sound}
-use Rattle.model.specs.Calls.{Sizes, sizesOk, mapFault, tableFault, checkTable, bytesFault, checkScheme, fitFault, siteFault, siteDone, siteOf, storedOk}
-use Rattle.model.specs.Calls.{editFaultAt, editFault, editAnswer, loadFaultAt, loadFault, loadAnswer, writeFaultAt, writeFault, writeAnswer}
+use Rattle.model.specs.Calls.{Sizes, sizesOk, mapFault, tableFault, checkTable, bytesFault, checkScheme, takes, fitFault, siteFault, siteDone}
+use Rattle.model.specs.Calls.{siteOf, storedOk, editFaultAt, editFault, editAnswer, loadFaultAt, loadFault, loadAnswer, writeFaultAt, writeFault, writeAnswer}
+use Rattle.model.specs.declared.Darts.{Darts}
 use Rattle.model.specs.declared.Answer.{Answer}
 use Rattle.model.specs.declared.Answer.the-variants.{Done, BadHook, BadIncidence}
 use Rattle.model.proofs.WellFormedLaws.{wellFormed-iff}
 use Rattle.model.proofs.SizeLaws.{sizes-iff}
 use Rattle.model.proofs.SchemeLaws.{shaped}
 use Rattle.model.proofs.AcceptedLaws.{accepted, noted-at, noted-none}
+use Rattle.model.proofs.CallLaws.{darts-alone}
 use Rattle.demands.specs.Refusals.{Refusal, bare, FirstOf, Nothing, hookRefusal, incidenceRefusal, cycleRefusal, schemeRefusals}
-use Rattle.demands.specs.Refusals.{Matched, Crowded, Dart, tableRefusals, editRefusals, loadRefusals, writeRefusals}
+use Rattle.demands.specs.Refusals.{Matched, Crowded, tableRefusals, editRefusals, loadRefusals, writeRefusals}
 use Rattle.demands.specs.Demands.{Counted}
 use Rattle.demands.proofs.FaultLaws.{hook-found, hook-nowhere, incidence-found, incidence-nowhere, cycle-found, cycle-nowhere}
-use Rattle.demands.proofs.FaultLaws.{orbit-of, site-one, matched-iff}
+use Rattle.demands.proofs.FaultLaws.{many-iff, taken-iff, darts-iff, orbit-of, site-one, matched-iff}
 
 -- ---- one refusal of a chain
 
@@ -103,13 +104,15 @@ module _ (b : List ℕ) (l : List Refusal) (D : List ℕ → Type 0) (o : Option
       (λ e v g. cycle-nowhere S e (g .0) (g .1) (g .2) (g .3))
       (λ noCycle. r (rw (noHook, noIncidence) noCycle)))))
 
-  pub bytes-order : (inForm b ≡ true → Accepted (schemeOf b) → FirstOf l D (Option·getD o done))
-      → FirstOf (schemeRefusals b l) D (Option·getD (bytesFault b orElse o) done)
+  -- 2 is given for bytes that are not as P asks, which is the form at least
+  pub bytes-order : {P : Type 0} (taken : Bool) → (taken ≡ true) ↔ P → (P → inForm b ≡ true)
+      → (P → Accepted (schemeOf b) → FirstOf l D (Option·getD o done))
+      → FirstOf (schemeRefusals P b l) D (Option·getD (bytesFault taken b orElse o) done)
   unfolding bytesFault
-  bytes-order r =
-      subst (λ (c : Option Answer). FirstOf (schemeRefusals b l) D (Option·getD c done)) (sym (regroup _ (schemeFault (schemeOf b)) o))
-      (order-test 2 _ D (inForm b) (itself (inForm b)) _ _ done refl refl
-      (λ form. conditions-order form (λ e. r form (accepted (schemeOf b) (shaped b form) e))))
+  bytes-order {P} taken is form r =
+      subst (λ (c : Option Answer). FirstOf (schemeRefusals P b l) D (Option·getD c done)) (sym (regroup _ (schemeFault (schemeOf b)) o))
+      (order-test 2 _ D taken is _ _ done refl refl
+      (λ p. conditions-order (form p) (λ e. r p (accepted (schemeOf b) (shaped b (form p)) e))))
 
 -- ---- the calls
 
@@ -129,10 +132,11 @@ module _ (n N : ℕ) (t : List ℕ) where
   table-order = subst (λ (c : Option Answer). FirstOf (tableRefusals n N t []) Nothing (Option·getD c Done)) (or-else-last (tableFault n N t))
       (table-chain [] Nothing none Done (λ s w. (refl, refl)))
 
-pub scheme-order : (b : List ℕ) → FirstOf (schemeRefusals b []) Nothing (checkScheme b)
+pub scheme-order : (b : List ℕ) → FirstOf (schemeRefusals (inForm b ≡ true) b []) Nothing (checkScheme b)
 unfolding checkScheme FirstOf
-scheme-order b = subst (λ (c : Option Answer). FirstOf (schemeRefusals b []) Nothing (Option·getD c Done)) (or-else-last (bytesFault b))
-    (bytes-order b [] Nothing none Done (λ f a. (refl, refl)))
+scheme-order b = subst (λ (c : Option Answer). FirstOf (schemeRefusals (inForm b ≡ true) b []) Nothing (Option·getD c Done))
+    (or-else-last (bytesFault (inForm b) b))
+    (bytes-order b [] Nothing none Done (inForm b) (itself (inForm b)) (λ f. f) (λ f a. (refl, refl)))
 
 module _ (n N : ℕ) (t b : List ℕ) where
   pub load-order : FirstOf (loadRefusals n N t b) Nothing (loadAnswer n N t b)
@@ -146,17 +150,11 @@ module _ (n N : ℕ) (t out : List ℕ) where
   write-order = table-chain n N t _ _ _ _ (λ s w. order-found 12 _ (ltb (length out) (length (file n (view N t))))
       ((λ e. ltb-true _ _ e), (λ e. lt-ltb _ _ e)) _ _ refl refl (λ no. (refl, refl)))
 
-module _ (n N : ℕ) (t store b : List ℕ) (d : ℕ) where
+module _ (n N : ℕ) (t store b : List ℕ) (d : Darts) where
   sizes-store : (storedOk n N t store ≡ true) ↔ (Sizes n N t × (length store ≡ 16 * N))
   sizes-store = (
     (λ e. (sizes-iff n N t .0 (and-left _ _ e), eqb-true _ _ (and-right _ _ e))),
     (λ p. and-of (sizes-iff n N t .1 (p .0)) (eq-eqb _ _ (p .1))),
-  )
-
-  dart-iff : ((ltb d N and live (view N t) d) ≡ true) ↔ Dart N t d
-  dart-iff = (
-    (λ e. record { slot = ltb-true _ _ (and-left _ _ e); live = eqb-true _ _ (and-right _ _ e) }),
-    (λ p. and-of (lt-ltb _ _ (p .slot)) (eq-eqb _ _ (p .live))),
   )
 
   dimension-iff : (eqb (schemeOf b .n) n ≡ true) ↔ (schemeOf b .n ≡ n)
@@ -179,13 +177,14 @@ module _ (n N : ℕ) (t store b : List ℕ) (d : ℕ) where
   pub edit-order : FirstOf (editRefusals n N t store b d) (Counted N t b d) (editAnswer n N t store b d)
   unfolding editAnswer editFault editFaultAt siteFault
   edit-order = order-test 1 _ (Counted N t b d) _ sizes-store _ _ _ refl refl
-      (λ s. bytes-order b _ (Counted N t b d) _ _
-      (λ form a. order-test 6 _ (Counted N t b d) _ dimension-iff _ _ _ refl refl
+      (λ s. bytes-order b _ (Counted N t b d) _ _ (takes d b) (taken-iff d b) (λ taken. taken .0)
+      (λ taken a. order-test 6 _ (Counted N t b d) _ dimension-iff _ _ _ refl refl
       (λ same. order-test 7 _ (Counted N t b d) _ (wellFormed-iff n (view N t)) _ _ _ refl refl
-      (λ w. order-test 8 _ (Counted N t b d) _ dart-iff _ _ _ refl refl
+      (λ w. order-test 8 _ (Counted N t b d) _ (darts-iff N t d) _ _ _ refl refl
       (λ p. fit-order (record {
         accepted = a;
         well = subst (λ (k : ℕ). WellFormed k (view N t)) (sym same) w;
-        slot = p .slot;
-        alive = p .live;
+        dart = p .0;
+        other = p .1;
+        alone = darts-alone d (schemeOf b) (many-iff d (schemeOf b) .1 (taken .1));
       }))))))

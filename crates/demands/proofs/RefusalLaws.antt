@@ -16,11 +16,12 @@ use Rattle.model.specs.Conditions.{hookFault, incidenceFault, cycleFault, schem
 use Rattle.model.specs.Edit.{edited}
 use Rattle.model.specs.File.{fileForm, fileMap}
 use Rattle.model.specs.Site.{Site}
-use Rattle.model.specs.Calls.{zeros, sizesOk, mapFault, tableFault, bytesFault, fitFault, siteFault, siteOf, storedOk}
+use Rattle.model.specs.Calls.{zeros, sizesOk, mapFault, tableFault, bytesFault, fitFault, siteFault, siteOf, storedOk, takes}
 use Rattle.model.specs.Calls.{siteDone, editFaultAt, editFault, editAnswer, editTable, editStore}
 use Rattle.model.specs.Calls.{loadFaultAt, loadFault, loadAnswer, loaded, loadTable, writeFaultAt, writeFault, writeAnswer, writeOut}
 use Rattle.model.proofs.HoldsLaws.{load-table}
 use Rattle.model.specs.declared.Scheme.{Scheme}
+use Rattle.model.specs.declared.Darts.{Darts}
 use Rattle.model.specs.declared.Answer.{Answer}
 use Rattle.model.specs.declared.Answer.the-variants.{Done, BadCall, BadForm, BadHook, BadIncidence, BadFile}
 
@@ -67,9 +68,9 @@ cycle-number S a e =
     let at-j = first-at _ _ a (at-i .2) in
     ap number (sym (when-at _ (at-j .2) .1))
 
-pub bytes-within : (b : List ℕ) → Within 2 5 (bytesFault b)
+pub bytes-within : (taken : Bool) (b : List ℕ) → Within 2 5 (bytesFault taken b)
 unfolding bytesFault schemeFault
-bytes-within b = within-or 2 5 _ _ (within-test 2 5 _ BadForm (omega arith) (omega arith)) (within-or 2 5 _ _
+bytes-within taken b = within-or 2 5 _ _ (within-test 2 5 _ BadForm (omega arith) (omega arith)) (within-or 2 5 _ _
     (within-noted 2 5 BadHook (hookFault (schemeOf b)) (λ v. (omega arith, omega arith))) (within-or 2 5 _ _
     (within-noted 2 5 BadIncidence (incidenceFault (schemeOf b)) (λ v. (omega arith, omega arith)))
     (record {
@@ -125,14 +126,14 @@ module _ (s : Bool) (rest : Option Answer) (done : Answer) (k : ℕ) (w : Within
 
 -- ---- an edit
 
-module _ (n N : ℕ) (t store b : List ℕ) (d : ℕ) where
+module _ (n N : ℕ) (t store b : List ℕ) (d : Darts) where
   -- the refusals behind the first
   editRest : Option Answer
-  editRest = bytesFault b orElse siteFault n (siteOf N t b d)
+  editRest = bytesFault (takes d b) b orElse siteFault n (siteOf N t b d)
 
   edit-rest : Within 2 10 editRest
   unfolding editRest siteFault
-  edit-rest = within-or 2 10 _ _ (within-more 2 5 (omega arith) (omega arith) (bytes-within b))
+  edit-rest = within-or 2 10 _ _ (within-more 2 5 (omega arith) (omega arith) (bytes-within (takes d b) b))
       (within-or 2 10 _ _ (within-test 2 10 _ _ (omega arith) (omega arith)) (within-or 2 10 _ _ (within-test 2 10 _ _ (omega arith) (omega arith))
       (within-or 2 10 _ _ (within-test 2 10 _ _ (omega arith) (omega arith)) (within-more 9 10 (omega arith) (omega arith) (fit-within (siteOf N t b d))))))
 

@@ -17,8 +17,10 @@ use Rattle.model.specs.Map.{Link, Tag, fieldAt, put, tableOf}
 use Rattle.model.specs.Edit.{edited}
 use Rattle.model.specs.Answer.{number, values}
 use Rattle.model.specs.File.{darts, slotAt}
-use Rattle.model.specs.Calls.{checkTable, editFault, editAnswer, editTable, editStore, loadAnswer, loadTable}
+use Rattle.model.specs.Calls.{checkTable, firstDart, editFault, editAnswer, editTable, editStore, loadAnswer, loadTable}
 use Rattle.model.specs.Sequence.{Request, tableCheck, schemeCheck, edit, load, write, Outcome, fileOf, knownAfter}
+use Rattle.model.specs.declared.Darts.{Darts}
+use Rattle.model.specs.declared.Darts.the-variants.{One}
 use Rattle.model.specs.declared.Answer.{Answer}
 use Rattle.model.specs.declared.Answer.the-variants.{Done, Edited, BadCall, BadTable}
 use Rattle.model.proofs.Computes.{computes}
@@ -49,7 +51,7 @@ refusing = record {
 }
 
 -- ours, but for what edits and loads answer and how they leave the table
-module _ (answer : ℕ → ℕ → List ℕ → List ℕ → List ℕ → ℕ → Answer) (table : ℕ → ℕ → List ℕ → List ℕ → List ℕ → ℕ → List ℕ)
+module _ (answer : ℕ → ℕ → List ℕ → List ℕ → List ℕ → Darts → Answer) (table : ℕ → ℕ → List ℕ → List ℕ → List ℕ → Darts → List ℕ)
     (loadsAs : ℕ → ℕ → List ℕ → List ℕ → Answer) (leaves : ℕ → ℕ → List ℕ → List ℕ → List ℕ) where
   abbrev pub changed : Kernel
   changed = record {
@@ -66,7 +68,7 @@ module _ (answer : ℕ → ℕ → List ℕ → List ℕ → List ℕ → ℕ �
   }
 
 -- but for edits alone
-abbrev pub editing : (answer : ℕ → ℕ → List ℕ → List ℕ → List ℕ → ℕ → Answer) (table : ℕ → ℕ → List ℕ → List ℕ → List ℕ → ℕ → List ℕ) → Kernel
+abbrev pub editing : (answer : ℕ → ℕ → List ℕ → List ℕ → List ℕ → Darts → Answer) (table : ℕ → ℕ → List ℕ → List ℕ → List ℕ → Darts → List ℕ) → Kernel
 editing answer table = changed answer table loadAnswer loadTable
 
 -- but for loads alone
@@ -81,9 +83,9 @@ fixed = editing (λ n N t store b d. Edited 2 2 0) editTable
 abbrev pub idle : Kernel
 idle = editing editAnswer (λ n N t store b d. t)
 
--- an edit rewrites as if the dart were its whole orbit
+-- an edit rewrites as if the first dart were its whole orbit
 abbrev pub first-only : Kernel
-first-only = editing editAnswer (λ n N t store b d. cond (there (editFault n N t store b d)) t (tableOf (edited (siteOver N t b d (eqb d)))))
+first-only = editing editAnswer (λ n N t store b d. cond (there (editFault n N t store b d)) t (tableOf (edited (siteOver N t b d (eqb (firstDart d))))))
 
 -- an edit that is done counts one of each
 abbrev pub inventing : Kernel
@@ -99,37 +101,37 @@ leaving = loading loadAnswer (λ n N t b. put (loadTable n N t b) Tag 7 (fieldAt
 
 -- ---- the samples
 
-p8-answer : editAnswer 2 8 e8 store8 vBytes 0 ≡ Edited 2 2 0
+p8-answer : editAnswer 2 8 e8 store8 vBytes (One 0) ≡ Edited 2 2 0
 unfolding computes
 p8-answer = refl
 
-p8-table : editTable 2 8 e8 store8 vBytes 0 ≡ vDarts ++ unusedSlots 4
+p8-table : editTable 2 8 e8 store8 vBytes (One 0) ≡ vDarts ++ unusedSlots 4
 unfolding computes
 p8-table = refl
 
-p10-answer : editAnswer 2 8 e8 store8 wBytes 0 ≡ Edited 1 0 0
+p10-answer : editAnswer 2 8 e8 store8 wBytes (One 0) ≡ Edited 1 0 0
 unfolding computes
 p10-answer = refl
 
 -- no refusal applies to either
-p8-applies : Applicable 2 8 e8 store8 vBytes 0
-p8-applies = free-applicable 2 8 e8 store8 vBytes 0 (ap number p8-answer)
+p8-applies : Applicable 2 8 e8 store8 vBytes (One 0)
+p8-applies = free-applicable 2 8 e8 store8 vBytes (One 0) (ap number p8-answer)
 
-p10-applies : Applicable 2 8 e8 store8 wBytes 0
-p10-applies = free-applicable 2 8 e8 store8 wBytes 0 (ap number p10-answer)
+p10-applies : Applicable 2 8 e8 store8 wBytes (One 0)
+p10-applies = free-applicable 2 8 e8 store8 wBytes (One 0) (ap number p10-answer)
 
 -- what demand 2 asks of an edit at P8 and at P10
 module _ (K : Kernel) (D : Demand2 K) where
-  p8-done : (r : Answer) (t′ store′ : List ℕ) → K .Edit 2 8 e8 store8 vBytes 0 r t′ store′
+  p8-done : (r : Answer) (t′ store′ : List ℕ) → K .Edit 2 8 e8 store8 vBytes (One 0) r t′ store′
       → (number r ≡ 0) × (values r ≡ values (Edited 2 2 0)) × (t′ ≡ vDarts ++ unusedSlots 4)
   p8-done r t′ store′ p =
-      let e = D .edits 2 8 e8 store8 vBytes 0 r t′ store′ p p8-applies in
-      let is = done-is 2 8 e8 store8 vBytes 0 p8-applies r t′ e in
+      let e = D .edits 2 8 e8 store8 vBytes (One 0) r t′ store′ p p8-applies in
+      let is = done-is 2 8 e8 store8 vBytes (One 0) p8-applies r t′ e in
       (e .done, is .0 ∙ ap values p8-answer, is .1 ∙ p8-table)
 
-  p10-values : (r : Answer) (t′ store′ : List ℕ) → K .Edit 2 8 e8 store8 wBytes 0 r t′ store′ → values r ≡ values (Edited 1 0 0)
+  p10-values : (r : Answer) (t′ store′ : List ℕ) → K .Edit 2 8 e8 store8 wBytes (One 0) r t′ store′ → values r ≡ values (Edited 1 0 0)
   p10-values r t′ store′ p =
-      done-is 2 8 e8 store8 wBytes 0 p10-applies r t′ (D .edits 2 8 e8 store8 wBytes 0 r t′ store′ p p10-applies) .0 ∙ ap values p10-answer
+      done-is 2 8 e8 store8 wBytes (One 0) p10-applies r t′ (D .edits 2 8 e8 store8 wBytes (One 0) r t′ store′ p p10-applies) .0 ∙ ap values p10-answer
 
 -- ---- none of the kernels meets demand 2
 
@@ -149,7 +151,7 @@ unfolding fieldAt
 not-idle D = let link : _≡_ {A = ℕ} 1 2 = ap (λ (t : List ℕ). fieldAt t (Link 0) 0) (p8-done idle D _ e8 _ (refl, refl, refl) .2) in omega arith
 
 -- dart 1, the second of the orbit, is as it was
-first-table : cond (there (editFault 2 8 e8 store8 vBytes 0)) e8 (tableOf (edited (siteOver 8 e8 vBytes 0 (eqb 0)))) ≡ vDarts ++ unusedSlots 4 → ⊥
+first-table : cond (there (editFault 2 8 e8 store8 vBytes (One 0))) e8 (tableOf (edited (siteOver 8 e8 vBytes (One 0) (eqb 0)))) ≡ vDarts ++ unusedSlots 4 → ⊥
 unfolding computes
 first-table e = let link : _≡_ {A = ℕ} 0 3 = ap (λ (t : List ℕ). fieldAt t (Link 0) 1) e in omega arith
 

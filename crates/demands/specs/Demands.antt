@@ -13,18 +13,19 @@ use Rattle.model.specs.Map.{Map, Field, State, Link, Tag, fieldAt, tableSize, v
 use Rattle.model.specs.WellFormed.{WellFormed}
 use Rattle.model.specs.Scheme.{inForm, schemeOf}
 use Rattle.model.specs.Accepted.{Accepted}
-use Rattle.model.specs.Site.{Site}
+use Rattle.model.specs.Site.{Site, LiveDart}
 use Rattle.model.specs.Edit.{orbitSize, addedDarts, deletedDarts}
 use Rattle.model.specs.Rewriting.{Rewriting}
 use Rattle.model.specs.File.{file, darts, slotAt, tagAt, linkAt}
 use Rattle.model.specs.Answer.{number, values}
-use Rattle.model.specs.Calls.{Sizes}
+use Rattle.model.specs.Calls.{Sizes, firstDart, secondDart}
 use Rattle.model.specs.Sequence.{Holds, AlikeTables}
+use Rattle.model.specs.declared.Darts.{Darts}
 use Rattle.model.specs.declared.Answer.{Answer}
 use Rattle.demands.specs.Kernel.{Kernel}
 use Rattle.demands.specs.Runs.{AlikeRuns}
 use Rattle.demands.specs.Refusals.{FirstOf, Nothing, tableRefusals, schemeRefusals, editRefusals, loadRefusals, writeRefusals}
-use Rattle.demands.specs.Refusals.{Orbit, siteOver, Matched, Dart}
+use Rattle.demands.specs.Refusals.{AsMany, Orbit, siteOver, Matched}
 
 -- ---- demand 1
 
@@ -33,8 +34,8 @@ abbrev pub counts : Site → List ℕ
 counts E = orbitSize E ∷ addedDarts E ∷ deletedDarts E ∷ []
 
 -- what an edit that is done returns
-abbrev pub Counted : ℕ → List ℕ → List ℕ → ℕ → List ℕ → Type 0
-Counted N t b d v = (O : ℕ → Bool) × Orbit N t b d O × (v ≡ counts (siteOver N t b d O))
+abbrev pub Counted : ℕ → List ℕ → List ℕ → Darts → List ℕ → Type 0
+Counted N t b D v = (O : ℕ → Bool) × Orbit N t b D O × (v ≡ counts (siteOver N t b D O))
 
 -- the table t′ holds the records of a file's bytes b, and nothing else
 pub record Filed (n N : ℕ) (b t′ : List ℕ) : Type 0 where
@@ -50,18 +51,18 @@ pub record Filed (n N : ℕ) (b t′ : List ℕ) : Type 0 where
 pub record Demand1 (K : Kernel) : Type 0 where
   -- every call answers with the refusal that the order of docs/RULES.md puts first, with its values, and is done where none applies
   pub tableOrder : (n N : ℕ) (t : List ℕ) (r : Answer) → K .TableCheck n N t r → FirstOf (tableRefusals n N t []) Nothing r
-  pub schemeOrder : (b : List ℕ) (r : Answer) → K .SchemeCheck b r → FirstOf (schemeRefusals b []) Nothing r
-  pub editOrder : (n N : ℕ) (t store b : List ℕ) (d : ℕ) (r : Answer) (t′ store′ : List ℕ) → K .Edit n N t store b d r t′ store′
-      → FirstOf (editRefusals n N t store b d) (Counted N t b d) r
+  pub schemeOrder : (b : List ℕ) (r : Answer) → K .SchemeCheck b r → FirstOf (schemeRefusals (inForm b ≡ true) b []) Nothing r
+  pub editOrder : (n N : ℕ) (t store b : List ℕ) (D : Darts) (r : Answer) (t′ store′ : List ℕ) → K .Edit n N t store b D r t′ store′
+      → FirstOf (editRefusals n N t store b D) (Counted N t b D) r
   pub loadOrder : (n N : ℕ) (t b : List ℕ) (r : Answer) (t′ : List ℕ) → K .Load n N t b r t′ → FirstOf (loadRefusals n N t b) Nothing r
   pub writeOrder : (n N : ℕ) (t out : List ℕ) (r : Answer) (out′ : List ℕ) → K .Write n N t out r out′
       → FirstOf (writeRefusals n N t out) (λ v. v ≡ length (file n (view N t)) ∷ []) r
   -- a refused edit changes no record; the store comes back zero, but after refusal 1 nothing at all is written
-  pub refusedEdit : (n N : ℕ) (t store b : List ℕ) (d : ℕ) (r : Answer) (t′ store′ : List ℕ) → K .Edit n N t store b d r t′ store′
+  pub refusedEdit : (n N : ℕ) (t store b : List ℕ) (D : Darts) (r : Answer) (t′ store′ : List ℕ) → K .Edit n N t store b D r t′ store′
       → (number r ≡ 0 → ⊥) → t′ ≡ t
-  pub editAfterOne : (n N : ℕ) (t store b : List ℕ) (d : ℕ) (r : Answer) (t′ store′ : List ℕ) → K .Edit n N t store b d r t′ store′
+  pub editAfterOne : (n N : ℕ) (t store b : List ℕ) (D : Darts) (r : Answer) (t′ store′ : List ℕ) → K .Edit n N t store b D r t′ store′
       → number r ≡ 1 → store′ ≡ store
-  pub editAfterOthers : (n N : ℕ) (t store b : List ℕ) (d : ℕ) (r : Answer) (t′ store′ : List ℕ) → K .Edit n N t store b d r t′ store′
+  pub editAfterOthers : (n N : ℕ) (t store b : List ℕ) (D : Darts) (r : Answer) (t′ store′ : List ℕ) → K .Edit n N t store b D r t′ store′
       → (number r ≡ 1 → ⊥) → store′ ≡ replicate (length store) 0
   -- a load refused with 1 leaves the table as it was, one refused with 11 leaves it all zero, and one that is done leaves the file's records
   pub loadAfterOne : (n N : ℕ) (t b : List ℕ) (r : Answer) (t′ : List ℕ) → K .Load n N t b r t′ → number r ≡ 1 → t′ ≡ t
@@ -72,33 +73,35 @@ pub record Demand1 (K : Kernel) : Type 0 where
 
 -- ---- demand 2
 
--- none of the refusals 1 to 8 of an edit applies
-pub record Admitted (n N : ℕ) (t store b : List ℕ) (d : ℕ) : Type 0 where
+-- none of the refusals 1 to 8 of an edit at a dart or two applies
+pub record Admitted (n N : ℕ) (t store b : List ℕ) (D : Darts) : Type 0 where
   pub sizes : Sizes n N t
   pub stored : length store ≡ 16 * N
   pub form : inForm b ≡ true
+  pub many : AsMany D (schemeOf b)
   pub accepted : Accepted (schemeOf b)
   pub dimension : schemeOf b .n ≡ n
   pub well : WellFormed n (view N t)
-  pub dart : Dart N t d
+  pub dart : LiveDart (view N t) (firstDart D)
+  pub other : LiveDart (view N t) (secondDart D)
 
 -- none of 1 to 10 applies
-pub record Applicable (n N : ℕ) (t store b : List ℕ) (d : ℕ) : Type 0 where
-  pub admitted : Admitted n N t store b d
-  pub match : Matched N t b d
-  pub room : addedDarts (siteOver N t b d (match .orbit)) ≤ countBelow N (unused (view N t))
+pub record Applicable (n N : ℕ) (t store b : List ℕ) (D : Darts) : Type 0 where
+  pub admitted : Admitted n N t store b D
+  pub match : Matched N t b D
+  pub room : addedDarts (siteOver N t b D (match .orbit)) ≤ countBelow N (unused (view N t))
 
 -- what an edit that is done comes to: the new table is that of a map that is the published rewriting of the old one, and no other rewriting has
 -- another table (`rewriting-once` of crates/model/proofs/RewritingOnce.antt); the answer counts the orbit, the added and the deleted darts
-pub record EditDone (n N : ℕ) (t b : List ℕ) (d : ℕ) (r : Answer) (t′ : List ℕ) : Type 0 where
+pub record EditDone (n N : ℕ) (t b : List ℕ) (D : Darts) (r : Answer) (t′ : List ℕ) : Type 0 where
   pub orbit : ℕ → Bool
-  pub isOrbit : Orbit N t b d orbit
+  pub isOrbit : Orbit N t b D orbit
   pub new : Map
   pub dart : ℕ → ℕ → ℕ
-  pub rewriting : Rewriting (siteOver N t b d orbit) new dart
+  pub rewriting : Rewriting (siteOver N t b D orbit) new dart
   pub table : t′ ≡ tableOf new
   pub done : number r ≡ 0
-  pub counted : values r ≡ counts (siteOver N t b d orbit)
+  pub counted : values r ≡ counts (siteOver N t b D orbit)
   pub well : Holds n N t′
 
 -- an accepted file: the kernel answers 0 to its load, and 0 to the check of the table that the load leaves
@@ -114,13 +117,13 @@ pub record Demand2 (K : Kernel) : Type 0 where
   -- a scheme is accepted exactly when it has the byte form and meets the conditions
   pub accepted : (b : List ℕ) (r : Answer) → K .SchemeCheck b r → (number r ≡ 0) ↔ ((inForm b ≡ true) × Accepted (schemeOf b))
   -- refusal 9 is given exactly when none of 1 to 8 applies and no assignment exists
-  pub noMatch : (n N : ℕ) (t store b : List ℕ) (d : ℕ) (r : Answer) (t′ store′ : List ℕ) → K .Edit n N t store b d r t′ store′
-      → (number r ≡ 9) ↔ (Admitted n N t store b d × (Matched N t b d → ⊥))
+  pub noMatch : (n N : ℕ) (t store b : List ℕ) (D : Darts) (r : Answer) (t′ store′ : List ℕ) → K .Edit n N t store b D r t′ store′
+      → (number r ≡ 9) ↔ (Admitted n N t store b D × (Matched N t b D → ⊥))
   -- where no refusal applies, and only there, an edit is done, and it is the published rewriting
-  pub edits : (n N : ℕ) (t store b : List ℕ) (d : ℕ) (r : Answer) (t′ store′ : List ℕ) → K .Edit n N t store b d r t′ store′
-      → Applicable n N t store b d → EditDone n N t b d r t′
-  pub onlyThen : (n N : ℕ) (t store b : List ℕ) (d : ℕ) (r : Answer) (t′ store′ : List ℕ) → K .Edit n N t store b d r t′ store′
-      → number r ≡ 0 → Applicable n N t store b d
+  pub edits : (n N : ℕ) (t store b : List ℕ) (D : Darts) (r : Answer) (t′ store′ : List ℕ) → K .Edit n N t store b D r t′ store′
+      → Applicable n N t store b D → EditDone n N t b D r t′
+  pub onlyThen : (n N : ℕ) (t store b : List ℕ) (D : Darts) (r : Answer) (t′ store′ : List ℕ) → K .Edit n N t store b D r t′ store′
+      → number r ≡ 0 → Applicable n N t store b D
   -- a well-formed map with room for its file is written; output beyond the file stays as it was
   pub written : (n N : ℕ) (t out : List ℕ) (r : Answer) (out′ : List ℕ) → K .Write n N t out r out′ → Holds n N t → length (file n (view N t)) ≤ length out
       → (number r ≡ 0) × (values r ≡ length (file n (view N t)) ∷ []) × (out′ ≡ file n (view N t) ++ drop (length (file n (view N t))) out)

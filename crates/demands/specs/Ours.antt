@@ -14,10 +14,10 @@ ours = record {
   Write = FileWritten;
   checksTable = λ n N t. (checkTable n N t, record { answer = record { sameNumber = refl; sameValues = refl } });
   checksScheme = λ b. (checkScheme b, record { answer = record { sameNumber = refl; sameValues = refl } });
-  edits = λ n N t store b d. (
-    editAnswer n N t store b d,
-    editTable n N t store b d,
-    editStore n N t store b d,
+  edits = λ n N t store b D. (
+    editAnswer n N t store b D,
+    editTable n N t store b D,
+    editStore n N t store b D,
     record { answer = record { sameNumber = refl; sameValues = refl }; table = refl; cleared = refl },
   );
   loads = λ n N t b. (loadAnswer n N t b, loadTable n N t b, record { answer = record { sameNumber = refl; sameValues = refl }; table = refl });

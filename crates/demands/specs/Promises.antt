@@ -1,5 +1,5 @@
 -- What each call promises: its answer, and the final content of every buffer that it may change, for all inputs.
--- r is the answer, and t′, store′, out′ are what table, store and output hold afterwards.
+-- D is the dart or the two darts of an edit, r is the answer, and t′, store′, out′ are what table, store and output hold afterwards.
 -- The promises are the calls' `ensures`; any two outcomes that one of them allows are equal (proofs/OneOutcome.antt).
 -- Assumes nothing.
 use Prim.Native.Nat.{ℕ}
@@ -7,6 +7,7 @@ use mathlib.Core.Path.{_≡_}
 use mathlib.Core.List.{List}
 use Rattle.model.specs.Answer.{Answers}
 use Rattle.model.specs.Calls.{checkTable, checkScheme, editAnswer, editTable, editStore, loadAnswer, loadTable, writeAnswer, writeOut}
+use Rattle.model.specs.declared.Darts.{Darts}
 use Rattle.model.specs.declared.Answer.{Answer}
 
 pub record TableChecked (n N : ℕ) (t : List ℕ) (r : Answer) : Type 0 where
@@ -15,10 +16,10 @@ pub record TableChecked (n N : ℕ) (t : List ℕ) (r : Answer) : Type 0 where
 pub record SchemeChecked (b : List ℕ) (r : Answer) : Type 0 where
   pub answer : Answers r (checkScheme b)
 
-pub record MapEdited (n N : ℕ) (t store b : List ℕ) (d : ℕ) (r : Answer) (t′ store′ : List ℕ) : Type 0 where
-  pub answer : Answers r (editAnswer n N t store b d)
-  pub table : t′ ≡ editTable n N t store b d
-  pub cleared : store′ ≡ editStore n N t store b d
+pub record MapEdited (n N : ℕ) (t store b : List ℕ) (D : Darts) (r : Answer) (t′ store′ : List ℕ) : Type 0 where
+  pub answer : Answers r (editAnswer n N t store b D)
+  pub table : t′ ≡ editTable n N t store b D
+  pub cleared : store′ ≡ editStore n N t store b D
 
 pub record FileLoaded (n N : ℕ) (t b : List ℕ) (r : Answer) (t′ : List ℕ) : Type 0 where
   pub answer : Answers r (loadAnswer n N t b)

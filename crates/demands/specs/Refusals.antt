@@ -10,16 +10,18 @@ use lib.ListN.{length}
 use Rattle.base.specs.Below.{countBelow}
 use Rattle.model.specs.Map.{view, unused}
 use Rattle.model.specs.WellFormed.{WellFormed}
-use Rattle.model.specs.Scheme.{left, orbitDim, has, isHook, inForm, schemeOf}
+use Rattle.model.specs.Scheme.{left, orbitDim, has, firstHook, isHook, inForm, schemeOf}
 use Rattle.model.specs.Conditions.{Hooked, Reached, incidenceOk, cycleOk}
 use Rattle.model.specs.Orbit.{IsOrbit}
-use Rattle.model.specs.Site.{Site, siteWith}
+use Rattle.model.specs.Site.{Site, siteWith, LiveDart}
 use Rattle.model.specs.Match.{Assignment}
 use Rattle.model.specs.Edit.{addedDarts}
 use Rattle.model.specs.File.{file, fileForm}
 use Rattle.model.specs.Answer.{number, values}
-use Rattle.model.specs.Calls.{Sizes}
+use Rattle.model.specs.Calls.{Sizes, firstDart, secondDart}
 use Rattle.model.specs.declared.Scheme.{Scheme}
+use Rattle.model.specs.declared.Darts.{Darts}
+use Rattle.model.specs.declared.Darts.the-variants.{One, Two}
 use Rattle.model.specs.declared.Answer.{Answer}
 
 -- ---- the first that applies
@@ -41,6 +43,17 @@ FirstOf (f ∷ l) Done r = ((number r ≡ f .number) × f .Given (values r)) ⊎
 abbrev pub Nothing : List ℕ → Type 0
 Nothing v = v ≡ []
 
+-- ---- 2: the bytes that an edit takes
+
+-- the scheme's hooks are as many as the call's darts: it has no second hook at one dart, where node 0 stands for it, and has one at two
+abbrev pub AsMany : Darts → Scheme → Type 0
+AsMany (One d) S = S .second ≡ firstHook
+AsMany (Two d e) S = S .second ≡ firstHook → ⊥
+
+-- the bytes are in the form, and their scheme has as many hooks as the call has darts
+abbrev pub Taken : Darts → List ℕ → Type 0
+Taken D b = (inForm b ≡ true) × AsMany D (schemeOf b)
+
 -- ---- 3 to 5: a scheme in the form
 
 -- s is the least of c nodes that has P
@@ -60,7 +73,7 @@ module _ (S : Scheme) where
     pub onLeft : has S left s ≡ true
     pub cut : Reached S s → ⊥
 
-  -- 0 if node 0, the hook, is wrong, else the least unreached node
+  -- node 0 if it is wrong, else the second hook if it is wrong, else the least unreached node; of two wrong hooks the least is node 0
   abbrev pub HookFault : ℕ → Type 0
   HookFault s = LeastNode (S .nodes) WrongHook s ⊎ (((h : ℕ) → isHook S h ≡ true → Hooked S h) × LeastNode (S .nodes) Unreached s)
 
@@ -85,20 +98,24 @@ module _ (S : Scheme) where
   abbrev pub cycleRefusal : Refusal
   cycleRefusal = record { number = 5; Given = λ v. (s : ℕ) × (i : ℕ) × (j : ℕ) × FirstPair s i j × (v ≡ s ∷ i ∷ j ∷ []) }
 
--- 2 to 5
-abbrev pub schemeRefusals : List ℕ → List Refusal → List Refusal
-schemeRefusals b l = bare 2 (inForm b ≡ true → ⊥) ∷ hookRefusal (schemeOf b) ∷ incidenceRefusal (schemeOf b) ∷ cycleRefusal (schemeOf b) ∷ l
+-- 2 to 5, where 2 is given for bytes that are not as P asks
+abbrev pub schemeRefusals : Type 0 → List ℕ → List Refusal → List Refusal
+schemeRefusals P b l = bare 2 (P → ⊥) ∷ hookRefusal (schemeOf b) ∷ incidenceRefusal (schemeOf b) ∷ cycleRefusal (schemeOf b) ∷ l
 
--- ---- 9 and 10: an accepted scheme at a live dart of a well-formed map
+-- ---- 8 to 10: an accepted scheme at a dart or two of a well-formed map
 
-module _ (N : ℕ) (t b : List ℕ) (d : ℕ) where
-  -- O is the set of darts reached from d by links of the orbit type
+-- both darts are live slots; an edit at one dart has that one twice
+abbrev pub LiveDarts : ℕ → List ℕ → Darts → Type 0
+LiveDarts N t D = LiveDart (view N t) (firstDart D) × LiveDart (view N t) (secondDart D)
+
+module _ (N : ℕ) (t b : List ℕ) (D : Darts) where
+  -- O is the set of darts reached from d, the first dart, by links of the orbit type
   abbrev pub Orbit : (ℕ → Bool) → Type 0
-  Orbit = IsOrbit (view N t) (schemeOf b .places) (orbitDim (schemeOf b)) d
+  Orbit = IsOrbit (view N t) (schemeOf b .places) (orbitDim (schemeOf b)) (firstDart D)
 
   -- the site of the edit, where O is the orbit
   abbrev pub siteOver : (ℕ → Bool) → Site
-  siteOver = siteWith (view N t) (schemeOf b) d
+  siteOver = siteWith (view N t) (schemeOf b) (firstDart D) (secondDart D)
 
   -- an assignment over O
   pub record Matched : Type 0 where
@@ -115,18 +132,13 @@ module _ (N : ℕ) (t b : List ℕ) (d : ℕ) where
 
 -- ---- the calls
 
--- a live slot
-pub record Dart (N : ℕ) (t : List ℕ) (d : ℕ) : Type 0 where
-  pub slot : d < N
-  pub live : view N t .state d ≡ 1
-
 abbrev pub tableRefusals : ℕ → ℕ → List ℕ → List Refusal → List Refusal
 tableRefusals n N t l = bare 1 (Sizes n N t → ⊥) ∷ bare 7 (WellFormed n (view N t) → ⊥) ∷ l
 
-abbrev pub editRefusals : ℕ → ℕ → List ℕ → List ℕ → List ℕ → ℕ → List Refusal
-editRefusals n N t store b d = bare 1 (Sizes n N t × (length store ≡ 16 * N) → ⊥)
-    ∷ schemeRefusals b (bare 6 (schemeOf b .n ≡ n → ⊥) ∷ bare 7 (WellFormed n (view N t) → ⊥) ∷ bare 8 (Dart N t d → ⊥)
-    ∷ bare 9 (Matched N t b d → ⊥) ∷ bare 10 (Crowded N t b d) ∷ [])
+abbrev pub editRefusals : ℕ → ℕ → List ℕ → List ℕ → List ℕ → Darts → List Refusal
+editRefusals n N t store b D = bare 1 (Sizes n N t × (length store ≡ 16 * N) → ⊥)
+    ∷ schemeRefusals (Taken D b) b (bare 6 (schemeOf b .n ≡ n → ⊥) ∷ bare 7 (WellFormed n (view N t) → ⊥) ∷ bare 8 (LiveDarts N t D → ⊥)
+    ∷ bare 9 (Matched N t b D → ⊥) ∷ bare 10 (Crowded N t b D) ∷ [])
 
 abbrev pub loadRefusals : ℕ → ℕ → List ℕ → List ℕ → List Refusal
 loadRefusals n N t b = bare 1 (Sizes n N t → ⊥) ∷ bare 11 (fileForm n N b ≡ true → ⊥) ∷ []

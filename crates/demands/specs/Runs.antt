@@ -14,7 +14,7 @@ use Rattle.demands.specs.Kernel.{Kernel}
 abbrev pub Allowed : Kernel → ℕ → ℕ → List ℕ → Request → List ℕ → Outcome → Type 0
 Allowed K n N t tableCheck l o = K .TableCheck n N t (o .answer) × (o .table ≡ t) × (o .lent ≡ l)
 Allowed K n N t (schemeCheck b) l o = K .SchemeCheck b (o .answer) × (o .table ≡ t) × (o .lent ≡ l)
-Allowed K n N t (edit b d) l o = K .Edit n N t l b d (o .answer) (o .table) (o .lent)
+Allowed K n N t (edit b D) l o = K .Edit n N t l b D (o .answer) (o .table) (o .lent)
 Allowed K n N t (load b) l o = K .Load n N t b (o .answer) (o .table) × (o .lent ≡ l)
 Allowed K n N t write l o = K .Write n N t l (o .answer) (o .lent) × (o .table ≡ t)
 

@@ -45,8 +45,8 @@ no-match {E} m e = let q : matches E ≡ false = sym (m .is) ∙ e in record { a
 
 -- ---- from one phase to the next
 
-abbrev pub at-site : {slots : ℕ} {t : List ℕ} {S : Scheme} {d : ℕ} → Sized slots t → Sound (siteAt (view slots t) S d) → At slots t
-at-site {S = S} {d = d} sized sound = record { scheme = S; dart = d; sized = sized; sound = sound }
+abbrev pub at-site : {slots : ℕ} {t : List ℕ} {S : Scheme} {d d₂ : ℕ} → Sized slots t → Sound (siteAt (view slots t) S d d₂) → At slots t
+at-site {S = S} {d = d} {d₂ = d₂} sized sound = record { scheme = S; dart = d; other = d₂; sized = sized; sound = sound }
 
 module _ {slots : ℕ} {t : List ℕ} (A : At slots t) where
   pub places-few : A .scheme .places ≤ 4
@@ -71,12 +71,21 @@ module _ {slots : ℕ} {t : List ℕ} (A : At slots t) where
     taken = o;
   }
 
-  -- the match can be looked for, along the tree of the scheme's left arcs; what fits goes on to its end
+  -- the match can be looked for, along the trees of the scheme's left arcs; what fits goes on to its end
   module _ {store : List ℕ} {size : ℕ} (w : Walking A store size) {p : Tree} (P : TreeOf (A .scheme) p) where
-    abbrev pub match-ready : (cols : List ℕ) → length cols ≡ 16
-        → C.Posed slots t store size (p .node) (p .parent) (p .dim) (p .size) (A .scheme .ltargets) cols
-    match-ready cols wide = record {
-      ready = record { at = A; walked = w .walked; taken = w .taken; rooted = rooted (A .scheme) (A .sound .accepted) p P };
+    abbrev pub match-ready : {k : ℕ} → k ≡ A .scheme .places → (cols : List ℕ) → length cols ≡ 16
+        → C.Posed slots t store size (A .scheme .orbit) k (A .other) (p .node) (p .parent) (p .dim) (p .roots) (p .size) (A .scheme .ltargets) cols
+    match-ready places cols wide = record {
+      ready = record {
+        at = A;
+        walked = w .walked;
+        taken = w .taken;
+        dimsAre = refl;
+        placesAre = places;
+        otherIs = refl;
+        rootsAre = P .rootsIs;
+      };
+      rooted = rooted (A .scheme) (A .sound .accepted) p P;
       coded = coded (A .scheme) (A .sound .accepted .shaped) left;
       colsLong = wide;
     }

@@ -1,4 +1,4 @@
--- The laws of `site::apply_at`: refusals 6 to 8, and what holds past them.
+-- The laws of `site::apply_at`: refusals 6 to 8, and what holds past them; and of `site::is_dart`.
 -- Assumes nothing.
 use Prim.Native.Nat.{ℕ, _-_, _≤_, _<_}
 use mathlib.Core.Path.{_≡_, refl, ap, _∙_}
@@ -14,14 +14,16 @@ use Rattle.base.specs.Below.{countBelow}
 use Rattle.base.specs.First.{someIf, _orElse_, there}
 use Rattle.base.proofs.TestLaws.{and-of}
 use Rattle.base.proofs.BelowLaws.{count-same, count-not}
-use Rattle.model.specs.Map.{view, live, unused}
+use Rattle.model.specs.Map.{Map, view, live, unused}
 use Rattle.model.specs.WellFormed.{wellFormed}
 use Rattle.model.specs.Accepted.{Accepted}
 use Rattle.model.specs.Site.{Site, Sound}
-use Rattle.model.specs.Calls.{siteFault}
+use Rattle.model.specs.Scheme.{hasSecond}
+use Rattle.model.specs.Calls.{isDart, siteFault}
 use Rattle.model.specs.declared.Answer.{Answer}
 use Rattle.model.specs.declared.Answer.the-variants.{OtherDimension, BadTable, NoDart}
 use Rattle.model.proofs.WellFormedLaws.{wellFormed-iff}
+use Rattle.model.proofs.CallLaws.{live-dart}
 use Rattle.edit.specs.Apply.{Settled, Applied, AppliedAt}
 
 -- an edit whose first fault is a leaves the table as it was
@@ -40,32 +42,35 @@ module _ {n : ℕ} {E : Site} {t : List ℕ} where
     bad-table w = refused (rw (eq-eqb (E .scheme .n) n same, w) refl)
 
     module _ (w : wellFormed n (E .map) ≡ true) where
-      pub dart-out : E .map .slots ≤ E .dart → AppliedAt n E t NoDart t
-      unfolding siteFault someIf _orElse_ _and_
-      dart-out h = refused (rw (eq-eqb (E .scheme .n) n same, w, le-ltb (E .dart) (E .map .slots) h) refl)
+      pub no-dart : (isDart (E .map) (E .dart) and isDart (E .map) (E .other)) ≡ false → AppliedAt n E t NoDart t
+      unfolding siteFault someIf _orElse_
+      no-dart e = refused (rw (eq-eqb (E .scheme .n) n same, w, e) refl)
 
-      module _ (slot : E .dart < E .map .slots) where
-        pub dart-dead : (s : ℕ) → s ≡ E .map .state (E .dart) → (s ≡ 1 → ⊥) → AppliedAt n E t NoDart t
-        unfolding siteFault someIf _orElse_ _and_
-        dart-dead s e h =
-            let z : live (E .map) (E .dart) ≡ false = ne-eqb (E .map .state (E .dart)) 1 (λ y. h (e ∙ y)) in
-            refused (rw (eq-eqb (E .scheme .n) n same, w, lt-ltb (E .dart) (E .map .slots) slot, z) refl)
+      pub applied : isDart (E .map) (E .dart) ≡ true → isDart (E .map) (E .other) ≡ true → {r : Answer} {t′ : List ℕ} → Applied E t r t′
+          → AppliedAt n E t r t′
+      unfolding siteFault someIf _orElse_
+      applied d e a = rw (eq-eqb (E .scheme .n) n same, w, and-of d e) a
 
-        module _ (alive : E .map .state (E .dart) ≡ 1) where
-          pub applied : {r : Answer} {t′ : List ℕ} → Applied E t r t′ → AppliedAt n E t r t′
-          unfolding siteFault someIf _orElse_
-          applied {r} {t′} a =
-              let z = and-of (lt-ltb (E .dart) (E .map .slots) slot) (eq-eqb (E .map .state (E .dart)) 1 alive) in
-              rw (eq-eqb (E .scheme .n) n same, w, z) a
-
-pub sound : {n : ℕ} {E : Site} → E .scheme .n ≡ n → wellFormed n (E .map) ≡ true → E .dart < E .map .slots → E .map .state (E .dart) ≡ 1
-    → Accepted (E .scheme) → Sound E
-sound {n} {E} same w slot alive a = record {
+pub sound : {n : ℕ} {E : Site} → E .scheme .n ≡ n → wellFormed n (E .map) ≡ true → isDart (E .map) (E .dart) ≡ true → isDart (E .map) (E .other) ≡ true
+    → Accepted (E .scheme) → (hasSecond (E .scheme) ≡ false → E .other ≡ E .dart) → Sound E
+sound {n} {E} same w d e a alone = record {
   accepted = a;
   well = wellFormed-iff (E .scheme .n) (E .map) .0 (ap (λ (k : ℕ). wellFormed k (E .map)) same ∙ w);
-  slot = slot;
-  alive = alive;
+  dart = live-dart (E .map) (E .dart) d;
+  other = live-dart (E .map) (E .other) e;
+  alone = alone;
 }
+
+-- ---- `site::is_dart`
+
+module _ (m : Map) (x : ℕ) where
+  pub dart-out : m .slots ≤ x → false ≡ isDart m x
+  unfolding _and_
+  dart-out h = rw (le-ltb x (m .slots) h)
+
+  pub dart-in : x < m .slots → (s : ℕ) → s ≡ m .state x → eqb s 1 ≡ isDart m x
+  unfolding _and_
+  dart-in h s e = rw (lt-ltb x (m .slots) h, e)
 
 -- in a well-formed table the slots that are not live are unused
 pub unused-left : (n N : ℕ) (t : List ℕ) (k : ℕ) → wellFormed n (view N t) ≡ true → k ≡ countBelow N (live (view N t))

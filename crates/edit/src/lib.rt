@@ -1,4 +1,4 @@
-// Applying an accepted scheme at a dart: refusals 9 and 10, and the published rewriting; 6 to 8 before them are in `site`.
+// Applying an accepted scheme at a dart or two: refusals 9 and 10, and the published rewriting; 6 to 8 before them are in `site`.
 pub mod nodes;
 pub mod site;
 
@@ -49,7 +49,7 @@ fn settle<'a>(
     }
 }
 
-// Applies s, whose left arcs have the tree t, at the dart d of a table with `room` unused slots.
+// Applies s, whose left arcs have the trees t, at the dart d, and its second hook at `other`, of a table with `room` unused slots.
 pub fn apply(
     slots: usize,
     table: &mut [u32],
@@ -58,13 +58,14 @@ pub fn apply(
     t: Tree,
     room: usize,
     d: usize,
+    other: usize,
 ) -> Answer
     requires { ⌜ Sized slots (now table) ⌝ }
-    requires { ⌜ Sound (siteAt (view slots (now table)) s d) ⌝ }
+    requires { ⌜ Sound (siteAt (view slots (now table)) s d other) ⌝ }
     requires { ⌜ TreeOf s t ⌝ }
     requires { ⌜ room ≡ countBelow slots (unused (view slots (now table))) ⌝ }
     requires { ⌜ length (now store) ≡ 16 * slots ⌝ }
-    ensures { λ r. ⌜ Applied (siteAt (view slots (now (table .entry))) s d) (now (table .entry)) r (now (table .exit)) ⌝ }
+    ensures { λ r. ⌜ Applied (siteAt (view slots (now (table .entry))) s d other) (now (table .entry)) r (now (table .exit)) ⌝ }
 {
     orbit::store::unmark(slots, store);
     let k = wide(s.places);
@@ -75,9 +76,13 @@ pub fn apply(
         table,
         store,
         size,
+        &s.orbit,
+        k,
+        other,
         &t.node,
         &t.parent,
         &t.dim,
+        t.roots,
         t.size,
         &s.ltargets,
         &mut cols,

@@ -1,24 +1,46 @@
--- Counts that are out of their range, or sections that do not fill the bytes, refute the form.
+-- What the first byte says; counts that are out of their range, or sections that do not fill the bytes, refute the form.
 -- Assumes nothing.
-use Prim.Native.Nat.{ℕ, _+_, _*_, _≤_, _<_}
-use mathlib.Core.Path.{_≡_, sym}
+use Prim.Native.Nat.{ℕ, _+_, _*_, _-_, _≤_, _<_}
+use mathlib.Core.Path.{_≡_, refl, sym, ap, ap₂, _∙_}
 use mathlib.Core.Logic.{_⊎_, inl, inr, ⊎-elim}
-use mathlib.Core.Bool.{false}
+use mathlib.Core.Bool.{Bool, true, false, cond}
 use mathlib.Core.List.{List}
 use native.Mathlib.Nat.{eq-or-lt-of-le, mul-le-mul-right}
 use native.Mathlib.Omega.{arith}
 use lib.ListN.{length}
+use lib.Dec.{leb}
+use borrow.Author.Tests.{le-leb, lt-leb}
 use Rattle.base.proofs.TestLaws.{true-or-false, refuted}
-use Rattle.model.specs.Bytes.{dimensionOf, placesOf, nodesOf, nodeAt, arcsAt}
+use Rattle.model.specs.Bytes.{byte, namesSecond, dimensionOf, placesOf, nodesOf, nodeAt, hookBytes, arcsAt}
 use Rattle.model.specs.Scheme.{Side, left, right, inForm}
 use Rattle.frame.specs.Place.{after, fits}
-use Rattle.frame.specs.Frame.{LaidOut}
+use Rattle.frame.specs.Frame.{markOf, LaidOut}
 use Rattle.frame.specs.declared.Layout.{Layout}
 use Rattle.frame.proofs.PlaceLaws.{fitting}
 use Rattle.model.proofs.FormLaws.{Parts, parts, places-few, arcs-few}
 
 pub two-or-three : {n : ℕ} → 2 ≤ n → n ≤ 3 → (n ≡ 2) ⊎ (n ≡ 3)
 two-or-three h k = ⊎-elim (λ e. inl (sym e)) (λ l. inr (omega arith)) (eq-or-lt-of-le h)
+
+-- ---- the mark of a second hook
+
+pub marked : (start : ℕ) → 32 ≤ start → 1 ≡ markOf start
+marked start h = sym (ap (λ (c : Bool). cond c 1 0) (le-leb _ _ h))
+
+pub unmarked : (start : ℕ) → start < 32 → 0 ≡ markOf start
+unmarked start h = sym (ap (λ (c : Bool). cond c 1 0) (lt-leb _ _ h))
+
+-- what the first byte says: how many bytes name a second hook, and n
+pub first-told : (b : List ℕ) {start hook : ℕ} → start ≡ byte b 0 → hook ≡ markOf start
+    → (hook ≡ hookBytes b) × (start - 32 * hook ≡ dimensionOf b)
+unfolding namesSecond dimensionOf hookBytes
+first-told b e m = let h = m ∙ ap markOf e in (h, ap₂ (λ (s k : ℕ). s - 32 * k) e h ∙ less (leb 32 (byte b 0)) (byte b 0))
+  where
+    less : (c : Bool) (s : ℕ) → s - 32 * cond c 1 0 ≡ cond c (s - 32) s
+    less true s = refl
+    less false s = omega arith
+
+-- ---- the form is refuted
 
 module _ (b : List ℕ) where
   impossible : (Parts b → ⊥) → inForm b ≡ false

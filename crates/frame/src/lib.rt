@@ -1,15 +1,20 @@
-// The frame of a scheme's bytes: n and the counts, which settle that every section lies within the bytes.
+// The frame of a scheme's bytes: n, whether a second hook is named, and the counts, which settle that every section lies within the bytes.
 pub mod cursor;
 
 use cursor::Cursor;
 use cursor::Section;
 use cursor::Step;
-ghost use Rattle.frame.specs.Frame.{HeadOf, FrameOf};
+use cursor::wide;
+ghost use mathlib.Core.Path.{_≡_};
+ghost use Prim.Native.Nat.{_≤_, _*_};
+ghost use Rattle.frame.specs.Frame.{HeadOf, FrameOf, markOf};
 
-// The dimension, the counts of the orbit type and of the nodes, the place of the first section and the place after the nodes.
+// The dimension, how many bytes name a second hook, the counts of the orbit type and of the nodes, the place of the first section and that of
+// the left arcs.
 pub enum Opening {
     Counts {
         n: u8,
+        hook: u8,
         places: u8,
         nodes: u8,
         first: Cursor,
@@ -18,9 +23,10 @@ pub enum Opening {
     Broken,
 }
 
-// The dimension and the counts, and the place of the first section.
+// The dimension, how many bytes name a second hook, the counts, and the place of the first section.
 pub struct Layout {
     pub n: u8,
+    pub hook: u8,
     pub places: u8,
     pub nodes: u8,
     pub lcount: u8,
@@ -33,12 +39,24 @@ pub enum Form {
     Broken,
 }
 
+// Whether a first byte says that a second hook is named: 1, else 0.
+fn mark(start: u8) -> u8
+    ensures { λ r. ⌜ (r ≡ markOf start) × (r ≤ 1) × (32 * r ≤ start) ⌝ }
+{
+    if 32 <= start {
+        return 1;
+    }
+    0
+}
+
 fn head(bytes: &[u8]) -> Opening
     ensures { λ r. ⌜ HeadOf (now (bytes .entry)) r ⌝ }
 {
-    let Step::Byte(n, first) = Cursor { at: 0 }.byte(bytes) else {
+    let Step::Byte(start, first) = Cursor { at: 0 }.byte(bytes) else {
         return Opening::Broken;
     };
+    let hook = mark(start);
+    let n = start - 32 * hook;
     if n < 2 {
         return Opening::Broken;
     }
@@ -59,12 +77,16 @@ fn head(bytes: &[u8]) -> Opening
     else {
         return Opening::Broken;
     };
+    let end = third.at;
     Opening::Counts {
         n: n,
+        hook: hook,
         places: places,
         nodes: nodes,
         first: first,
-        next: third,
+        next: Cursor {
+            at: end + wide(hook),
+        },
     }
 }
 
@@ -74,6 +96,7 @@ pub fn frame(bytes: &[u8]) -> Form
 {
     let Opening::Counts {
         n,
+        hook,
         places,
         nodes,
         first,
@@ -101,6 +124,7 @@ pub fn frame(bytes: &[u8]) -> Form
     }
     Form::Laid(Layout {
         n: n,
+        hook: hook,
         places: places,
         nodes: nodes,
         lcount: lcount,

@@ -6,9 +6,11 @@ use mathlib.Core.Option.{Option, none, some, Option·getD}
 use mathlib.Core.List.{List}
 use native.Mathlib.Omega.{arith}
 use lib.ListN.{length}
+use Rattle.model.specs.Scheme.{inForm}
 use Rattle.model.specs.Answer.{number, values, Answers}
 use Rattle.model.specs.Calls.{tableFault, checkTable, bytesFault, checkScheme, siteDone, editFault, editAnswer, editTable, editStore}
 use Rattle.model.specs.Calls.{loadFault, loadAnswer, loadTable, writeFault, writeAnswer, writeOut}
+use Rattle.model.specs.declared.Darts.{Darts}
 use Rattle.model.specs.declared.Answer.{Answer}
 use Rattle.demands.specs.Kernel.{Kernel, Refines}
 use Rattle.demands.specs.Ours.{ours}
@@ -25,7 +27,7 @@ use Rattle.kernel.proofs.FileCallLaws.{load-small, write-small}
 
 -- ---- one outcome
 
-pub one-packed-edit : {n N : ℕ} {t store b : List ℕ} {d w w₂ : ℕ} {t′ t₂ store′ store₂ : List ℕ}
+pub one-packed-edit : {n N : ℕ} {t store b : List ℕ} {d : Darts} {w w₂ : ℕ} {t′ t₂ store′ store₂ : List ℕ}
     → PackedEdit n N t store b d w t′ store′ → PackedEdit n N t store b d w₂ t₂ store₂ → (w ≡ w₂) × (t′ ≡ t₂) × (store′ ≡ store₂)
 one-packed-edit p q = (p .word ∙ sym (q .word), p .table ∙ sym (q .table), p .cleared ∙ sym (q .cleared))
 
@@ -54,9 +56,9 @@ table-length n N t = done-length (tableFault n N t) _ (table-within n N t) (omeg
 
 pub scheme-length : (b : List ℕ) → number (checkScheme b) ≡ 0 → length (values (checkScheme b)) ≡ 0
 unfolding checkScheme
-scheme-length b = done-length (bytesFault b) _ (bytes-within b) (omega arith)
+scheme-length b = done-length (bytesFault (inForm b) b) _ (bytes-within (inForm b) b) (omega arith)
 
-pub edit-length : (n N : ℕ) (t store b : List ℕ) (d : ℕ) → number (editAnswer n N t store b d) ≡ 0 → length (values (editAnswer n N t store b d)) ≡ 3
+pub edit-length : (n N : ℕ) (t store b : List ℕ) (d : Darts) → number (editAnswer n N t store b d) ≡ 0 → length (values (editAnswer n N t store b d)) ≡ 3
 unfolding editAnswer siteDone
 edit-length n N t store b d = done-length (editFault n N t store b d) _ (edit-within n N t store b d) (omega arith)
 

@@ -18,8 +18,9 @@ use Rattle.model.specs.Scheme.{inForm, schemeOf, added, deleted}
 use Rattle.model.specs.Conditions.{schemeFault}
 use Rattle.model.specs.Edit.{orbitSize, addedDarts, deletedDarts}
 use Rattle.model.specs.Site.{Site}
-use Rattle.model.specs.Calls.{bytesFault, checkScheme, fitFault, siteFault, siteDone, siteOf, storedOk, editFaultAt, editFault, editAnswer}
+use Rattle.model.specs.Calls.{bytesFault, takes, checkScheme, fitFault, siteFault, siteDone, siteOf, storedOk, editFaultAt, editFault, editAnswer}
 use Rattle.model.specs.declared.Scheme.{Scheme}
+use Rattle.model.specs.declared.Darts.{Darts}
 use Rattle.model.specs.declared.Answer.{Answer}
 use Rattle.model.specs.declared.Answer.the-variants.{Done, BadCall, BadForm}
 use Rattle.model.proofs.SizeLaws.{sizes-iff}
@@ -58,17 +59,19 @@ unfolding someIf _orElse_
 form-good S o d s = s
 
 -- past the bytes, only bytes in the form are asked of
-bytes-small : (b : List ℕ) (o : Option Answer) (d : Answer) → (inForm b ≡ true → Small (Option·getD o d)) → Small (Option·getD (bytesFault b orElse o) d)
+bytes-small : (taken : Bool) (b : List ℕ) → (taken ≡ true → inForm b ≡ true) → (o : Option Answer) (d : Answer)
+    → (inForm b ≡ true → Small (Option·getD o d)) → Small (Option·getD (bytesFault taken b orElse o) d)
 unfolding bytesFault
-bytes-small b o d r = ⊎-elim
+bytes-small taken b f o d r = ⊎-elim
     (λ e. subst (λ (t : Bool). Small (Option·getD ((someIf (not t) BadForm orElse schemeFault (schemeOf b)) orElse o) d)) (sym e)
-    (form-good (schemeOf b) o d (small-some (schemeFault (schemeOf b)) o d (λ a q. fault-fits (fault-small (schemeOf b) (shaped b e) a q)) (r e))))
+    (form-good (schemeOf b) o d (small-some (schemeFault (schemeOf b)) o d (λ a q. fault-fits (fault-small (schemeOf b) (shaped b (f e)) a q)) (r (f e)))))
     (λ e. subst (λ (t : Bool). Small (Option·getD ((someIf (not t) BadForm orElse schemeFault (schemeOf b)) orElse o) d)) (sym e) (form-bad (schemeOf b) o d))
-    (true-or-false (inForm b))
+    (true-or-false taken)
 
 pub scheme-small : (b : List ℕ) → Small (checkScheme b)
 unfolding checkScheme
-scheme-small b = subst (λ (o : Option Answer). Small (Option·getD o Done)) (or-else-last (bytesFault b)) (bytes-small b none Done (λ e. tt))
+scheme-small b =
+    subst (λ (o : Option Answer). Small (Option·getD o Done)) (or-else-last (bytesFault (inForm b) b)) (bytes-small (inForm b) b (λ e. e) none Done (λ e. tt))
 
 -- the counts of an edit
 counts-small : (E : Site) → E .map .slots ≤ maxSlots → E .scheme .nodes ≤ 16 → Small (siteDone E)
@@ -87,7 +90,7 @@ one : (o : Option Answer) (done : Answer) → Small (Option·getD (someIf (not f
 unfolding someIf _orElse_
 one o done = tt
 
-module _ (n N : ℕ) (t store b : List ℕ) (d : ℕ) where
+module _ (n N : ℕ) (t store b : List ℕ) (d : Darts) where
   past-sizes : (o : Option Answer) (done : Answer) → (N ≤ maxSlots → Small (Option·getD o done))
       → Small (Option·getD (someIf (not (storedOk n N t store)) BadCall orElse o) done)
   past-sizes o done r = ⊎-elim
@@ -97,6 +100,6 @@ module _ (n N : ℕ) (t store b : List ℕ) (d : ℕ) where
 
   pub edit-small : Small (editAnswer n N t store b d)
   unfolding editAnswer editFault editFaultAt siteFault fitFault
-  edit-small = past-sizes _ _ (λ few. bytes-small b _ _ (λ form.
+  edit-small = past-sizes _ _ (λ few. bytes-small (takes d b) b (and-left _ _) _ _ (λ form.
       small-or _ _ _ _ tt (small-or _ _ _ _ tt (small-or _ _ _ _ tt (small-or _ _ _ _ tt
       (small-last _ _ _ tt (counts-small (siteOf N t b d) few (shaped b form .nodesFew))))))))

@@ -2,39 +2,43 @@
 -- Assumes nothing.
 use Prim.Native.Nat.{ℕ, suc, _*_, _-_}
 use mathlib.Core.Path.{_≡_, refl, sym, ap, _∙_, subst}
-use mathlib.Core.Logic.{_⊎_, ⊎-elim}
-use mathlib.Core.Bool.{true, false, not}
+use mathlib.Core.Logic.{_⊎_, ⊎-elim, by-cases}
+use mathlib.Core.Bool.{Bool, true, false, not}
 use mathlib.Core.Option.{Option, none, some, Option·getD}
 use mathlib.Core.List.{List, [], _∷_}
+use native.Mathlib.Decide.{ℕ-discrete}
 use native.Mathlib.Omega.{arith}
 use types.Run.{OneOf}
 use lib.ListN.{length}
 use lib.Dec.{eqb}
-use borrow.Author.Tests.{eq-eqb, ne-eqb, not-true, not-false}
+use borrow.Author.Tests.{eqb-true, eqb-false, eq-eqb, ne-eqb, ltb-true, ltb-false, lt-ltb, le-ltb, not-true, not-false}
 use Rattle.base.specs.First.{someIf, _orElse_, there}
-use Rattle.base.proofs.TestLaws.{and-of, and-no-left, and-no-right}
+use Rattle.base.specs.Test.{_and_}
+use Rattle.base.proofs.TestLaws.{and-of, and-same, and-no-left, and-no-right, same-test}
 use Rattle.base.proofs.ListLaws.{length-list}
 use Rattle.model.specs.Answer.{number}
 use Rattle.model.specs.Map.{view}
-use Rattle.model.specs.Scheme.{left, right, inForm, wordsOf, schemeOf}
+use Rattle.model.specs.Scheme.{left, right, inForm, wordsOf, schemeOf, hasSecond}
 use Rattle.model.specs.Conditions.{schemeFault}
 use Rattle.model.specs.Twice.{twiceOf}
 use Rattle.model.specs.Accepted.{Accepted}
 use Rattle.model.specs.Site.{siteAt}
-use Rattle.model.specs.Calls.{zeros, sizesOk, bytesFault, storedOk, editFaultAt, editFault, editAnswer, editTable, editStore}
+use Rattle.model.specs.Calls.{zeros, sizesOk, bytesFault, firstDart, secondDart, asMany, takes, storedOk, editFaultAt, editFault, editAnswer, editTable, editStore}
 use Rattle.model.specs.declared.Scheme.{Scheme}
+use Rattle.model.specs.declared.Darts.{Darts}
+use Rattle.model.specs.declared.Darts.the-variants.{One, Two}
 use Rattle.model.specs.declared.Answer.{Answer}
 use Rattle.model.specs.declared.Answer.the-variants.{Done, BadCall, BadForm}
 use Rattle.model.proofs.AnswerLaws.{answers-of}
 use Rattle.model.proofs.SchemeLaws.{shaped}
-use Rattle.model.proofs.CallLaws.{bytes-accepted}
+use Rattle.model.proofs.CallLaws.{bytes-accepted, bytes-many, darts-alone}
 use Rattle.scheme.specs.Reading.{reading}
 use Rattle.scheme.specs.declared.Reading.{Reading}
 use Rattle.conditions.specs.Verdict.{Judging}
 use Rattle.demands.specs.Promises.{MapEdited}
 use Rattle.edit.specs.Apply.{AppliedAt}
 use Rattle.edit.proofs.SiteLaws.{refused}
-use Rattle.kernel.specs.Stages.{Staged}
+use Rattle.kernel.specs.Stages.{manyBy, Staged}
 use Rattle.demands.proofs.RefusalLaws.{bytes-within}
 
 -- ---- the scheme's bytes
@@ -68,7 +72,7 @@ module _ (b : List ℕ) (r : Reading) (e : r ≡ reading b) where
     right-twice = rw e refl
 
     -- what the conditions ask of a scheme that was read
-    abbrev pub judge-asks : Judging (r .scheme .n) (r .scheme .places) (r .scheme .nodes) (r .scheme .orbit) (r .scheme .kinds)
+    abbrev pub judge-asks : Judging (r .scheme .n) (r .scheme .places) (r .scheme .nodes) (r .scheme .second) (r .scheme .orbit) (r .scheme .kinds)
         (r .scheme .lwords) (r .scheme .ltargets) (r .scheme .rtargets) (r .scheme .lcount) (r .scheme .larcs) (r .ltwice) (r .rtwice)
     judge-asks = record {
       scheme = r .scheme;
@@ -76,6 +80,7 @@ module _ (b : List ℕ) (r : Reading) (e : r ≡ reading b) where
       nIs = refl;
       placesIs = refl;
       nodesIs = refl;
+      secondIs = refl;
       orbitIs = refl;
       kindsIs = refl;
       lwordsIs = refl;
@@ -88,62 +93,86 @@ module _ (b : List ℕ) (r : Reading) (e : r ≡ reading b) where
       longWords = long-words;
     }
 
--- refusals 2 to 5, or done
-unfoldable pub judged : List ℕ → Answer
-judged b = Option·getD (bytesFault b) Done
+-- refusals 2 to 5, or done, where `taken` says whether the call takes the bytes
+unfoldable pub judged : Bool → List ℕ → Answer
+judged taken b = Option·getD (bytesFault taken b) Done
 
-pub form-refused : (b : List ℕ) → inForm b ≡ false → bytesFault b ≡ some BadForm
+pub form-refused : (taken : Bool) (b : List ℕ) → taken ≡ false → bytesFault taken b ≡ some BadForm
 unfolding bytesFault someIf _orElse_
-form-refused b e = rw e
+form-refused taken b e = rw e
 
-pub judged-bad : (b : List ℕ) → inForm b ≡ false → BadForm ≡ judged b
+pub judged-bad : (taken : Bool) (b : List ℕ) → taken ≡ false → BadForm ≡ judged taken b
 unfolding judged
-judged-bad b e = rw (form-refused b e)
+judged-bad taken b e = rw (form-refused taken b e)
 
-module _ (b : List ℕ) (S : Scheme) (e : inForm b ≡ true) (s : S ≡ schemeOf b) where
-  pub judged-good : (a : Answer) → a ≡ Option·getD (schemeFault S) Done → a ≡ judged b
-  unfolding judged bytesFault someIf _orElse_
-  judged-good a f = f ∙ rw (e, s)
+pub judged-good : (taken : Bool) (b : List ℕ) (S : Scheme) → taken ≡ true → S ≡ schemeOf b → (a : Answer) → a ≡ Option·getD (schemeFault S) Done
+    → a ≡ judged taken b
+unfolding judged bytesFault someIf _orElse_
+judged-good taken b S e s a f = f ∙ rw (e, s)
 
 -- bytes judged done have no fault, and any other answer is their fault
-module _ (b : List ℕ) (r : Answer) (j : r ≡ judged b) where
-  pub no-fault : r ≡ Done → bytesFault b ≡ none
+module _ (taken : Bool) (b : List ℕ) (r : Answer) (j : r ≡ judged taken b) where
+  pub no-fault : r ≡ Done → bytesFault taken b ≡ none
   unfolding judged
-  no-fault e = go (bytesFault b) refl
+  no-fault e = go (bytesFault taken b) refl
     where
-      go : (o : Option Answer) → bytesFault b ≡ o → bytesFault b ≡ none
+      go : (o : Option Answer) → bytesFault taken b ≡ o → bytesFault taken b ≡ none
       go none q = q
       go (some a) q =
           let zero : number a ≡ 0 = ap number (ap (λ (o : Option Answer). Option·getD o Done) (sym q) ∙ sym j ∙ e) in
-          absurd (omega (arith, bytes-within b .least a q))
+          absurd (omega (arith, bytes-within taken b .least a q))
 
-  pub its-fault : (r ≡ Done → ⊥) → bytesFault b ≡ some r
+  pub its-fault : (r ≡ Done → ⊥) → bytesFault taken b ≡ some r
   unfolding judged
-  its-fault n = go (bytesFault b) refl
+  its-fault n = go (bytesFault taken b) refl
     where
-      go : (o : Option Answer) → bytesFault b ≡ o → bytesFault b ≡ some r
+      go : (o : Option Answer) → bytesFault taken b ≡ o → bytesFault taken b ≡ some r
       go none q = absurd (n (j ∙ ap (λ (o : Option Answer). Option·getD o Done) q))
       go (some a) q = q ∙ ap {B = Option Answer} some (sym (j ∙ ap (λ (o : Option Answer). Option·getD o Done) q))
 
+-- ---- the darts
+
+-- the number of hooks is tested by the second hook
+many-by : (D : Darts) (S : Scheme) → manyBy D (S .second) ≡ asMany D S
+many-by (One d) S = same-test _ _
+    (λ e. ap not (le-ltb 0 (S .second) (omega (arith, eqb-true (S .second) 0 e))))
+    (λ e. eq-eqb (S .second) 0 (omega (arith, ltb-false 0 (S .second) (not-true _ e))))
+many-by (Two d e) S = same-test _ _
+    (λ q. let ne = eqb-false (S .second) 0 (not-true _ q) in
+    by-cases (ℕ-discrete (S .second) 0) (λ z. absurd (ne z)) (λ z. lt-ltb 0 (S .second) (omega arith)))
+    (λ q. let some = ltb-true 0 (S .second) q in ap not (ne-eqb (S .second) 0 (λ z. absurd (omega arith))))
+
+-- so what is read of the bytes tells whether the call takes them
+pub taken-is : (D : Darts) (b : List ℕ) (r : Reading) → r ≡ reading b → (q : Bool) → q ≡ (r .ok and manyBy D (r .scheme .second)) → q ≡ takes D b
+taken-is D b r e q m = m ∙ ap (λ (x : Bool). x and manyBy D (r .scheme .second)) (read-ok b r e)
+    ∙ and-same (inForm b) (λ f. many-by D (r .scheme) ∙ ap (asMany D) (read-scheme b r e f))
+
 -- ---- all stages
 
-module _ (n N : ℕ) (t b : List ℕ) (d : ℕ) where
-  pub stage-refused : {a : Answer} → bytesFault b ≡ some a → Staged n N t b d a t
+module _ (n N : ℕ) (t b : List ℕ) (D : Darts) where
+  pub stage-refused : {a : Answer} → bytesFault (takes D b) b ≡ some a → Staged n N t b D a t
   unfolding _orElse_
   stage-refused e = refused (rw e refl)
 
-  pub stage-on : {S : Scheme} {r : Answer} {t′ : List ℕ} → bytesFault b ≡ none → S ≡ schemeOf b → AppliedAt n (siteAt (view N t) S d) t r t′
-      → Staged n N t b d r t′
+  pub stage-on : {S : Scheme} {d e : ℕ} {r : Answer} {t′ : List ℕ} → bytesFault (takes D b) b ≡ none → S ≡ schemeOf b
+      → d ≡ firstDart D → e ≡ secondDart D → AppliedAt n (siteAt (view N t) S d e) t r t′ → Staged n N t b D r t′
   unfolding _orElse_
-  stage-on {S} {r} {t′} e s a = rw e (subst (λ (x : Scheme). AppliedAt n (siteAt (view N t) x d) t r t′) s a)
+  stage-on {S} {d} {e} {r} {t′} f s p q a =
+      rw f (subst (λ (x : Scheme). AppliedAt n (siteAt (view N t) x (firstDart D) (secondDart D)) t r t′) s
+      (subst (λ (x : ℕ). AppliedAt n (siteAt (view N t) S x (secondDart D)) t r t′) p
+      (subst (λ (x : ℕ). AppliedAt n (siteAt (view N t) S d x) t r t′) q a)))
 
--- bytes with no fault are an accepted scheme's
-pub no-fault-accepted : (b : List ℕ) (S : Scheme) → bytesFault b ≡ none → S ≡ schemeOf b → Accepted S
-no-fault-accepted b S e s = subst Accepted (sym s) (bytes-accepted b e)
+-- bytes with no fault are an accepted scheme's, and one with a single hook is for one dart
+module _ (D : Darts) (b : List ℕ) (S : Scheme) (f : bytesFault (takes D b) b ≡ none) (s : S ≡ schemeOf b) where
+  pub no-fault-accepted : Accepted S
+  no-fault-accepted = subst Accepted (sym s) (bytes-accepted D b f)
+
+  pub no-fault-alone : {d e : ℕ} → d ≡ firstDart D → e ≡ secondDart D → hasSecond S ≡ false → e ≡ d
+  no-fault-alone p q h = q ∙ darts-alone D S (subst (λ (x : Scheme). asMany D x ≡ true) (sym s) (bytes-many D b f)) h ∙ sym p
 
 -- ---- the call
 
-module _ (n N : ℕ) (t store b : List ℕ) (d : ℕ) where
+module _ (n N : ℕ) (t store b : List ℕ) (d : Darts) where
   unsized : storedOk n N t store ≡ false → MapEdited n N t store b d BadCall t store
   unfolding editAnswer editTable editStore editFault editFaultAt someIf _orElse_ there
   unsized e = record { answer = answers-of (rw e refl); table = rw e refl; cleared = rw e refl }

@@ -5,14 +5,15 @@ use mathlib.Core.Path.{_≡_}
 use mathlib.Core.List.{List}
 use Rattle.model.specs.Answer.{number, values}
 use Rattle.model.specs.Calls.{checkTable, checkScheme, editAnswer, editTable, editStore, loadAnswer, loadTable, writeAnswer, writeOut}
+use Rattle.model.specs.declared.Darts.{Darts}
 use Rattle.model.specs.declared.Answer.{Answer}
 use Rattle.word.specs.Word.{packed, wordNumber, wordValues}
 
--- the word of the answer of an edit, a load or a write, and what the call leaves
-pub record PackedEdit (n N : ℕ) (t store b : List ℕ) (d : ℕ) (r : ℕ) (t′ store′ : List ℕ) : Type 0 where
-  pub word : r ≡ packed (editAnswer n N t store b d)
-  pub table : t′ ≡ editTable n N t store b d
-  pub cleared : store′ ≡ editStore n N t store b d
+-- the word of the answer of an edit, a load or a write, and what the call leaves; D is the dart or the two darts of an edit
+pub record PackedEdit (n N : ℕ) (t store b : List ℕ) (D : Darts) (r : ℕ) (t′ store′ : List ℕ) : Type 0 where
+  pub word : r ≡ packed (editAnswer n N t store b D)
+  pub table : t′ ≡ editTable n N t store b D
+  pub cleared : store′ ≡ editStore n N t store b D
 
 pub record PackedLoad (n N : ℕ) (t b : List ℕ) (r : ℕ) (t′ : List ℕ) : Type 0 where
   pub word : r ≡ packed (loadAnswer n N t b)
@@ -37,9 +38,9 @@ pub record SeenSchemeCheck (b : List ℕ) (r : Answer) : Type 0 where
   pub promised : word ≡ packed (checkScheme b)
   pub answer : Unpacked 0 word r
 
-pub record SeenEdit (n N : ℕ) (t store b : List ℕ) (d : ℕ) (r : Answer) (t′ store′ : List ℕ) : Type 0 where
+pub record SeenEdit (n N : ℕ) (t store b : List ℕ) (D : Darts) (r : Answer) (t′ store′ : List ℕ) : Type 0 where
   pub word : ℕ
-  pub promised : PackedEdit n N t store b d word t′ store′
+  pub promised : PackedEdit n N t store b D word t′ store′
   pub answer : Unpacked 3 word r
 
 pub record SeenLoad (n N : ℕ) (t b : List ℕ) (r : Answer) (t′ : List ℕ) : Type 0 where

@@ -1,12 +1,54 @@
-// An edit behind the test of its sizes: refusals 2 to 5, then the edit at the dart.
+// An edit behind the test of its sizes: refusals 2 to 5, then the edit at its darts.
 use edit::site::apply_at;
 use model::Answer;
+use model::Darts;
 ghost use mathlib.Core.Path.{_≡_};
 ghost use mathlib.Core.Logic.{_⊎_};
 ghost use Prim.Native.Nat.{_*_};
 ghost use lib.ListN.{length};
 ghost use Rattle.table.specs.Words.{Sized};
-ghost use Rattle.kernel.specs.Stages.{Staged};
+ghost use Rattle.base.specs.Test.{_and_};
+ghost use Rattle.model.specs.Calls.{firstDart, secondDart};
+ghost use Rattle.kernel.specs.Stages.{manyBy, Staged};
+
+fn wide(x: u32) -> usize
+    ensures { λ r. ⌜ r ≡ x ⌝ }
+{
+    x as usize
+}
+
+// The dart of the first hook.
+fn first(darts: Darts) -> usize
+    ensures { λ r. ⌜ r ≡ firstDart darts ⌝ }
+{
+    match darts {
+        Darts::One(dart) => wide(dart),
+        Darts::Two { dart, other: _ } => wide(dart),
+    }
+}
+
+// The dart of the second hook, or of the first where there is none.
+fn second(darts: Darts) -> usize
+    ensures { λ r. ⌜ r ≡ secondDart darts ⌝ }
+{
+    match darts {
+        Darts::One(dart) => wide(dart),
+        Darts::Two { dart: _, other } => wide(other),
+    }
+}
+
+// The bytes are in the form, and the scheme, whose second hook is `hook`, or 0, has as many hooks as there are darts.
+fn taken(form: bool, darts: Darts, hook: u8) -> bool
+    ensures { λ r. ⌜ r ≡ (form and manyBy darts hook) ⌝ }
+{
+    if !form {
+        return false;
+    }
+    match darts {
+        Darts::One(_) => hook == 0,
+        Darts::Two { dart: _, other: _ } => hook != 0,
+    }
+}
 
 // Refusals 2 to 10, and the edit.
 pub(crate) fn staged(
@@ -15,21 +57,22 @@ pub(crate) fn staged(
     table: &mut [u32],
     store: &mut [u32],
     bytes: &[u8],
-    dart: usize,
+    darts: Darts,
 ) -> Answer
     requires { ⌜ (n ≡ 2) ⊎ (n ≡ 3) ⌝ }
     requires { ⌜ Sized slots (now table) ⌝ }
     requires { ⌜ length (now store) ≡ 16 * slots ⌝ }
-    ensures { λ r. ⌜ Staged n slots (now (table .entry)) (now (bytes .entry)) dart r (now (table .exit)) ⌝ }
+    ensures { λ r. ⌜ Staged n slots (now (table .entry)) (now (bytes .entry)) darts r (now (table .exit)) ⌝ }
 {
     let r = scheme::read(bytes);
-    if !r.ok {
+    if !taken(r.ok, darts, r.scheme.second) {
         return Answer::BadForm;
     }
     let v = conditions::judge(
         r.scheme.n,
         r.scheme.places,
         r.scheme.nodes,
+        r.scheme.second,
         &r.scheme.orbit,
         &r.scheme.kinds,
         &r.scheme.lwords,
@@ -44,7 +87,7 @@ pub(crate) fn staged(
     let s = r.scheme;
     let tree = v.tree;
     match answer {
-        Answer::Done => apply_at(n, slots, table, store, s, tree, dart),
+        Answer::Done => apply_at(n, slots, table, store, s, tree, first(darts), second(darts)),
         _ => answer,
     }
 }

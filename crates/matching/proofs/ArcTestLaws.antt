@@ -2,16 +2,15 @@
 -- end; then each way out of `explicit` and `arc`, and the loop of `arcs`.
 -- Assumes nothing.
 use Prim.Native.Nat.{ℕ, _+_, _*_, _-_, _/_, _%_, _≤_, _<_}
-use mathlib.Core.Path.{_≡_, refl, sym, ap, _∙_}
-use mathlib.Core.Logic.{_⊎_, inl, inr}
-use mathlib.Core.Bool.{Bool, true, false, not}
+use mathlib.Core.Path.{_≡_, sym, ap, _∙_}
+use mathlib.Core.Bool.{Bool, true, false}
 use mathlib.Core.List.{List}
 use native.Mathlib.Omega.{arith}
 use lib.ListN.{getD}
 use lib.Dec.{eqb}
 use borrow.Author.Tests.{eq-eqb, ne-eqb, lt-ltb, le-ltb}
-use Rattle.base.specs.Test.{_and_, _or_}
-use Rattle.base.proofs.TestLaws.{and-of, or-left, or-right, and-no-right}
+use Rattle.base.specs.Test.{_or_}
+use Rattle.base.proofs.TestLaws.{or-left, or-right}
 use Rattle.base.proofs.BelowLaws.{all-none, all-more, all-stops, all-ends}
 use Rattle.model.specs.Map.{Map}
 use Rattle.orbit.specs.Store.{next, dartAt}
@@ -66,24 +65,19 @@ module _ (m : Map) (s : List ℕ) (i from p r q x y z : ℕ) (n : q ≡ getD s (
 -- ---- one arc
 
 module _ (m : Map) (s : List ℕ) (size : ℕ) (dims cols : List ℕ) (j i from : ℕ) where
-  not-tree : ((j ≡ 0) ⊎ (getD dims j 0 ≡ i → ⊥)) → (not (eqb j 0) and eqb (getD dims j 0) i) ≡ false
-  unfolding _and_
-  not-tree (inl z) = rw (eq-eqb j 0 z)
-  not-tree (inr ne) = rw (ne-eqb (getD dims j 0) i ne) (and-no-right (not (eqb j 0)) refl)
-
   module _ (t to : ℕ) (e : to ≡ getD cols t 0) where
     pub explicit-later : from < to → true ≡ explicitTest m s size dims cols j i from t
     unfolding explicitTest _or_
     explicit-later h = rw (← e, lt-ltb from to h)
 
-    pub explicit-tree : (j ≡ 0 → ⊥) → (x : ℕ) → x ≡ getD dims j 0 → x ≡ i → true ≡ explicitTest m s size dims cols j i from t
+    pub explicit-tree : (x : ℕ) → x ≡ getD dims j 0 → x ≡ i → true ≡ explicitTest m s size dims cols j i from t
     unfolding explicitTest
-    explicit-tree ne x d q = sym (or-left _ (or-right _ (and-of (rw (ne-eqb j 0 ne)) (rw (← d) (eq-eqb x i q)))))
+    explicit-tree x d q = sym (or-left _ (or-right _ (rw (← d) (eq-eqb x i q))))
 
-    pub explicit-tested : (r : Bool) → to ≤ from → ((j ≡ 0) ⊎ (getD dims j 0 ≡ i → ⊥)) → r ≡ follows m s size i from to (λ q. q) → r
+    pub explicit-tested : (r : Bool) → to ≤ from → (getD dims j 0 ≡ i → ⊥) → r ≡ follows m s size i from to (λ q. q) → r
         ≡ explicitTest m s size dims cols j i from t
     unfolding explicitTest _or_
-    explicit-tested r h other f = rw (← e, le-ltb from to h, not-tree other) f
+    explicit-tested r h other f = rw (← e, le-ltb from to h, ne-eqb (getD dims j 0) i other) f
 
   pub code-none : (code : ℕ) → code ≡ 255 → true ≡ codeTest m s size dims cols j i from code
   unfolding codeTest

@@ -9,9 +9,9 @@ use native.Mathlib.Nat.{mul-le-mul-right}
 use native.Mathlib.Decide.{ℕ-discrete, decLt}
 use native.Mathlib.Omega.{arith}
 use lib.ListN.{length, getD}
-use borrow.Author.Tests.{eqb-true, eqb-false, eq-eqb, ne-eqb, ltb-true, lt-ltb, le-ltb, not-true}
+use borrow.Author.Tests.{eqb-true, eq-eqb, ne-eqb, ltb-true, lt-ltb, le-ltb}
 use Rattle.base.specs.Test.{_or_}
-use Rattle.base.proofs.TestLaws.{and-left, and-right, or-cases, or-right, same-test}
+use Rattle.base.proofs.TestLaws.{or-cases, or-right, same-test}
 use Rattle.base.proofs.BelowLaws.{all-at, all-of}
 use Rattle.base.proofs.RowLaws.{digits, row-end, row-cell}
 use Rattle.model.specs.Map.{Map, view}
@@ -25,15 +25,17 @@ use Rattle.model.proofs.ArcLaws.{explicit-at, explicit-end, implicit-at, implic
 use Rattle.model.proofs.HookLaws.{first-hook}
 use Rattle.model.proofs.MatchLaws.{assigns-match}
 use Rattle.orbit.specs.At.{site}
-use Rattle.orbit.specs.Store.{mark, place, next, dartAt, Assigned}
+use Rattle.orbit.specs.Store.{mark, place, next, dartAt, Taken, Assigned}
 use Rattle.model.specs.Codes.{arcCode}
 use Rattle.model.specs.Shaped.{Coded}
+use Rattle.matching.specs.Opposite.{Longer, HungAll}
 use Rattle.matching.specs.Columns.{BeforeMatching, Grown}
 use Rattle.matching.specs.ArcTests.{Turns, follows, explicitTest, implicitTest, codeTest, arcTest, arcsTest, Firm}
-use Rattle.matching.specs.Assign.{Matched}
+use Rattle.matching.specs.Assign.{Posed, Matched}
 use Rattle.orbit.proofs.PlaceLaws.{place-in, place-of}
-use Rattle.matching.proofs.ColumnLaws.{longer-mark, longer-kept}
-use Rattle.matching.proofs.ColumnTreeLaws.{good, node-below, dart-at, dart-slot, column-inside, images, arc-image, turn-image}
+use Rattle.matching.proofs.ColumnLaws.{longer-less, longer-trans, longer-mark, longer-kept}
+use Rattle.matching.proofs.OppositeLaws.{hung-walked}
+use Rattle.matching.proofs.ColumnTreeLaws.{good, node-below, hooks-some, hook-node, dart-at, dart-slot, column-inside, images, arc-image, turn-image}
 
 -- ---- the tests
 
@@ -50,14 +52,14 @@ follows-of m s size i from base to f = all-of size _ (λ r h. eq-eqb _ _ (f r h)
 module _ (m : Map) (s : List ℕ) (size : ℕ) (dims cols : List ℕ) (j i from : ℕ) where
   -- what a test that holds says of each kind of arc
   explicit-cases : (t : ℕ) → t < 16 → codeTest m s size dims cols j i from t ≡ true
-      → (from < getD cols t 0) ⊎ (((j ≡ 0 → ⊥) × (getD dims j 0 ≡ i)) ⊎ (follows m s size i from (getD cols t 0) (λ r. r) ≡ true))
+      → (from < getD cols t 0) ⊎ ((getD dims j 0 ≡ i) ⊎ (follows m s size i from (getD cols t 0) (λ r. r) ≡ true))
   unfolding codeTest explicitTest
   explicit-cases t h e =
       let f = rw (ne-eqb t 255 (λ q. absurd (omega arith)), lt-ltb t 16 h) at e in
       ⊎-elim
       (λ o. ⊎-elim
       (λ a. inl (ltb-true _ _ a))
-      (λ a. inr (inl (eqb-false _ _ (not-true _ (and-left _ _ a)), eqb-true _ _ (and-right _ _ a))))
+      (λ a. inr (inl (eqb-true _ _ a)))
       (or-cases _ _ o))
       (λ o. inr (inr o))
       (or-cases _ _ f)
@@ -84,8 +86,9 @@ module _ (m : Map) (s : List ℕ) (size : ℕ) (dims cols : List ℕ) (j i from 
       let same : 16 + p - 16 ≡ p = omega arith in
       rw (ne-eqb (16 + p) 255 (λ q. absurd (omega arith)), le-ltb (16 + p) 16 (omega arith), same) (or-right _ f)
 
-module _ {N : ℕ} {t s : List ℕ} {size : ℕ} {nodes parents dims : List ℕ} {count : ℕ} (R : BeforeMatching N t s size nodes parents dims count)
-    {s′ cols : List ℕ} (G : Grown (view N t) nodes parents dims s s′ cols size count) {codes : List ℕ} (C : Coded (R .at .scheme) left codes) where
+module _ {N : ℕ} {t s : List ℕ} {size : ℕ} {nodes parents dims : List ℕ} {roots count : ℕ}
+    (R : BeforeMatching N t s size nodes parents dims roots count) {s′ cols : List ℕ} (G : Grown (view N t) nodes parents dims roots s s′ cols size count)
+    {codes : List ℕ} (C : Coded (R .at .scheme) left codes) where
   abbrev E : Site
   E = site (R .at)
 
@@ -202,8 +205,14 @@ module _ {N : ℕ} {t s : List ℕ} {size : ℕ} {nodes parents dims : List ℕ}
 
   -- ---- where the arcs pass their tests, there is a match
 
-  more : size ≤ count * size
-  more = let e = row-end size 0 count (R .rooted .some) in omega arith
+  some-entries : 1 ≤ count
+  some-entries = omega (arith, hooks-some R, R .rooted .some)
+
+  more : roots * size ≤ count * size
+  more = mul-le-mul-right size (R .rooted .some)
+
+  first-row : size ≤ roots * size
+  first-row = let e = row-end size 0 roots (hooks-some R) in omega arith
 
   rank : (u : ℕ) → O u ≡ true → ℕ
   rank u e = place-of (R .walked) u e .0
@@ -218,8 +227,9 @@ module _ {N : ℕ} {t s : List ℕ} {size : ℕ} {nodes parents dims : List ℕ}
 
   mark-at : (r : ℕ) → r < size → mark s′ (place N s r) ≡ r + 1
   mark-at r h =
-      let b = R .taken .back r h in
-      longer-mark N s s′ size (G .longer) (count * size) (R .taken) (G .taken) more (place N s r) (R .taken .slot r h) (omega arith) ∙ b
+      let low : r < roots * size = omega (arith, first-row) in
+      let b = R .hung .taken .back r low in
+      longer-mark N s s′ (roots * size) (G .longer) (count * size) (R .hung .taken) (G .taken) more (place N s r) (R .hung .taken .slot r low) (omega arith) ∙ b
 
   -- the dart found for a pair
   found : ℕ → ℕ → ℕ
@@ -241,7 +251,27 @@ module _ {N : ℕ} {t s : List ℕ} {size : ℕ} {nodes parents dims : List ℕ}
   hook-at : (r : ℕ) → r < size → at 0 r ≡ place N s r
   hook-at r h =
       let z : 0 * size + r ≡ r = omega arith in
-      ap (λ (v : ℕ). at v r) (sym (R .rooted .root)) ∙ dart-at R G 0 r (R .rooted .some) ∙ ap (place N s′) z ∙ G .longer .places r h
+      ap (λ (v : ℕ). at v r) (sym (R .rooted .hooks .first)) ∙ dart-at R G 0 r some-entries ∙ ap (place N s′) z
+      ∙ G .longer .places r (omega (arith, first-row))
+
+  -- the second hook stands for the other dart at the first place
+  second-at : at (S .second) 0 ≡ E .other
+  second-at =
+      let last : node (roots - 1) ≡ S .second = ap (λ (k : ℕ). node (k - 1)) (R .rooted .rootsIs) ∙ R .rooted .hooks .last in
+      let one = hooks-some R in
+      let row : 0 < size = R .walked .some in
+      let low : roots - 1 < count = omega (arith, R .rooted .some) in
+      ap (λ (v : ℕ). at v 0) (sym last) ∙ dart-at R G (roots - 1) 0 low
+      ∙ G .longer .places ((roots - 1) * size + 0) (row-cell size (roots - 1) roots 0 (omega arith) row)
+      ∙ ⊎-elim
+      (λ z.
+      let at₀ : (roots - 1) * size + 0 ≡ 0 = ap (λ (i : ℕ). i * size + 0) (z .0) ∙ omega arith in
+      let none : S .second ≡ 0 = sym last ∙ z .1 in
+      ap (place N s) at₀ ∙ R .walked .start ∙ sym (R .at .sound .alone (le-ltb 0 (S .second) (omega arith))))
+      (λ z.
+      let at₁ : (roots - 1) * size + 0 ≡ size + 0 = ap (λ (i : ℕ). i * size + 0) (z .0) ∙ omega arith in
+      ap (place N s) at₁ ∙ ⊎-elim (λ f. f .1) (λ f. absurd (omega (arith, f .0))) (R .hung .second (z .1) .turn 0 row))
+      (hook-node R (roots - 1) (omega arith))
 
   module _ (T : arcsTest m s′ size nodes dims codes cols (4 * count) ≡ true) where
     test-at : (j i : ℕ) → j < count → i < 4 → (a : Arc) → arcAt S left (node j) i ≡ a
@@ -262,13 +292,14 @@ module _ {N : ℕ} {t s : List ℕ} {size : ℕ} {nodes parents dims : List ℕ}
         (λ late. absurd (omega (arith, late, G .begins j h, G .begins k l, mul-le-mul-right size o)))
         (λ w. ⊎-elim
         (λ tree.
-        let some : 1 ≤ j = by-cases (ℕ-discrete j 0) (λ z. absurd (tree .0 z)) (λ ne. omega arith) in
+        let some : roots ≤ j = by-cases (decLt j roots)
+        (λ z. absurd (omega (arith, R .rooted .hooks .bare j (rw (R .rooted .rootsIs) at z)))) (λ ne. omega arith) in
         let arc = R .rooted .arc j some h in
         let end = explicit-end S left single (getD parents j 0) (getD dims j 0) (node j) (arc .1) in
-        let both : explicit (getD parents j 0) ≡ explicit (node k) = sym (end .3) ∙ ap (arcAt S left (node j)) (tree .1) ∙ e in
+        let both : explicit (getD parents j 0) ≡ explicit (node k) = sym (end .3) ∙ ap (arcAt S left (node j)) tree ∙ e in
         let same : getD parents j 0 ≡ node k = cc in
-        let step : at (node j) r ≡ m .link i (at (node k) r) = G .steps j r some h c ∙ ap₂ (λ (x v : ℕ). m .link x (at v r)) (tree .1) same in
-        let low : i ≤ S .n = subst (λ (x : ℕ). x ≤ S .n) (tree .1) (arc .0) in
+        let step : at (node j) r ≡ m .link i (at (node k) r) = G .steps j r some h c ∙ ap₂ (λ (x v : ℕ). m .link x (at v r)) tree same in
+        let low : i ≤ S .n = subst (λ (x : ℕ). x ≤ S .n) tree (arc .0) in
         let on = dart-slot R G k r l c in
         ap (m .link i) step ∙ well .back (at (node k) r) (on .0) (on .1) i low)
         (λ f. follows-at m s′ size i (getD cols (node j) 0) (getD cols (node k) 0) (λ q. q) f r c)
@@ -299,7 +330,7 @@ module _ {N : ℕ} {t s : List ℕ} {size : ℕ} {nodes parents dims : List ℕ}
     turn-at v i p r h l ne k c e =
         let f = implicit-in v i p h k e in
         let z = R .rooted .every v h l in
-        let later : z .0 ≡ 0 → ⊥ = λ o. ne (sym (z .2) ∙ ap node o ∙ R .rooted .root) in
+        let later : z .0 ≡ 0 → ⊥ = λ o. ne (sym (z .2) ∙ ap node o ∙ R .rooted .hooks .first) in
         let a : arcAt S left (node (z .0)) i ≡ implicit p = ap (λ (x : ℕ). arcAt S left x i) (z .2) ∙ e in
         let g = implicit-case m s′ size dims cols (z .0) i (getD cols (node (z .0)) 0) p (f .1) later (test-at (z .0) i (z .1) k (implicit p) a) in
         subst (λ (x : ℕ). m .link i (at x r) ≡ at x (next N s′ r p)) (z .2) (follows-at m s′ size i _ _ (λ q. next N s′ q p) g r c)
@@ -322,6 +353,8 @@ module _ {N : ℕ} {t s : List ℕ} {size : ℕ} {nodes parents dims : List ℕ}
     found-assigns = record {
       darts = λ u b e v h l. let f = found-is u v e in let a = slot-at v (rank u e) h l (rank-below u e) in (rw f (a .0), ap (m .state) f ∙ a .1);
       hook = λ u b e. found-is u 0 e ∙ hook-at (rank u e) (rank-below u e) ∙ rank-place u e;
+      second =
+          ap (λ (u : ℕ). found u (S .second)) (sym (R .walked .start)) ∙ found-at (S .second) 0 (R .walked .some) ∙ second-at;
       explicitArc = λ u b e a k.
           let f = single .shaped .from a k in
           let o = single .shaped .to a k in
@@ -365,19 +398,39 @@ module _ {N : ℕ} {t s : List ℕ} {size : ℕ} {nodes parents dims : List ℕ}
         let b = column-inside R G (z .0) (z .1) in
         let full = G .taken .fits in
         subst (λ (w : ℕ). (N ≤ getD cols w 0) × (getD cols w 0 + size ≤ 2 * N)) (z .2) (b .0, omega (arith, b .1));
-    dart = λ v r h l b. image-at q v r h l b ∙ ap (λ (u : ℕ). image E u v) (sym (G .longer .places r b));
+    dart = λ v r h l b. image-at q v r h l b ∙ ap (λ (u : ℕ). image E u v) (sym (G .longer .places r (omega (arith, first-row))));
   }
 
-  pub matched : (b : Bool) → b ≡ arcsTest m s′ size nodes dims codes cols (4 * count) → Matched E s s′ cols size b
-  matched b e = record {
-    is = e ∙ same-test _ _ tests-match match-tests;
-    long = G .taken .long ∙ sym (R .taken .long);
-    assigned = λ f. assigned-columns (tests-match (sym e ∙ f));
-    kept = λ f. longer-kept N s s′ size (G .longer) (count * size) (R .taken) (G .taken) more;
-    wide = λ f. G .wide;
+  -- s₀ is the store before the second hook had its column
+  pub matched : (s₀ : List ℕ) → Taken N s₀ size → Longer N s₀ s size → (b : Bool) → b ≡ arcsTest m s′ size nodes dims codes cols (4 * count)
+      → Matched E s₀ s′ cols size b
+  matched s₀ T L b e =
+      let longer = longer-trans N s₀ s size L s′ (longer-less N s s′ (roots * size) (G .longer) size first-row) in
+      record {
+        is = e ∙ same-test _ _ tests-match match-tests;
+        long = G .taken .long ∙ sym (T .long);
+        assigned = λ f. assigned-columns (tests-match (sym e ∙ f));
+        kept = λ f. longer-kept N s₀ s′ size longer (count * size) T (G .taken) (omega (arith, first-row, more));
+        wide = λ f. G .wide;
+      }
+
+-- what the columns start from, once the hooks have theirs
+module _ {N : ℕ} {t s : List ℕ} {size : ℕ} {orbit : List ℕ} {k other : ℕ} {nodes parents dims : List ℕ} {roots count : ℕ} {codes cols₀ : List ℕ}
+    (P : Posed N t s size orbit k other nodes parents dims roots count codes cols₀) {s′ : List ℕ} {w : Bool}
+    (H : HungAll N t s s′ size orbit k other roots w) (e : w ≡ true) where
+  abbrev pub ready : BeforeMatching N t s′ size nodes parents dims roots count
+  ready = record {
+    at = P .ready .at;
+    walked = hung-walked (P .ready) s′ (H .done e (P .ready) .0) (H .done e (P .ready) .1);
+    hung = H .done e (P .ready) .0;
+    rooted = P .rooted;
   }
 
--- where two pairs fall on one dart
+  pub matched-at : {s″ cols : List ℕ} → Grown (view N t) nodes parents dims roots s′ s″ cols size count → (b : Bool)
+      → b ≡ arcsTest (view N t) s″ size nodes dims codes cols (4 * count) → Matched (site (P .ready .at)) s s″ cols size b
+  matched-at G b f = matched ready G (P .coded) s (P .ready .taken) (H .done e (P .ready) .1) b f
+
+-- where two pairs fall on one dart, or the other dart is in the orbit
 pub unmatched : {E : Site} {s s′ cols : List ℕ} {size : ℕ} → matches E ≡ false → length s′ ≡ length s → Matched E s s′ cols size false
 unmatched e long = record {
   is = sym e;

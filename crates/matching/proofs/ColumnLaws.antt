@@ -2,7 +2,7 @@
 -- Assumes nothing.
 use Prim.Native.Nat.{ℕ, _+_, _*_, _-_, _≤_, _<_}
 use mathlib.Core.Path.{_≡_, refl, sym, ap, _∙_, subst}
-use mathlib.Core.Logic.{_≢_, by-cases}
+use mathlib.Core.Logic.{by-cases}
 use mathlib.Core.Bool.{true, false, true≢false}
 use mathlib.Core.List.{List}
 use native.Mathlib.Decide.{ℕ-discrete}
@@ -11,8 +11,9 @@ use lib.ListN.{getD}
 use Rattle.base.proofs.TestLaws.{same-test}
 use Rattle.model.specs.Map.{Map}
 use Rattle.orbit.specs.Store.{mark, place, next, dartAt, Taken, Kept}
-use Rattle.orbit.specs.Places.{pushed, Pushed}
-use Rattle.matching.specs.Columns.{Longer, Linked, Column, Columned}
+use Rattle.orbit.specs.Places.{Pushed}
+use Rattle.matching.specs.Opposite.{Longer}
+use Rattle.matching.specs.Columns.{Linked, Column, Columned}
 use Rattle.orbit.proofs.StoreLaws.{pushed-other, pushed-place-other, pushed-place, among-at, among-of}
 
 -- ---- a store with further places
@@ -67,6 +68,14 @@ module _ (N : ℕ) (s s′ : List ℕ) (end : ℕ) (l : Longer N s s′ end) whe
 
 -- ---- one dart more
 
+-- a dart that takes the place `end` leaves the places before it and what is behind the places
+pub pushed-longer : (N : ℕ) (s s′ : List ℕ) (end y : ℕ) → y < N → Pushed N s end y s′ → Longer N s s′ end
+pushed-longer N s s′ end y l p = record {
+  places = λ e h. ap (λ (z : List ℕ). place N z e) (p .is) ∙ pushed-place-other N s end y e l (λ q. absurd (omega arith));
+  rest = λ k h. let fits = p .taken .fits in
+      ap (λ (z : List ℕ). getD z k 0) (p .is) ∙ pushed-other N s end y k (λ q. absurd (omega arith)) (λ q. absurd (omega arith));
+}
+
 pub mark-read : (s : List ℕ) (y w : ℕ) → w ≡ getD s y 0 → w ≡ 0 → mark s y ≡ 0
 unfolding mark
 mark-read s y w e z = sym e ∙ z
@@ -118,20 +127,13 @@ module _ (m : Map) (i from : ℕ) (s : List ℕ) (end : ℕ) where
       pub column-more : (s″ : List ℕ) → y < m .slots → Pushed (m .slots) s′ (end + r) y s″ → Column m i from s s″ end (r + 1)
       column-more s″ l p =
           let N = m .slots in
-          let fits = p .taken .fits in
-          let t : Taken N (pushed N s′ (end + r) y) (end + r + 1) = subst (λ (z : List ℕ). Taken N z (end + r + 1)) (p .is) (p .taken) in
-          let place-other : (e : ℕ) → e ≢ end + r → place N s″ e ≡ place N s′ e =
-          λ e ne. ap (λ (z : List ℕ). place N z e) (p .is) ∙ pushed-place-other N s′ (end + r) y e l ne in
+          let longer : Longer N s′ s″ (end + r) = pushed-longer N s′ s″ (end + r) y l p in
           record {
             taken = let same : end + (r + 1) ≡ end + r + 1 = omega arith in rw same (p .taken);
-            longer = record {
-              places = λ e h. place-other e (λ q. absurd (omega arith)) ∙ c .longer .places e h;
-              rest = λ k h. ap (λ (z : List ℕ). getD z k 0) (p .is)
-                  ∙ pushed-other N s′ (end + r) y k (λ q. absurd (omega arith)) (λ q. absurd (omega arith)) ∙ c .longer .rest k h;
-            };
+            longer = longer-trans N s s′ end (c .longer) s″ (longer-less N s′ s″ (end + r) longer end (omega arith));
             darts = λ q h. by-cases (ℕ-discrete q r)
                 (λ e. rw e (ap (λ (z : List ℕ). place N z (end + r)) (p .is) ∙ pushed-place N s′ (end + r) y (c .taken) l ∙ at))
-                (λ ne. place-other (end + q) (λ e. ne (omega arith)) ∙ c .darts q (omega arith));
+                (λ ne. longer .places (end + q) (omega arith) ∙ c .darts q (omega arith));
           }
 
   pub column-done : (s′ : List ℕ) (r : ℕ) → Column m i from s s′ end r → (size : ℕ) → r ≤ size → size ≤ r → Columned m i from s s′ end size true

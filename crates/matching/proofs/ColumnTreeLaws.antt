@@ -2,10 +2,10 @@
 -- Assumes nothing.
 use Prim.Native.Nat.{ℕ, zero, suc, _+_, _*_, _-_, _≤_, _<_}
 use mathlib.Core.Path.{_≡_, refl, sym, ap, _∙_, subst}
-use mathlib.Core.Logic.{⊎-elim, by-cases}
+use mathlib.Core.Logic.{_⊎_, inl, inr, ⊎-elim, by-cases}
 use mathlib.Core.Bool.{Bool, true, false, true≢false}
 use mathlib.Core.List.{List}
-use native.Mathlib.Nat.{not-suc-le-zero}
+use native.Mathlib.Nat.{not-suc-le-zero, mul-le-mul-right}
 use native.Mathlib.Decide.{ℕ-discrete, decLt}
 use native.Mathlib.Omega.{arith}
 use lib.ListN.{length, getD, set, length-set}
@@ -25,11 +25,14 @@ use Rattle.table.specs.Words.{Sized}
 use Rattle.orbit.specs.At.{site}
 use Rattle.orbit.specs.Store.{mark, place, dartAt, Taken}
 use Rattle.matching.specs.Columns.{BeforeMatching, Linked, Column, Columned, Grown, ColumnedAll}
+use Rattle.conditions.specs.Tree.{rootsOf}
+use Rattle.conditions.proofs.TreeLaws.{roots-few}
 use Rattle.orbit.proofs.PlaceLaws.{place-in}
 use Rattle.matching.proofs.ColumnLaws.{dart-place, longer-dart, longer-less, longer-trans}
+use Rattle.matching.proofs.OppositeLaws.{opposed-image}
 
-module _ {N : ℕ} {t s : List ℕ} {size : ℕ} {nodes parents dims : List ℕ} {count : ℕ}
-    (R : BeforeMatching N t s size nodes parents dims count) where
+module _ {N : ℕ} {t s : List ℕ} {size : ℕ} {nodes parents dims : List ℕ} {roots count : ℕ}
+    (R : BeforeMatching N t s size nodes parents dims roots count) where
   abbrev E : Site
   E = site (R .at)
 
@@ -48,34 +51,76 @@ module _ {N : ℕ} {t s : List ℕ} {size : ℕ} {nodes parents dims : List ℕ}
   -- ---- the orbit by its places
 
   pub good : GoodOrbit E
-  good = good-orbit m S (R .at .dart) (R .at .sound)
+  good = good-orbit m S (R .at .dart) (R .at .other) (R .at .sound)
 
   pub node-below : (k : ℕ) → k < count → node k < 16
   node-below k h = omega (arith, R .rooted .onLeft k h .0, accepted .shaped .nodesFew)
 
-  pub dim-below : (k : ℕ) → 1 ≤ k → k < count → dim k ≤ 3
+  pub dim-below : (k : ℕ) → roots ≤ k → k < count → dim k ≤ 3
   dim-below k l h = omega (arith, R .rooted .arc k l h .0, small S (accepted .shaped))
 
   -- ---- one entry more
 
-  pub grown-one : (cols : List ℕ) → length cols ≡ 16 → Grown m nodes parents dims s s (set cols 0 N) size 1
-  grown-one cols long =
-      let same : 1 * size ≡ size = omega arith in
+  -- there are one or two hooks
+  pub hooks-some : 1 ≤ roots
+  hooks-some = omega (arith, R .rooted .rootsIs, roots-few (S .second) .0)
+
+  pub hooks-few : roots ≤ 2
+  hooks-few = omega (arith, R .rooted .rootsIs, roots-few (S .second) .1)
+
+  -- the node of an entry that is a hook
+  pub hook-node : (j : ℕ) → j < roots → ((j ≡ 0) × (node j ≡ 0)) ⊎ ((j ≡ 1) × (roots ≡ 2) × (node j ≡ S .second))
+  hook-node j h = by-cases (ℕ-discrete j 0)
+      (λ z. inl (z, ap node z ∙ R .rooted .hooks .first))
+      (λ ne.
+      let few = hooks-few in
+      let two : roots ≡ 2 = omega arith in
+      let one : j ≡ 1 = omega arith in
+      let at : rootsOf (S .second) - 1 ≡ j = omega (arith, R .rooted .rootsIs) in
+      inr (one, two, ap node (sym at) ∙ R .rooted .hooks .last))
+
+  -- the columns of the hooks: that of the first begins with the places, that of the last of them behind the others
+  pub grown-hooks : (cols : List ℕ) → length cols ≡ 16 → (y : ℕ) → y ≡ getD nodes (roots - 1) 0
+      → Grown m nodes parents dims roots s s (set (set cols 0 N) y (N + (roots - 1) * size)) size roots
+  grown-hooks cols long y at =
+      let some = hooks-some in
+      let below : y < 16 = rw at (node-below (roots - 1) (omega (arith, R .rooted .some))) in
+      let wide₁ : length (set cols 0 N) ≡ 16 = simp length-set long in
+      let last : getD (set (set cols 0 N) y (N + (roots - 1) * size)) y 0 ≡ N + (roots - 1) * size =
+      getD-set-same (set cols 0 N) y (N + (roots - 1) * size) 0 (omega arith) in
       record {
         wide = simp length-set long;
-        taken = rw same (R .taken);
+        taken = R .hung .taken;
         longer = record { places = λ e h. refl; rest = λ i h. refl };
-        alive = λ e h. good .alive (place N s e) (place-in (R .walked) e (omega arith));
-        begins = λ j h.
+        alive = λ e h. by-cases (decLt e size)
+            (λ l. good .alive (place N s e) (place-in (R .walked) e l))
+            (λ l.
+            let two : roots ≡ 2 = two-rows e h (omega arith) in
+            let both : roots * size ≡ size + size = ap (λ (k : ℕ). k * size) two ∙ omega arith in
+            let q : e ≡ size + (e - size) = omega arith in
+            ap (λ (k : ℕ). m .state (place N s k)) q ∙ R .hung .second two .alive (e - size) (omega arith));
+        begins = λ j h. by-cases (ℕ-discrete j (roots - 1))
+            (λ z. ap (λ (v : ℕ). getD (set (set cols 0 N) y (N + (roots - 1) * size)) v 0) (ap node z ∙ sym at) ∙ last
+            ∙ ap (λ (k : ℕ). N + k * size) (sym z))
+            (λ ne.
+            let few = hooks-few in
             let z : j ≡ 0 = omega arith in
-            let first : node j ≡ 0 = ap node z ∙ R .rooted .root in
+            let first : node j ≡ 0 = ap node z ∙ R .rooted .hooks .first in
+            let entry : roots - 1 < count = omega (arith, R .rooted .some) in
+            let apart : 0 ≡ y → ⊥ = λ e. ne (R .rooted .once j (roots - 1) (omega arith) entry (first ∙ e ∙ at)) in
             let here : getD (set cols 0 N) 0 0 ≡ N = getD-set-same cols 0 N 0 (omega arith) in
             let e : j * size ≡ 0 = ap (λ (k : ℕ). k * size) z ∙ omega arith in
-            ap (λ (v : ℕ). getD (set cols 0 N) v 0) first ∙ here ∙ omega arith;
+            ap (λ (v : ℕ). getD (set (set cols 0 N) y (N + (roots - 1) * size)) v 0) first
+            ∙ getD-set-other (set cols 0 N) y 0 (N + (roots - 1) * size) 0 apart ∙ here ∙ omega arith);
         steps = λ j r l h k. absurd (omega arith);
       }
+    where
+      two-rows : (e : ℕ) → e < roots * size → size ≤ e → roots ≡ 2
+      two-rows e h l = by-cases (ℕ-discrete roots 1)
+          (λ z. absurd (let one : roots * size ≡ size = ap (λ (k : ℕ). k * size) z ∙ omega arith in omega arith))
+          (λ ne. let some = hooks-some in let few = hooks-few in omega arith)
 
-  module _ {s′ cols : List ℕ} {k : ℕ} (G : Grown m nodes parents dims s s′ cols size k) where
+  module _ {s′ cols : List ℕ} {k : ℕ} (G : Grown m nodes parents dims roots s s′ cols size k) where
     -- the dart of entry j at place r of the orbit
     abbrev dart : ℕ → ℕ → ℕ
     dart j r = dartAt s′ (getD cols (node j) 0) r
@@ -92,7 +137,7 @@ module _ {N : ℕ} {t s : List ℕ} {size : ℕ} {nodes parents dims : List ℕ}
     pub column-inside : (j : ℕ) → j < k → (N ≤ getD cols (node j) 0) × (getD cols (node j) 0 + size ≤ N + k * size)
     column-inside j h = let b = G .begins j h in let e = row-end size j k h in (omega arith, omega arith)
 
-    module _ (l : 1 ≤ k) (h : k < count) where
+    module _ (l : roots ≤ k) (h : k < count) where
       -- the column of the parent
       pub source : (N ≤ getD cols (parent k) 0) × (getD cols (parent k) 0 + size ≤ N + k * size)
       source = let p = R .rooted .earlier k l h in
@@ -121,18 +166,18 @@ module _ {N : ℕ} {t s : List ℕ} {size : ℕ} {nodes parents dims : List ℕ}
             ap (λ (z : ℕ). dartAt s″ z r) (col-old j b) ∙ longer-dart N s′ s″ (k * size) (C .longer) (getD cols (node j) 0) r (i .0) (omega arith)
 
         -- the column of an entry's parent
-        source-old : (j r : ℕ) → 1 ≤ j → j < k + 1 → r < size → dartAt s″ (getD cols′ (parent j) 0) r ≡ dartAt s′ (getD cols (parent j) 0) r
+        source-old : (j r : ℕ) → roots ≤ j → j < k + 1 → r < size → dartAt s″ (getD cols′ (parent j) 0) r ≡ dartAt s′ (getD cols (parent j) 0) r
         source-old j r a b c = let p = R .rooted .earlier j a (omega arith) in
             subst (λ (v : ℕ). dartAt s″ (getD cols′ v 0) r ≡ dartAt s′ (getD cols v 0) r) (p .2) (dart-old (p .0) r (omega (arith, p .1)) c)
 
-        pub grown-more : Grown m nodes parents dims s s″ cols′ size (k + 1)
+        pub grown-more : Grown m nodes parents dims roots s s″ cols′ size (k + 1)
         grown-more =
             let same : (k + 1) * size ≡ k * size + size = omega arith in
-            let first : size ≤ k * size = omega (arith, row-end size 0 k (omega arith)) in
+            let first : roots * size ≤ k * size = mul-le-mul-right size l in
             record {
               wide = simp length-set (G .wide);
               taken = rw same (C .taken);
-              longer = longer-trans N s s′ size (G .longer) s″ (longer-less N s′ s″ (k * size) (C .longer) size first);
+              longer = longer-trans N s s′ (roots * size) (G .longer) s″ (longer-less N s′ s″ (k * size) (C .longer) (roots * size) first);
               alive = λ e b. by-cases (decLt e (k * size))
                   (λ old. ap (m .state) (C .longer .places e old) ∙ G .alive e old)
                   (λ new.
@@ -168,7 +213,7 @@ module _ {N : ℕ} {t s : List ℕ} {size : ℕ} {nodes parents dims : List ℕ}
     turn-image u v i p e h l k a = eqb-true _ _ (arc-of E accepted good (image E) assignment u e v h l i k (implicit p) a)
 
     -- the step along the tree's arc to entry k
-    tree-image : (u k x : ℕ) → O u ≡ true → 1 ≤ k → k < count → x ≡ image E u (parent k) → m .link (dim k) x ≡ image E u (node k)
+    tree-image : (u k x : ℕ) → O u ≡ true → roots ≤ k → k < count → x ≡ image E u (parent k) → m .link (dim k) x ≡ image E u (node k)
     tree-image u k x e l h a =
         let b = R .rooted .arc k l h in
         let p = R .rooted .earlier k l h in
@@ -187,21 +232,27 @@ module _ {N : ℕ} {t s : List ℕ} {size : ℕ} {nodes parents dims : List ℕ}
         let same : mark s (place N s r) ≡ mark s (place N s q) = ap (mark s) (p .0) in
         (omega (arith, R .walked .back r a, R .walked .back q b), R .rooted .once j i c e (p .1))
 
-    module _ {s′ cols : List ℕ} {k : ℕ} (G : Grown m nodes parents dims s s′ cols size k) (few : k ≤ count) where
-      -- the first column is the orbit
-      first-image : (r : ℕ) → 1 ≤ k → r < size → dartAt s′ (getD cols (node 0) 0) r ≡ image E (place N s r) (node 0)
-      first-image r l h =
+    module _ {s′ cols : List ℕ} {k : ℕ} (G : Grown m nodes parents dims roots s s′ cols size k) (few : k ≤ count) where
+      -- the column of a hook: the orbit, or that of the second hook
+      hook-image : (j r : ℕ) → j < roots → j < k → r < size → dartAt s′ (getD cols (node j) 0) r ≡ image E (place N s r) (node j)
+      hook-image j r b l h =
           let u = place N s r in
-          let z : 0 * size + r ≡ r = omega arith in
-          dart-at G 0 r l ∙ ap (place N s′) z ∙ G .longer .places r h
-          ∙ sym (assignment .hook u (R .walked .slot r h) (place-in (R .walked) r h)) ∙ ap (image E u) (sym (R .rooted .root))
+          let row : place N s′ (j * size + r) ≡ place N s (j * size + r) = G .longer .places (j * size + r) (row-cell size j roots r b h) in
+          dart-at G j r l ∙ row ∙ ⊎-elim
+          (λ z.
+          let at : j * size + r ≡ r = ap (λ (i : ℕ). i * size + r) (z .0) ∙ omega arith in
+          ap (place N s) at ∙ sym (assignment .hook u (R .walked .slot r h) (place-in (R .walked) r h)) ∙ ap (image E u) (sym (z .1)))
+          (λ z.
+          let at : j * size + r ≡ size + r = ap (λ (i : ℕ). i * size + r) (z .0) ∙ omega arith in
+          ap (place N s) at ∙ opposed-image (R .at) (R .walked) q size (omega arith) (R .hung .second (z .1)) r h ∙ ap (image E u) (sym (z .2)))
+          (hook-node j b)
 
       images-below : (b j r : ℕ) → j < b → j < k → r < size → dartAt s′ (getD cols (node j) 0) r ≡ image E (place N s r) (node j)
       images-below zero j r h l c = absurd (not-suc-le-zero h)
-      images-below (suc b) j r h l c = by-cases (ℕ-discrete j 0)
-          (λ z. subst (λ (i : ℕ). dartAt s′ (getD cols (node i) 0) r ≡ image E (place N s r) (node i)) (sym z) (first-image r (omega arith) c))
+      images-below (suc b) j r h l c = by-cases (decLt j roots)
+          (λ z. hook-image j r z l c)
           (λ ne.
-          let some : 1 ≤ j = omega arith in
+          let some : roots ≤ j = omega arith in
           let p = R .rooted .earlier j some (omega arith) in
           let up : dartAt s′ (getD cols (parent j) 0) r ≡ image E (place N s r) (parent j) =
           subst (λ (v : ℕ). dartAt s′ (getD cols v 0) r ≡ image E (place N s r) v) (p .2)
@@ -212,7 +263,7 @@ module _ {N : ℕ} {t s : List ℕ} {size : ℕ} {nodes parents dims : List ℕ}
       pub images : (j r : ℕ) → j < k → r < size → dartAt s′ (getD cols (node j) 0) r ≡ image E (place N s r) (node j)
       images j r l c = images-below (suc j) j r (omega arith) l c
 
-      module _ (l : 1 ≤ k) (h : k < count) where
+      module _ (l : roots ≤ k) (h : k < count) where
         next-image : (r : ℕ) → r < size → m .link (dim k) (dartAt s′ (getD cols (parent k) 0) r) ≡ image E (place N s r) (node k)
         next-image r c =
             let p = R .rooted .earlier k l h in
@@ -243,29 +294,29 @@ module _ {N : ℕ} {t s : List ℕ} {size : ℕ} {nodes parents dims : List ℕ}
 
 -- ---- the loop over the entries
 
-pub columns-done : {N : ℕ} {t nodes parents dims s s′ cols : List ℕ} {size count k : ℕ} → k ≤ count → count ≤ k
-    → Grown (view N t) nodes parents dims s s′ cols size k → ColumnedAll N t nodes parents dims s s′ cols size count true
+pub columns-done : {N : ℕ} {t nodes parents dims s s′ cols : List ℕ} {roots size count k : ℕ} → k ≤ count → count ≤ k
+    → Grown (view N t) nodes parents dims roots s s′ cols size k → ColumnedAll N t nodes parents dims roots s s′ cols size count true
 columns-done {count = count} {k = k} h l G = record {
   done = λ e. let same : k ≡ count = omega arith in rw (← same) G;
   none = λ e. absurd (true≢false e);
 }
 
 -- the nodes of an entry are within the arrays
-module _ {N : ℕ} {t s : List ℕ} {size : ℕ} {nodes parents dims : List ℕ} {count : ℕ}
-    (R : BeforeMatching N t s size nodes parents dims count) {k x : ℕ} (h : k < count) where
+module _ {N : ℕ} {t s : List ℕ} {size : ℕ} {nodes parents dims : List ℕ} {roots count : ℕ}
+    (R : BeforeMatching N t s size nodes parents dims roots count) {k x : ℕ} (h : k < count) where
   pub node-fits : x ≡ getD nodes k 0 → x < 16
   node-fits a = rw a (node-below R k h)
 
-  pub parent-fits : 1 ≤ k → x ≡ getD parents k 0 → x < 16
+  pub parent-fits : roots ≤ k → x ≡ getD parents k 0 → x < 16
   parent-fits l a =
       let p = R .rooted .earlier k l h in
       rw (a, ← p .2) (node-below R (p .0) (omega (arith, p .1)))
 
 -- from, i and end are what the loop hands to the column of entry k
-module _ {N : ℕ} {t s : List ℕ} {size : ℕ} {nodes parents dims : List ℕ} {count : ℕ} {s′ cols : List ℕ} {k : ℕ}
-    (G : Grown (view N t) nodes parents dims s s′ cols size k) (l : 1 ≤ k) (h : k < count) {x i end : ℕ}
+module _ {N : ℕ} {t s : List ℕ} {size : ℕ} {nodes parents dims : List ℕ} {roots count : ℕ} {s′ cols : List ℕ} {k : ℕ}
+    (G : Grown (view N t) nodes parents dims roots s s′ cols size k) (l : roots ≤ k) (h : k < count) {x i end : ℕ}
     (a : x ≡ getD parents k 0) (b : i ≡ getD dims k 0) (e : end ≡ k * size) where
-  module _ (R : BeforeMatching N t s size nodes parents dims count) where
+  module _ (R : BeforeMatching N t s size nodes parents dims roots count) where
     pub column-asks : Sized N t × (Taken N s′ end × (((i ≤ 3) × (size ≤ N) × (N ≤ getD cols x 0) × (getD cols x 0 + size ≤ N + end))
         × Linked (view N t) i s′ (getD cols x 0) size))
     column-asks =
@@ -282,13 +333,13 @@ module _ {N : ℕ} {t s : List ℕ} {size : ℕ} {nodes parents dims : List ℕ}
         )
 
     pub columns-more : (s″ : List ℕ) (y : ℕ) → y ≡ getD nodes k 0 → (w : Bool) → Columned (view N t) i (getD cols x 0) s′ s″ end size w → w ≡ true
-        → Grown (view N t) nodes parents dims s s″ (set cols y (N + end)) size (k + 1)
+        → Grown (view N t) nodes parents dims roots s s″ (set cols y (N + end)) size (k + 1)
     columns-more s″ y c w C z =
         let D : Column (view N t) (getD dims k 0) (getD cols (getD parents k 0) 0) s′ s″ (k * size) size = rw (a, b, e) at (C .done z) in
         rw (c, e) (grown-more R G l h s″ D)
 
   pub columns-clash : (s″ : List ℕ) (w : Bool) → Columned (view N t) i (getD cols x 0) s′ s″ end size w → w ≡ false
-      → ColumnedAll N t nodes parents dims s s″ cols size count false
+      → ColumnedAll N t nodes parents dims roots s s″ cols size count false
   columns-clash s″ w C z = record {
     done = λ f. absurd (true≢false (sym f));
     none = λ f R. ⊎-elim

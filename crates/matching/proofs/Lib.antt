@@ -1,4 +1,5 @@
 pub mod ColumnLaws
+pub mod OppositeLaws
 pub mod ColumnTreeLaws
 pub mod ArcTestLaws
 pub mod AssignLaws

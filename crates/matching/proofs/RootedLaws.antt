@@ -1,10 +1,10 @@
--- For a caller of `assign`: the tree of an accepted scheme's left arcs spans its left nodes.
+-- For a caller of `assign`: the trees of an accepted scheme's left arcs span its left nodes.
 -- Assumes nothing.
 use Prim.Native.Nat.{ℕ, _≤_, _<_}
 use mathlib.Core.Path.{_≡_, sym, ap, ap₂, _∙_, subst}
-use mathlib.Core.Logic.{inl, inr, by-cases}
+use mathlib.Core.Logic.{inl, inr, ⊎-elim, by-cases}
 use mathlib.Core.Bool.{true}
-use native.Mathlib.Decide.{ℕ-discrete}
+use native.Mathlib.Decide.{decLt}
 use native.Mathlib.Omega.{arith}
 use lib.ListN.{getD}
 use Rattle.model.specs.Scheme.{left, arcPart, arcs, has}
@@ -12,9 +12,10 @@ use Rattle.model.specs.Conditions.{explicit, arcAt}
 use Rattle.model.specs.Accepted.{Accepted}
 use Rattle.model.specs.declared.Scheme.{Scheme}
 use Rattle.model.proofs.ArcLaws.{explicit-at, far-from, far-to, touches-from, touches-to}
-use Rattle.model.proofs.HookLaws.{first-hook, reached-found}
-use Rattle.conditions.specs.Tree.{Ends, TreeOf}
+use Rattle.model.proofs.HookLaws.{first-hook, second-hook, reached-found}
+use Rattle.conditions.specs.Tree.{Ends, rootsOf, TreeOf}
 use Rattle.conditions.specs.declared.tree.Tree.{Tree}
+use Rattle.conditions.proofs.TreeLaws.{root-cases}
 use Rattle.matching.specs.Columns.{Rooted}
 
 module _ (S : Scheme) (A : Accepted S) where
@@ -34,16 +35,24 @@ module _ (S : Scheme) (A : Accepted S) where
       ∙ ap explicit (far-to S left a ∙ e .0)
 
   module _ (t : Tree) (T : TreeOf S t) where
+    -- a hook is a left node
+    root-left : (k : ℕ) → k < rootsOf (S .second) → has S left (getD (t .node) k 0) ≡ true
+    root-left k h = ⊎-elim
+        (λ e. ap (has S left) e ∙ A .hooks _ (first-hook S) .kind)
+        (λ e. ap (has S left) e ∙ A .hooks _ (second-hook S) .kind)
+        (root-cases (t .node) (t .dim) (S .second) (T .roots) k h)
+
     entry-left : (k : ℕ) → k < t .size → has S left (getD (t .node) k 0) ≡ true
-    entry-left k h = by-cases (ℕ-discrete k 0)
-        (λ e. ap (λ (z : ℕ). has S left (getD (t .node) z 0)) e ∙ ap (has S left) (T .root) ∙ A .hooks _ (first-hook S) .kind)
+    entry-left k h = by-cases (decLt k (t .roots))
+        (λ l. root-left k (rw (T .rootsIs) at l))
         (λ ne. let b = T .branch k (omega arith) h in end-left (b .joined .arc) _ _ (b .joined .below) (b .joined .ends))
 
-    pub rooted : Rooted S (t .size) (t .node) (t .parent) (t .dim)
+    pub rooted : Rooted S (t .roots) (t .size) (t .node) (t .parent) (t .dim)
     rooted = record {
+      rootsIs = T .rootsIs;
       some = T .some;
       few = T .few;
-      root = T .root;
+      hooks = T .roots;
       onLeft = λ k h. (T .below k h, entry-left k h);
       arc = λ k l h.
           let b = T .branch k l h in (

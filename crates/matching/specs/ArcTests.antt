@@ -2,11 +2,11 @@
 -- Assumes nothing.
 use Prim.Native.Nat.{ℕ, _+_, _*_, _-_, _/_, _%_, _≤_, _<_}
 use mathlib.Core.Path.{_≡_}
-use mathlib.Core.Bool.{Bool, true, not, cond}
+use mathlib.Core.Bool.{Bool, true, cond}
 use mathlib.Core.List.{List}
 use lib.ListN.{length, getD}
 use lib.Dec.{eqb, ltb}
-use Rattle.base.specs.Test.{_and_, _or_}
+use Rattle.base.specs.Test.{_or_}
 use Rattle.base.specs.Below.{allBelow}
 use Rattle.model.specs.Map.{Map}
 use Rattle.table.specs.Words.{Sized}
@@ -35,9 +35,9 @@ unfoldable pub follows : Map → List ℕ → ℕ → ℕ → ℕ → ℕ → (�
 follows m s size i from base to = allBelow size (λ r. eqb (m .link i (dartAt s from r)) (dartAt s base (to r)))
 
 module _ (m : Map) (s : List ℕ) (size : ℕ) (dims cols : List ℕ) (j i from : ℕ) where
-  -- the explicit arc of entry j at dimension i, to a node: it is tested from the later of its two columns, and an arc of the tree not at all
+  -- the explicit arc of entry j at dimension i, to a node: it is tested from the later of its two columns, and an arc of a tree not at all
   unfoldable pub explicitTest : ℕ → Bool
-  explicitTest t = ltb from (getD cols t 0) or (not (eqb j 0) and eqb (getD dims j 0) i) or follows m s size i from (getD cols t 0) (λ r. r)
+  explicitTest t = ltb from (getD cols t 0) or eqb (getD dims j 0) i or follows m s size i from (getD cols t 0) (λ r. r)
 
   -- the implicit arc of entry j at dimension i, at a position; those of node 0 hold in any orbit
   unfoldable pub implicitTest : ℕ → Bool

@@ -11,11 +11,14 @@ use Rattle.model.specs.Match.{matches}
 use Rattle.model.specs.Shaped.{Coded}
 use Rattle.orbit.specs.Store.{Assigned, Kept}
 use Rattle.orbit.specs.At.{site}
-use Rattle.matching.specs.Columns.{BeforeMatching}
+use Rattle.matching.specs.Opposite.{BeforeHanging}
+use Rattle.matching.specs.Columns.{Rooted}
 
--- what the columns start from, with the codes of the scheme's left arcs, and room for the columns of all nodes
-pub record Posed (N : ℕ) (t s : List ℕ) (size : ℕ) (nodes parents dims : List ℕ) (count : ℕ) (codes cols : List ℕ) : Type 0 where
-  pub ready : BeforeMatching N t s size nodes parents dims count
+-- the orbit in the store, the trees of the scheme with the codes of its left arcs, and room for the columns of all nodes
+pub record Posed (N : ℕ) (t s : List ℕ) (size : ℕ) (orbit : List ℕ) (k other : ℕ) (nodes parents dims : List ℕ) (roots count : ℕ)
+    (codes cols : List ℕ) : Type 0 where
+  pub ready : BeforeHanging N t s size orbit k other roots
+  pub rooted : Rooted (ready .at .scheme) roots count nodes parents dims
   pub coded : Coded (ready .at .scheme) left codes
   pub colsLong : length cols ≡ 16
 
@@ -28,5 +31,6 @@ pub record Matched (E : Site) (s s′ cols : List ℕ) (size : ℕ) (answer : Bo
   pub wide : answer ≡ true → length cols ≡ 16
 
 -- it is the answer for the site at which it was asked
-pub record Answered (N : ℕ) (t s : List ℕ) (size : ℕ) (nodes parents dims : List ℕ) (count : ℕ) (codes cols s′ cols′ : List ℕ) (answer : Bool) : Type 0 where
-  pub at : (P : Posed N t s size nodes parents dims count codes cols) → Matched (site (P .ready .at)) s s′ cols′ size answer
+pub record Answered (N : ℕ) (t s : List ℕ) (size : ℕ) (orbit : List ℕ) (k other : ℕ) (nodes parents dims : List ℕ) (roots count : ℕ)
+    (codes cols s′ cols′ : List ℕ) (answer : Bool) : Type 0 where
+  pub at : (P : Posed N t s size orbit k other nodes parents dims roots count codes cols) → Matched (site (P .ready .at)) s s′ cols′ size answer

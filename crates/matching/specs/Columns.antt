@@ -1,4 +1,5 @@
--- The columns of the left nodes along the tree: what they start from, one column, and all of them.
+-- The columns of the left nodes along the trees: what they start from, one column, and all of them.
+-- The columns of the hooks, from which they start, are in Opposite.antt.
 -- Assumes nothing.
 use Prim.Native.Nat.{ℕ, _+_, _*_, _≤_, _<_}
 use mathlib.Core.Path.{_≡_}
@@ -6,35 +7,33 @@ use mathlib.Core.Bool.{Bool, true, false}
 use mathlib.Core.List.{List}
 use lib.ListN.{length, getD}
 use Rattle.model.specs.Map.{Map, view}
-use Rattle.model.specs.Scheme.{left, has, firstHook}
+use Rattle.model.specs.Scheme.{left, has}
 use Rattle.model.specs.Conditions.{explicit, arcAt}
 use Rattle.model.specs.Match.{matches}
 use Rattle.model.specs.declared.Scheme.{Scheme}
 use Rattle.orbit.specs.Store.{mark, place, dartAt, Taken}
 use Rattle.orbit.specs.At.{At, site, WalkedAt}
+use Rattle.conditions.specs.Tree.{rootsOf, Roots}
+use Rattle.matching.specs.Opposite.{Longer, Hung}
 
--- a tree of left arcs over all left nodes: entry k is a node that an arc joins to the node of an earlier entry
-pub record Rooted (S : Scheme) (size : ℕ) (node parent dim : List ℕ) : Type 0 where
-  pub some : 1 ≤ size
+-- trees of left arcs over all left nodes: the first entries are the hooks, and any other is a node that an arc joins to the node of an earlier entry
+pub record Rooted (S : Scheme) (roots size : ℕ) (node parent dim : List ℕ) : Type 0 where
+  pub rootsIs : roots ≡ rootsOf (S .second)
+  pub some : roots ≤ size
   pub few : size ≤ 16
-  pub root : getD node 0 0 ≡ firstHook
+  pub hooks : Roots node dim (S .second)
   pub onLeft : (k : ℕ) → k < size → (getD node k 0 < S .nodes) × (has S left (getD node k 0) ≡ true)
-  pub arc : (k : ℕ) → 1 ≤ k → k < size → (getD dim k 0 ≤ S .n) × (arcAt S left (getD parent k 0) (getD dim k 0) ≡ explicit (getD node k 0))
-  pub earlier : (k : ℕ) → 1 ≤ k → k < size → (j : ℕ) × (j < k) × (getD node j 0 ≡ getD parent k 0)
+  pub arc : (k : ℕ) → roots ≤ k → k < size → (getD dim k 0 ≤ S .n) × (arcAt S left (getD parent k 0) (getD dim k 0) ≡ explicit (getD node k 0))
+  pub earlier : (k : ℕ) → roots ≤ k → k < size → (j : ℕ) × (j < k) × (getD node j 0 ≡ getD parent k 0)
   pub once : (j k : ℕ) → j < size → k < size → getD node j 0 ≡ getD node k 0 → j ≡ k
   pub every : (s : ℕ) → s < S .nodes → has S left s ≡ true → (k : ℕ) × (k < size) × (getD node k 0 ≡ s)
 
--- an accepted scheme with its tree, at a live dart of a table that is well-formed for it, and in the store the orbit of the dart
-pub record BeforeMatching (N : ℕ) (t s : List ℕ) (size : ℕ) (nodes parents dims : List ℕ) (count : ℕ) : Type 0 where
+-- an accepted scheme with its trees, at live darts of a table that is well-formed for it, and in the store the columns of the hooks
+pub record BeforeMatching (N : ℕ) (t s : List ℕ) (size : ℕ) (nodes parents dims : List ℕ) (roots count : ℕ) : Type 0 where
   pub at : At N t
   pub walked : WalkedAt (site at) s size
-  pub taken : Taken N s size
-  pub rooted : Rooted (at .scheme) count nodes parents dims
-
--- s′ has what s has at its first `end` places and behind the places
-pub record Longer (N : ℕ) (s s′ : List ℕ) (end : ℕ) : Type 0 where
-  pub places : (e : ℕ) → e < end → place N s′ e ≡ place N s e
-  pub rest : (i : ℕ) → 2 * N ≤ i → getD s′ i 0 ≡ getD s i 0
+  pub hung : Hung (site at) s size roots
+  pub rooted : Rooted (at .scheme) roots count nodes parents dims
 
 -- the i-links lead from the column at `from` to slots
 pub record Linked (m : Map) (i : ℕ) (s : List ℕ) (from size : ℕ) : Type 0 where
@@ -51,17 +50,17 @@ pub record Columned (m : Map) (i from : ℕ) (s s′ : List ℕ) (end size : ℕ
   pub done : whole ≡ true → Column m i from s s′ end size
   pub clash : whole ≡ false → (r : ℕ) × (r < size) × Column m i from s s′ end r × (1 ≤ mark s′ (m .link i (dartAt s from r)))
 
--- the first k entries of the tree have their columns, and each but the first was made from its parent's
-pub record Grown (m : Map) (nodes parents dims : List ℕ) (s s′ cols : List ℕ) (size k : ℕ) : Type 0 where
+-- the first k entries of the trees have their columns, and each but the hooks' was made from its parent's
+pub record Grown (m : Map) (nodes parents dims : List ℕ) (roots : ℕ) (s s′ cols : List ℕ) (size k : ℕ) : Type 0 where
   pub wide : length cols ≡ 16
   pub taken : Taken (m .slots) s′ (k * size)
-  pub longer : Longer (m .slots) s s′ size
+  pub longer : Longer (m .slots) s s′ (roots * size)
   pub alive : (e : ℕ) → e < k * size → m .state (place (m .slots) s′ e) ≡ 1
   pub begins : (j : ℕ) → j < k → getD cols (getD nodes j 0) 0 ≡ m .slots + j * size
-  pub steps : (j r : ℕ) → 1 ≤ j → j < k → r < size
+  pub steps : (j r : ℕ) → roots ≤ j → j < k → r < size
       → dartAt s′ (getD cols (getD nodes j 0) 0) r ≡ m .link (getD dims j 0) (dartAt s′ (getD cols (getD parents j 0) 0) r)
 
 -- all entries have their columns, or else there is no match
-pub record ColumnedAll (N : ℕ) (t : List ℕ) (nodes parents dims : List ℕ) (s s′ cols : List ℕ) (size count : ℕ) (whole : Bool) : Type 0 where
-  pub done : whole ≡ true → Grown (view N t) nodes parents dims s s′ cols size count
-  pub none : whole ≡ false → (R : BeforeMatching N t s size nodes parents dims count) → matches (site (R .at)) ≡ false
+pub record ColumnedAll (N : ℕ) (t : List ℕ) (nodes parents dims : List ℕ) (roots : ℕ) (s s′ cols : List ℕ) (size count : ℕ) (whole : Bool) : Type 0 where
+  pub done : whole ≡ true → Grown (view N t) nodes parents dims roots s s′ cols size count
+  pub none : whole ≡ false → (R : BeforeMatching N t s size nodes parents dims roots count) → matches (site (R .at)) ≡ false

@@ -1,3 +1,4 @@
+pub mod Opposite
 pub mod Columns
 pub mod ArcTests
 pub mod Assign

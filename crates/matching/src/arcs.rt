@@ -1,4 +1,4 @@
-// The tests of the left arcs over the whole orbit, save those of the tree.
+// The tests of the left arcs over the whole orbit, save those of the trees.
 use conditions::arcs::wide;
 use orbit::store::word;
 use table::words::link;
@@ -78,10 +78,8 @@ fn explicit(
     if from < to {
         return true;
     }
-    if j != 0 {
-        if wide(dims[j]) == i {
-            return true;
-        }
+    if wide(dims[j]) == i {
+        return true;
     }
     straight(slots, table, store, size, i, from, to)
 }

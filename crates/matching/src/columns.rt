@@ -1,12 +1,12 @@
-// The darts of the left nodes: a column of places for each, along the tree of left arcs.
+// The darts of the left nodes: a column of places for each, along the trees of left arcs.
 use conditions::arcs::wide;
 use orbit::store::push;
 use orbit::store::word;
 use table::words::link;
 ghost use mathlib.Core.Path.{_≡_};
-ghost use Prim.Native.Nat.{_+_, _≤_};
-ghost use lib.ListN.{length};
-ghost use Rattle.model.specs.Map.{view};
+ghost use Prim.Native.Nat.{_+_, _*_, _-_, _<_, _≤_};
+ghost use lib.ListN.{length, getD, set};
+ghost use Rattle.model.specs.Map.{view, maxSlots};
 ghost use Rattle.table.specs.Words.{Sized};
 ghost use Rattle.orbit.specs.Store.{Taken};
 ghost use Rattle.matching.specs.Columns.{BeforeMatching, Linked, Columned, ColumnedAll};
@@ -39,7 +39,17 @@ fn column(
     true
 }
 
-// The columns of all entries of the tree; false where two pairs fall on one dart.
+// The columns of the hooks begin with the places of the orbit and, where there is a second hook, behind them.
+fn begin(slots: usize, size: usize, nodes: &[u8; 16], roots: usize, cols: &mut [usize; 16])
+    requires { ⌜ (slots ≤ maxSlots) × (size ≤ slots) × (1 ≤ roots) × (roots ≤ 2) × (getD (now nodes) (roots - 1) 0 < 16) ⌝ }
+    ensures { λ _. ⌜ now (cols .exit) ≡ set (set (now (cols .entry)) 0 slots) (getD (now (nodes .entry)) (roots - 1) 0) (slots + (roots - 1) * size) ⌝ }
+{
+    cols[0] = slots;
+    let last = roots - 1;
+    cols[wide(nodes[last])] = slots + last * size;
+}
+
+// The columns of all entries of the trees, after those of the hooks; false where two pairs fall on one dart.
 pub(crate) fn columns(
     slots: usize,
     table: &[u32],
@@ -48,16 +58,17 @@ pub(crate) fn columns(
     nodes: &[u8; 16],
     parents: &[u8; 16],
     dims: &[u8; 16],
+    roots: usize,
     count: usize,
     cols: &mut [usize; 16],
 ) -> bool
     requires { ⌜ length (now cols) ≡ 16 ⌝ }
-    requires { ⌜ BeforeMatching slots (now table) (now store) size (now nodes) (now parents) (now dims) count ⌝ }
-    ensures { λ r. ⌜ ColumnedAll slots (now (table .entry)) (now (nodes .entry)) (now (parents .entry)) (now (dims .entry)) (now (store .entry)) (now (store .exit)) (now (cols .exit)) size count r ⌝ }
+    requires { ⌜ BeforeMatching slots (now table) (now store) size (now nodes) (now parents) (now dims) roots count ⌝ }
+    ensures { λ r. ⌜ ColumnedAll slots (now (table .entry)) (now (nodes .entry)) (now (parents .entry)) (now (dims .entry)) roots (now (store .entry)) (now (store .exit)) (now (cols .exit)) size count r ⌝ }
 {
-    cols[0] = slots;
-    let mut end = size;
-    let mut k = 1;
+    begin(slots, size, nodes, roots, cols);
+    let mut end = roots * size;
+    let mut k = roots;
     while k < count {
         let from = cols[wide(parents[k])];
         if !column(slots, table, store, wide(dims[k]), from, end, size) {

@@ -12,24 +12,25 @@ use Rattle.base.specs.Test.{_and_}
 use Rattle.base.specs.First.{someIf, there, _orElse_}
 use Rattle.base.proofs.TestLaws.{same-test, and-left, and-right, and-same}
 use Rattle.base.proofs.FirstLaws.{or-else-same, getD-same}
-use Rattle.model.specs.Map.{Map, view, tableOf, live}
+use Rattle.model.specs.Map.{Map, view, tableOf}
 use Rattle.model.specs.WellFormed.{WellFormed, wellFormed}
 use Rattle.model.specs.Scheme.{schemeOf, orbitDim}
 use Rattle.model.specs.Edit.{edited}
 use Rattle.model.specs.File.{file, fileForm, fileMap}
 use Rattle.model.specs.Site.{Site, siteWith, Sound}
-use Rattle.model.specs.Calls.{sizesOk, mapFault, tableFault, checkTable, fitFault, siteFault, siteDone, siteOf}
+use Rattle.model.specs.Calls.{sizesOk, mapFault, tableFault, checkTable, firstDart, secondDart, isDart, fitFault, siteFault, siteDone, siteOf}
 use Rattle.model.specs.Calls.{editFaultAt, editFault, editAnswer, editTable, editStore}
 use Rattle.model.specs.Calls.{loadFaultAt, loadFault, loadAnswer, loaded, loadTable, writeFaultAt, writeFault, writeAnswer, writeOut}
 use Rattle.model.specs.Alike.{Alike}
 use Rattle.model.specs.Sequence.{AlikeTables}
 use Rattle.model.specs.declared.Scheme.{Scheme}
+use Rattle.model.specs.declared.Darts.{Darts}
 use Rattle.model.specs.declared.Answer.{Answer}
 use Rattle.model.specs.declared.Answer.the-variants.{Done, Edited, Written, BadCall, BadTable, NoDart, NoMatch, NoRoom, ShortOutput}
 use Rattle.model.proofs.WellFormedLaws.{wellFormed-iff}
 use Rattle.model.proofs.AcceptedLaws.{small}
 use Rattle.model.proofs.MatchIff.{good-orbit}
-use Rattle.model.proofs.CallLaws.{passed, bytes-accepted, granted, sound, ready, edit-table, refused-table}
+use Rattle.model.proofs.CallLaws.{passed, bytes-accepted, bytes-many, darts-alone, live-dart, granted, sound, ready, edit-table, refused-table}
 use Rattle.model.proofs.HoldsLaws.{holds-slotted, dimension-small, table-length, edit-holds, store-zero, load-slotted, written-file, writtenFile}
 use Rattle.model.proofs.AlikeLaws.{alike-refl, alike-sym, alike-trans, words-alike, well-alike, same-live, same-room, same-orbit}
 use Rattle.model.proofs.AlikeMatch.{moved, same-matches}
@@ -72,7 +73,7 @@ module _ (n N : ℕ) (t t′ : List ℕ) (a : AlikeTables n N t t′) where
 
   -- ---- an edit
 
-  module _ (store store′ : List ℕ) (e : length store ≡ length store′) (b : List ℕ) (d : ℕ) where
+  module _ (store store′ : List ℕ) (e : length store ≡ length store′) (b : List ℕ) (d : Darts) where
     abbrev S : Scheme
     S = schemeOf b
 
@@ -88,13 +89,13 @@ module _ (n N : ℕ) (t t′ : List ℕ) (a : AlikeTables n N t t′) where
           (wellFormed-iff n m′ .0 (sym same-well ∙ wellFormed-iff n m .1 (subst (λ (k : ℕ). WellFormed k m) same (g .well))))
 
       same-site : moved E m′ ≡ E′
-      same-site = ap (siteWith m′ S d) (same-orbit (S .n) (small S (g .accepted .shaped)) (S .places) (orbitDim S) (g .accepted .shaped .orbitDims) d
-          m m′ (a .alike) (g .well) well′ (g .slot) (g .alive))
+      same-site = ap (siteWith m′ S (firstDart d) (secondDart d)) (same-orbit (S .n) (small S (g .accepted .shaped)) (S .places) (orbitDim S)
+          (g .accepted .shaped .orbitDims) (firstDart d) m m′ (a .alike) (g .well) well′ (g .dart .slot) (g .dart .alive))
 
       fit-same : fitFault E ≡ fitFault E′
       unfolding fitFault
       fit-same = or-else-same _ _
-          (ap (λ (b : Bool). someIf (not b) NoMatch) (same-matches E (g .accepted) m′ (a .alike) (g .well) well′ (good-orbit m S d g)))
+          (ap (λ (b : Bool). someIf (not b) NoMatch) (same-matches E (g .accepted) m′ (a .alike) (g .well) well′ (good-orbit m S (firstDart d) (secondDart d) g)))
           (λ q. ap₂ (λ (c k : ℕ). someIf (ltb c k) NoRoom) (same-room m m′ (a .alike) (S .n) (g .well) well′) (same-added E m′ (a .alike)))
           ∙ ap fitFault same-site
 
@@ -103,8 +104,8 @@ module _ (n N : ℕ) (t t′ : List ℕ) (a : AlikeTables n N t t′) where
       counts =
           (λ i. Edited (same-size E m′ (a .alike) i) (same-added E m′ (a .alike) i) (same-deleted E m′ (a .alike) i)) ∙ ap siteDone same-site
 
-    same-dart-test : (ltb d N and live m d) ≡ (ltb d N and live m′ d)
-    same-dart-test = and-same (ltb d N) (λ h. same-live m m′ (a .alike) d (ltb-true _ _ h))
+    same-dart-test : (x : ℕ) → isDart m x ≡ isDart m′ x
+    same-dart-test x = and-same (ltb x N) (λ h. same-live m m′ (a .alike) x (ltb-true _ _ h))
 
     -- test by test, each asked only where those before it have passed
     same-fault : editFault n N t store b d ≡ editFault n N t′ store′ b d
@@ -114,14 +115,15 @@ module _ (n N : ℕ) (t t′ : List ℕ) (a : AlikeTables n N t t′) where
         or-else-same _ _ refl (λ r2.
         or-else-same _ _ refl (λ r6.
         or-else-same _ _ (ap (λ (w : Bool). someIf (not w) BadTable) same-well) (λ r7.
-        or-else-same _ _ (ap (λ (w : Bool). someIf (not w) NoDart) same-dart-test) (λ r8.
-        let dart = passed _ _ r8 in
+        or-else-same _ _ (ap₂ (λ (w v : Bool). someIf (not (w and v)) NoDart) (same-dart-test (firstDart d)) (same-dart-test (secondDart d))) (λ r8.
+        let darts = passed _ _ r8 in
         let same = eqb-true _ _ (passed _ _ r6) in
         fit-same (record {
-          accepted = bytes-accepted b r2;
+          accepted = bytes-accepted d b r2;
           well = subst (λ (k : ℕ). WellFormed k m) (sym same) (wellFormed-iff n m .0 (passed _ _ r7));
-          slot = ltb-true _ _ (and-left _ _ dart);
-          alive = eqb-true _ _ (and-right _ _ dart);
+          dart = live-dart m (firstDart d) (and-left _ _ darts);
+          other = live-dart m (secondDart d) (and-right _ _ darts);
+          alone = darts-alone d S (bytes-many d b r2);
         }) same)))))
 
     pub same-edit : editAnswer n N t store b d ≡ editAnswer n N t′ store′ b d

@@ -1,7 +1,7 @@
 -- Alike well-formed maps have the same assignments: a match in one is a match in the other, with the same darts.
 -- Assumes nothing.
 use Prim.Native.Nat.{ℕ, _≤_, _<_}
-use mathlib.Core.Path.{_≡_, sym, ap, _∙_}
+use mathlib.Core.Path.{_≡_, sym, ap, _∙_, subst}
 use mathlib.Core.Logic.{⊎-elim}
 use mathlib.Core.Bool.{true}
 use native.Mathlib.Omega.{arith}
@@ -9,6 +9,7 @@ use Rattle.base.proofs.TestLaws.{same-test}
 use Rattle.model.specs.Map.{Map}
 use Rattle.model.specs.WellFormed.{WellFormed}
 use Rattle.model.specs.Scheme.{left, orbitDim, has}
+use Rattle.model.specs.Orbit.{InOrbit, itself, onward}
 use Rattle.model.specs.Site.{Site, siteWith}
 use Rattle.model.specs.Match.{image, matches, Assignment}
 use Rattle.model.specs.Accepted.{Accepted}
@@ -19,7 +20,7 @@ use Rattle.model.proofs.AlikeLaws.{alike-sym}
 
 -- the site in another map
 abbrev pub moved : Site → Map → Site
-moved E m′ = siteWith m′ (E .scheme) (E .dart) (E .orbit)
+moved E m′ = siteWith m′ (E .scheme) (E .dart) (E .other) (E .orbit)
 
 module _ (E : Site) (g : Accepted (E .scheme)) (m′ : Map) (a : Alike (E .map) m′) (o : GoodOrbit E) where
   open Site E using (map as m, scheme as S, orbit as O)
@@ -35,11 +36,21 @@ module _ (E : Site) (g : Accepted (E .scheme)) (m′ : Map) (a : Alike (E .map) 
   pub orbit-link-same : (u p : ℕ) → O u ≡ true → p < S .places → m .link (orbitDim S p) u ≡ m′ .link (orbitDim S p) u
   orbit-link-same u p e k = link-same u (orbitDim S p) (o .slot u e) (o .alive u e) (g .shaped .orbitDims p k)
 
+  -- what is reached from the dart in one map is reached in the other
+  reached-too : {u : ℕ} → InOrbit m (S .places) (orbitDim S) (E .dart) u → InOrbit m′ (S .places) (orbitDim S) (E .dart) u × (O u ≡ true)
+  reached-too itself = (itself, o .dart)
+  reached-too (onward {x} {y} r p b e) =
+      let q = reached-too r in
+      (onward (q .0) p b (sym (orbit-link-same x p (q .1) b) ∙ e), subst (λ (z : ℕ). O z ≡ true) e (o .link x p (q .1) b))
+
   pub good-too : GoodOrbit E′
   good-too = record {
     slot = λ u e. let h = o .slot u e in omega arith;
     alive = λ u e. a .live u (o .slot u e) .0 (o .alive u e);
     link = λ u p e k. ap O (sym (orbit-link-same u p e k)) ∙ o .link u p e k;
+    dart = o .dart;
+    reached = λ u e. reached-too (o .reached u e) .0;
+    other = let s = o .other .slot in record { slot = omega arith; alive = a .live (E .other) (o .other .slot) .0 (o .other .alive) };
   }
 
   -- every dart of an assignment is live, so the other map has its links
@@ -50,6 +61,7 @@ module _ (E : Site) (g : Accepted (E .scheme)) (m′ : Map) (a : Alike (E .map) 
         let in-m = d .0 in
         (omega arith, a .live (f u s) (d .0) .0 (d .1));
     hook = λ u b e. A .hook u (o .slot u e) e;
+    second = A .second;
     explicitArc = λ u b e c k.
         let both = A .explicitArc u (o .slot u e) e c k in
         let from = g .sides left .shaped .from c k in

@@ -11,8 +11,9 @@ use Rattle.base.specs.First.{someIf, there, _orElse_}
 use Rattle.model.specs.Map.{view}
 use Rattle.model.specs.WellFormed.{wellFormed}
 use Rattle.model.specs.Scheme.{schemeOf}
-use Rattle.model.specs.Calls.{sizesOk, mapFault, tableFault, checkTable, bytesFault, siteFault, storedOk, editFaultAt, editFault, editAnswer, editTable}
+use Rattle.model.specs.Calls.{sizesOk, mapFault, tableFault, checkTable, bytesFault, takes, siteFault, storedOk, editFaultAt, editFault, editAnswer, editTable}
 use Rattle.model.specs.Calls.{writeFaultAt, writeFault, writeAnswer, writeOut}
+use Rattle.model.specs.declared.Darts.{Darts}
 use Rattle.model.specs.declared.Answer.the-variants.{BadTable}
 
 module _ (n N : ℕ) (t : List ℕ) (broken : wellFormed n (view N t) ≡ false) where
@@ -29,7 +30,7 @@ module _ (n N : ℕ) (t : List ℕ) (broken : wellFormed n (view N t) ≡ false)
     unfolding writeAnswer writeOut writeFault writeFaultAt tableFault someIf _orElse_ there
     broken-write out = (rw broken-fault refl, rw broken-fault refl)
 
-  pub broken-edit : (store b : List ℕ) (d : ℕ) → storedOk n N t store ≡ true → bytesFault b ≡ none → schemeOf b .n ≡ n
+  pub broken-edit : (store b : List ℕ) (d : Darts) → storedOk n N t store ≡ true → bytesFault (takes d b) b ≡ none → schemeOf b .n ≡ n
       → (editAnswer n N t store b d ≡ BadTable) × (editTable n N t store b d ≡ t)
   unfolding editAnswer editTable editFault editFaultAt siteFault someIf _orElse_ there
   broken-edit store b d sizes scheme same =

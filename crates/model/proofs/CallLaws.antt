@@ -1,22 +1,25 @@
 -- An edit that is not refused leaves a well-formed table, and any other leaves the table as it was.
 -- Assumes nothing.
 use Prim.Native.Nat.{ℕ, _≤_, _<_}
-use mathlib.Core.Path.{_≡_, sym, ap, _∙_}
-use mathlib.Core.Bool.{Bool, true, not, cond}
+use mathlib.Core.Path.{_≡_, refl, sym, ap, _∙_}
+use mathlib.Core.Bool.{Bool, true, false, not, cond, true≢false}
 use mathlib.Core.Option.{none, some}
 use mathlib.Core.List.{List}
 use borrow.Author.Tests.{eqb-true, ltb-true, ltb-false, not-false}
 use Rattle.base.specs.Below.{countBelow}
 use Rattle.base.specs.First.{someIf}
-use Rattle.model.specs.Map.{view, tableOf, unused}
+use Rattle.model.specs.Map.{Map, view, tableOf, unused}
 use Rattle.model.specs.WellFormed.{wellFormed}
-use Rattle.model.specs.Scheme.{inForm, schemeOf}
+use Rattle.model.specs.Scheme.{inForm, schemeOf, hasSecond}
 use Rattle.model.specs.Accepted.{Accepted}
 use Rattle.model.specs.Conditions.{schemeFault}
-use Rattle.model.specs.Site.{Sound}
+use Rattle.model.specs.Site.{LiveDart, Sound}
 use Rattle.model.specs.Match.{matches}
 use Rattle.model.specs.Edit.{addedDarts, edited}
-use Rattle.model.specs.Calls.{bytesFault, fitFault, siteFault, sizesOk, editFaultAt, siteOf, editFault, editTable}
+use Rattle.model.specs.Calls.{bytesFault, firstDart, secondDart, asMany, takes, isDart, fitFault, siteFault, sizesOk, editFaultAt, siteOf, editFault, editTable}
+use Rattle.model.specs.declared.Scheme.{Scheme}
+use Rattle.model.specs.declared.Darts.{Darts}
+use Rattle.model.specs.declared.Darts.the-variants.{One, Two}
 use Rattle.model.specs.declared.Answer.{Answer}
 use Rattle.base.proofs.TestLaws.{and-left, and-right}
 use Rattle.base.proofs.FirstLaws.{or-else-none, when-none, there-none, there-of}
@@ -31,24 +34,38 @@ use Rattle.model.proofs.KeepLaws.{edit-keeps}
 pub passed : (t : Bool) (a : Answer) → someIf (not t) a ≡ none → t ≡ true
 passed t a e = not-false t (when-none (not t) a e)
 
--- bytes with no fault are an accepted scheme's
-pub bytes-accepted : (b : List ℕ) → bytesFault b ≡ none → Accepted (schemeOf b)
+-- bytes with no fault in an edit are an accepted scheme's, which has as many hooks as there are darts
+pub bytes-accepted : (D : Darts) (b : List ℕ) → bytesFault (takes D b) b ≡ none → Accepted (schemeOf b)
 unfolding bytesFault
-bytes-accepted b e = let r = or-else-none _ _ e in accepted (schemeOf b) (shaped b (passed _ _ (r .0))) (r .1)
+bytes-accepted D b e = let r = or-else-none _ _ e in accepted (schemeOf b) (shaped b (and-left _ _ (passed _ _ (r .0)))) (r .1)
+
+pub bytes-many : (D : Darts) (b : List ℕ) → bytesFault (takes D b) b ≡ none → asMany D (schemeOf b) ≡ true
+unfolding bytesFault
+bytes-many D b e = and-right _ _ (passed _ _ (or-else-none _ _ e .0))
+
+-- a scheme with one hook is taken for one dart
+pub darts-alone : (D : Darts) (S : Scheme) → asMany D S ≡ true → hasSecond S ≡ false → secondDart D ≡ firstDart D
+darts-alone (One d) S q e = refl
+darts-alone (Two d d₂) S q e = absurd (true≢false (sym q ∙ e))
+
+-- a live slot, as a test and as facts
+pub live-dart : (m : Map) (x : ℕ) → isDart m x ≡ true → LiveDart m x
+live-dart m x e = record { slot = ltb-true _ _ (and-left _ _ e); alive = eqb-true _ _ (and-right _ _ e) }
 
 -- what has been tested of an edit that is not refused
-pub record Granted (n N : ℕ) (t store b : List ℕ) (d : ℕ) : Type 0 where
+pub record Granted (n N : ℕ) (t store b : List ℕ) (d : Darts) : Type 0 where
   pub sizes : sizesOk n N t ≡ true
   pub form : inForm b ≡ true
+  pub many : asMany d (schemeOf b) ≡ true
   pub accepted : schemeFault (schemeOf b) ≡ none
   pub dimension : schemeOf b .n ≡ n
   pub well : wellFormed n (view N t) ≡ true
-  pub slot : d < N
-  pub alive : view N t .state d ≡ 1
+  pub dart : LiveDart (view N t) (firstDart d)
+  pub other : LiveDart (view N t) (secondDart d)
   pub match : matches (siteOf N t b d) ≡ true
   pub room : addedDarts (siteOf N t b d) ≤ countBelow N (unused (view N t))
 
-module _ (n N : ℕ) (t store b : List ℕ) (d : ℕ) (q : editFault n N t store b d ≡ none) where
+module _ (n N : ℕ) (t store b : List ℕ) (d : Darts) (q : editFault n N t store b d ≡ none) where
   pub granted : Granted n N t store b d
   unfolding editFault editFaultAt bytesFault siteFault fitFault
   granted =
@@ -59,15 +76,17 @@ module _ (n N : ℕ) (t store b : List ℕ) (d : ℕ) (q : editFault n N t store
       let r7 = or-else-none _ _ (r6 .1) in
       let r8 = or-else-none _ _ (r7 .1) in
       let r9 = or-else-none _ _ (r8 .1) in
-      let dart = passed _ _ (r8 .0) in
+      let taken = passed _ _ (bytes .0) in
+      let darts = passed _ _ (r8 .0) in
       record {
         sizes = and-left _ _ (passed _ _ (r1 .0));
-        form = passed _ _ (bytes .0);
+        form = and-left _ _ taken;
+        many = and-right _ _ taken;
         accepted = bytes .1;
         dimension = eqb-true _ _ (passed _ _ (r6 .0));
         well = passed _ _ (r7 .0);
-        slot = ltb-true _ _ (and-left _ _ dart);
-        alive = eqb-true _ _ (and-right _ _ dart);
+        dart = live-dart (view N t) (firstDart d) (and-left _ _ darts);
+        other = live-dart (view N t) (secondDart d) (and-right _ _ darts);
         match = passed _ _ (r9 .0);
         room = ltb-false _ _ (when-none _ _ (r9 .1));
       }
@@ -78,12 +97,13 @@ module _ (n N : ℕ) (t store b : List ℕ) (d : ℕ) (q : editFault n N t store
       record {
         accepted = accepted (schemeOf b) (shaped b (g .form)) (g .accepted);
         well = wellFormed-iff (schemeOf b .n) (view N t) .0 (ap (λ (k : ℕ). wellFormed k (view N t)) (g .dimension) ∙ g .well);
-        slot = g .slot;
-        alive = g .alive;
+        dart = g .dart;
+        other = g .other;
+        alone = darts-alone d (schemeOf b) (g .many);
       }
 
   pub ready : Ready (siteOf N t b d)
-  ready = let g = granted in match-ready (view N t) (schemeOf b) d sound (g .match) (g .room)
+  ready = let g = granted in match-ready (view N t) (schemeOf b) (firstDart d) (secondDart d) sound (g .match) (g .room)
 
   pub edit-table : editTable n N t store b d ≡ tableOf (edited (siteOf N t b d))
   unfolding editTable
@@ -101,6 +121,6 @@ module _ (n N : ℕ) (t store b : List ℕ) (d : ℕ) (q : editFault n N t store
       (words-well (schemeOf b .n) m (small (schemeOf b) (shaped b (g .form))) (edit-keeps (siteOf N t b d) (sound .well) ready))
 
 -- an edit that is refused leaves the table as it was
-pub refused-table : (n N : ℕ) (t store b : List ℕ) (d : ℕ) (a : Answer) → editFault n N t store b d ≡ some a → editTable n N t store b d ≡ t
+pub refused-table : (n N : ℕ) (t store b : List ℕ) (d : Darts) (a : Answer) → editFault n N t store b d ≡ some a → editTable n N t store b d ≡ t
 unfolding editTable
 refused-table n N t store b d a q = ap (λ (c : Bool). cond c t (tableOf (edited (siteOf N t b d)))) (there-of q)

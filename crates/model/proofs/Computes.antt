@@ -7,7 +7,7 @@ use Rattle.base.specs.Lists.{list, listFrom, joined}
 use Rattle.model.specs.Map.{fieldAt, tableOf}
 use Rattle.model.specs.WellFormed as W
 use Rattle.model.specs.Reach.{next, rounds, paths}
-use Rattle.model.specs.Bytes.{dimensionOf}
+use Rattle.model.specs.Bytes.{namesSecond, dimensionOf, hookBytes, secondOf}
 use Rattle.model.specs.Arc.{farEnd}
 use Rattle.model.specs.Codes.{placed, targetsOf}
 use Rattle.model.specs.Scheme as S
@@ -20,9 +20,10 @@ use Rattle.model.specs.Calls as A
 
 unfoldable pub computes : Unit {0}
 unfolding _and_ _or_ _⇒_ someIf _orElse_ there allBelow anyBelow countBelow first least nthLowest list listFrom joined fieldAt tableOf next rounds
-    paths W.allPairs W.linkOk W.squareOk W.dartOk W.wellFormed dimensionOf S.orbitForm S.wordForm S.wordEmpty S.nodeForm S.arcForm S.arcsForm S.inForm
-    farEnd S.wordsOf placed targetsOf S.arcsOf S.schemeOf C.arcsOfDim C.arcAt C.leftArc C.pathTo S.isHook C.hookOk C.hookFault
-    C.incidenceOk C.incidenceFault C.fourArcs C.oneArc C.bothImplicit C.onCycle C.cycleOk C.cycleFault C.schemeFault O.leads O.orbit M.walk M.image
+    paths W.allPairs W.linkOk W.squareOk W.dartOk W.wellFormed namesSecond dimensionOf hookBytes secondOf S.orbitForm S.wordForm S.wordEmpty S.nodeForm
+    S.secondForm S.arcForm S.arcsForm S.inForm
+    farEnd S.wordsOf placed targetsOf S.arcsOf S.schemeOf C.arcsOfDim C.arcAt C.leftArc C.pathFrom C.pathTo S.isHook C.hookOk C.hookFault
+    C.incidenceOk C.incidenceFault C.fourArcs C.oneArc C.bothImplicit C.onCycle C.cycleOk C.cycleFault C.schemeFault O.leads O.orbitPath O.orbit M.walk M.opposite M.image
     M.arcHolds M.eachPair M.onlyPair M.matches E.freeSlot E.rank E.orbitSize E.addedDarts E.deletedDarts E.dartOf E.pairOf E.newLink E.newWord
     E.edited F.liveDarts F.section F.file F.fileForm F.placeOf F.fileMap A.mapFault A.tableFault A.checkTable A.bytesFault A.checkScheme A.fitFault
     A.siteFault A.editFaultAt A.siteDone A.editFault A.editAnswer A.editTable A.editStore A.loadFaultAt A.loadFault A.loadAnswer A.loaded A.loadTable

@@ -1,16 +1,16 @@
 -- The form of the bytes, taken apart and put together.
 -- Assumes nothing.
 use Prim.Native.Nat.{ℕ, _+_, _≤_, _<_}
-use mathlib.Core.Path.{_≡_}
+use mathlib.Core.Path.{_≡_, ap}
 use mathlib.Core.Logic.{_⊎_, inl, inr, ⊎-elim}
-use mathlib.Core.Bool.{true}
+use mathlib.Core.Bool.{Bool, true, false, cond}
 use mathlib.Core.List.{List}
-use borrow.Author.Tests.{eqb-true, eq-eqb, leb-true, le-leb, ltb-true}
+use borrow.Author.Tests.{eqb-true, eq-eqb, leb-true, le-leb, ltb-true, lt-ltb}
 use lib.ListN.{length}
 use Rattle.base.specs.Below.{allBelow}
-use Rattle.base.proofs.TestLaws.{and-left, and-right, and-of, or-cases, or-left, or-right}
-use Rattle.model.specs.Bytes.{onSide, dimensionOf, placesOf, nodesOf, kindAt, arcCount, arcByte, endAt}
-use Rattle.model.specs.Scheme.{Side, left, right, orbitForm, nodeForm, arcForm, arcsForm, inForm}
+use Rattle.base.proofs.TestLaws.{and-left, and-right, and-of, or-cases, or-left, or-right, if-so, if-of}
+use Rattle.model.specs.Bytes.{onSide, byte, namesSecond, dimensionOf, placesOf, nodesOf, nodeAt, kindAt, secondOf, arcCount, arcByte, endAt}
+use Rattle.model.specs.Scheme.{Side, left, right, orbitForm, nodeForm, secondForm, arcForm, arcsForm, inForm}
 
 module _ (b : List ℕ) where
   pub record Parts : Type 0 where
@@ -19,6 +19,7 @@ module _ (b : List ℕ) where
     pub nodesSome : 1 ≤ nodesOf b
     pub nodesFew : nodesOf b ≤ 16
     pub nodes : allBelow (nodesOf b) (nodeForm b) ≡ true
+    pub second : secondForm b ≡ true
     pub arcs : (side : Side) → arcsForm b side ≡ true
     pub ends : length b ≡ endAt b
 
@@ -31,12 +32,14 @@ module _ (b : List ℕ) where
       let q₄ = and-left _ _ q₃ in
       let q₅ = and-left _ _ q₄ in
       let q₆ = and-left _ _ q₅ in
+      let q₇ = and-left _ _ q₆ in
       record {
-        dimension = ⊎-elim (λ e. inl (eqb-true _ _ e)) (λ e. inr (eqb-true _ _ e)) (or-cases _ _ (and-left _ _ q₆));
-        orbit = and-right _ _ q₆;
-        nodesSome = leb-true _ _ (and-right _ _ q₅);
-        nodesFew = leb-true _ _ (and-right _ _ q₄);
-        nodes = and-right _ _ q₃;
+        dimension = ⊎-elim (λ e. inl (eqb-true _ _ e)) (λ e. inr (eqb-true _ _ e)) (or-cases _ _ (and-left _ _ q₇));
+        orbit = and-right _ _ q₇;
+        nodesSome = leb-true _ _ (and-right _ _ q₆);
+        nodesFew = leb-true _ _ (and-right _ _ q₅);
+        nodes = and-right _ _ q₄;
+        second = and-right _ _ q₃;
         arcs = sides (and-right _ _ q₂) (and-right _ _ q₁);
         ends = eqb-true _ _ (and-right _ _ q);
       }
@@ -47,9 +50,9 @@ module _ (b : List ℕ) where
 
   pub whole : Parts → inForm b ≡ true
   unfolding inForm
-  whole f = and-of (and-of (and-of (and-of (and-of (and-of (and-of
+  whole f = and-of (and-of (and-of (and-of (and-of (and-of (and-of (and-of
       (⊎-elim (λ e. or-left _ (eq-eqb _ _ e)) (λ e. or-right _ (eq-eqb _ _ e)) (f .dimension))
-      (f .orbit)) (le-leb _ _ (f .nodesSome))) (le-leb _ _ (f .nodesFew))) (f .nodes)) (f .arcs left)) (f .arcs right)) (eq-eqb _ _ (f .ends))
+      (f .orbit)) (le-leb _ _ (f .nodesSome))) (le-leb _ _ (f .nodesFew))) (f .nodes)) (f .second)) (f .arcs left)) (f .arcs right)) (eq-eqb _ _ (f .ends))
 
   pub places-few : Parts → placesOf b ≤ dimensionOf b + 1
   unfolding orbitForm
@@ -58,6 +61,28 @@ module _ (b : List ℕ) where
   pub arcs-few : Parts → (side : Side) → arcCount b side ≤ 64
   unfolding arcsForm
   arcs-few f side = leb-true _ _ (and-left _ _ (f .arcs side))
+
+-- the form of the second hook, taken apart
+pub record SecondParts (b : List ℕ) : Type 0 where
+  pub other : 1 ≤ secondOf b
+  pub node : secondOf b < nodesOf b
+  pub onLeft : onSide left (kindAt b (secondOf b)) ≡ true
+
+pub second-parts : (b : List ℕ) → secondForm b ≡ true → namesSecond b ≡ true → SecondParts b
+unfolding secondForm
+second-parts b q e =
+    let q₁ = if-so _ q e in
+    let q₂ = and-left _ _ q₁ in
+    record { other = leb-true _ _ (and-left _ _ q₂); node = ltb-true _ _ (and-right _ _ q₂); onLeft = and-right _ _ q₁ }
+
+pub second-whole : (b : List ℕ) → (namesSecond b ≡ true → SecondParts b) → secondForm b ≡ true
+unfolding secondForm
+second-whole b f = if-of _ (λ e. let p = f e in and-of (and-of (le-leb _ _ (p .other)) (lt-ltb _ _ (p .node))) (p .onLeft))
+
+-- no second hook is named: node 0 stands for it
+pub second-none : (b : List ℕ) → namesSecond b ≡ false → secondOf b ≡ 0
+unfolding secondOf
+second-none b e = ap (λ (c : Bool). cond c (byte b (nodeAt b (nodesOf b))) 0) e
 
 -- the form of an arc, taken apart
 pub record ArcParts (b : List ℕ) (side : Side) (a : ℕ) : Type 0 where

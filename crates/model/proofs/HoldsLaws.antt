@@ -23,6 +23,7 @@ use Rattle.model.specs.Answer.{number, values}
 use Rattle.model.specs.Calls.{zeros, sizesOk, mapFault, tableFault, checkTable, siteOf, editFault, editTable, editStore}
 use Rattle.model.specs.Calls.{loaded, loadTable, writeFaultAt, writeFault, writeAnswer, writeOut}
 use Rattle.model.specs.Sequence.{Slotted, Holds}
+use Rattle.model.specs.declared.Darts.{Darts}
 use Rattle.model.specs.declared.Answer.{Answer}
 use Rattle.model.specs.declared.Answer.the-variants.{Done, Written, BadCall, BadTable, ShortOutput}
 use Rattle.model.proofs.SizeLaws.{sizes-iff}
@@ -96,7 +97,7 @@ module _ (n N : ℕ) (t : List ℕ) where
 -- ---- what the calls leave
 
 -- an edit that is not refused
-pub edit-holds : (n N : ℕ) (t store b : List ℕ) (d : ℕ) → editFault n N t store b d ≡ none → Holds n N (editTable n N t store b d)
+pub edit-holds : (n N : ℕ) (t store b : List ℕ) (d : Darts) → editFault n N t store b d ≡ none → Holds n N (editTable n N t store b d)
 unfolding edited
 edit-holds n N t store b d q =
     let g = granted n N t store b d q in
@@ -107,7 +108,7 @@ edit-holds n N t store b d q =
     }
 
 -- an edit of a well-formed map, refused or not
-pub edit-kept : (n N : ℕ) (t store b : List ℕ) (d : ℕ) → Holds n N t → Holds n N (editTable n N t store b d)
+pub edit-kept : (n N : ℕ) (t store b : List ℕ) (d : Darts) → Holds n N t → Holds n N (editTable n N t store b d)
 edit-kept n N t store b d h = go (editFault n N t store b d) refl
   where
     go : (o : Option Answer) → editFault n N t store b d ≡ o → Holds n N (editTable n N t store b d)
@@ -115,7 +116,7 @@ edit-kept n N t store b d h = go (editFault n N t store b d) refl
     go (some r) q = rw (refused-table n N t store b d r q) h
 
 -- an edit's store is zero afterwards, save where its length is wrong
-module _ (n N : ℕ) (t store b : List ℕ) (d : ℕ) (s : sizesOk n N t ≡ true) where
+module _ (n N : ℕ) (t store b : List ℕ) (d : Darts) (s : sizesOk n N t ≡ true) where
   pub store-zero : length store ≡ 16 * N → editStore n N t store b d ≡ replicate (16 * N) 0
   unfolding editStore _and_
   store-zero e = rw (s, eq-eqb (length store) (16 * N) e) (ap (λ (k : ℕ). replicate k 0) e)

@@ -2,21 +2,22 @@
 -- Assumes nothing.
 use Prim.Native.Nat.{ℕ, _<_}
 use mathlib.Core.Path.{_≡_, refl, sym, ap, _∙_, subst}
-use mathlib.Core.Logic.{inl, inr, ⊎-elim, _↔_}
-use mathlib.Core.Bool.{Bool, true, false, not}
-use mathlib.Core.Option.{some}
+use mathlib.Core.Logic.{_⊎_, inl, inr, ⊎-elim, _↔_}
+use mathlib.Core.Bool.{Bool, true, false, not, true≢false}
+use mathlib.Core.Option.{none, some}
 use mathlib.Core.List.{List, [], _∷_, _++_}
+use native.Mathlib.Omega.{arith}
 use lib.Dec.{eqb}
-use borrow.Author.Tests.{eqb-true, eq-eqb}
+use borrow.Author.Tests.{eqb-true, eq-eqb, not-true}
 use Rattle.base.specs.Test.{_and_, _or_}
-use Rattle.base.specs.First.{least, someIf, there}
+use Rattle.base.specs.First.{least, someIf, there, _orElse_}
 use Rattle.base.proofs.TestLaws.{and-left, and-right, and-of, not-both, or-cases, or-left, or-right}
 use Rattle.base.proofs.BelowLaws.{all-at, all-of}
-use Rattle.base.proofs.FirstLaws.{when-at, there-at, first-at, first-of, least-only, least-none-of}
+use Rattle.base.proofs.FirstLaws.{or-else-cases, when-at, there-at, there-of, there-first, there-second, first-at, first-of, least-only, least-none-of, least-hit}
 use Rattle.model.specs.Scheme.{left, arcs, arcPart, firstHook, isHook}
 use Rattle.model.specs.Shaped.{Shaped}
 use Rattle.model.specs.Reach.{Leads, here, step}
-use Rattle.model.specs.Conditions.{Hooked, hookOk, leftArc, pathTo, Joins, Reached, atHook, overArc}
+use Rattle.model.specs.Conditions.{Hooked, hookOk, leftArc, pathFrom, pathTo, Joins, Reached, atHook, overArc}
 use Rattle.model.specs.declared.Scheme.{Scheme}
 use Rattle.model.proofs.ReachLaws.{path-start, path-leads, path-found}
 
@@ -25,11 +26,16 @@ use Rattle.model.proofs.ReachLaws.{path-start, path-leads, path-found}
 module _ (S : Scheme) where
   pub first-hook : isHook S firstHook ≡ true
   unfolding isHook
-  first-hook = eq-eqb firstHook firstHook refl
+  first-hook = or-left _ (eq-eqb firstHook firstHook refl)
 
-  pub only-hook : (h : ℕ) → isHook S h ≡ true → h ≡ firstHook
+  pub second-hook : isHook S (S .second) ≡ true
   unfolding isHook
-  only-hook h e = eqb-true h firstHook e
+  second-hook = or-right _ (eq-eqb (S .second) (S .second) refl)
+
+  -- there is no third
+  pub two-hooks : (h : ℕ) → isHook S h ≡ true → (h ≡ firstHook) ⊎ (h ≡ S .second)
+  unfolding isHook
+  two-hooks h e = ⊎-elim (λ q. inl (eqb-true _ _ q)) (λ q. inr (eqb-true _ _ q)) (or-cases _ _ e)
 
   pub hook-iff : (h : ℕ) → (hookOk S h ≡ true) ↔ Hooked S h
   unfolding hookOk
@@ -65,12 +71,34 @@ module _ (S : Scheme) where
       joined (inl e) = or-left _ (and-of (eq-eqb _ _ (e .0)) (eq-eqb _ _ (e .1)))
       joined (inr e) = or-right _ (and-of (eq-eqb _ _ (e .0)) (eq-eqb _ _ (e .1)))
 
-  abbrev pub Path : List ℕ → ℕ → Type 0
-  Path = Leads (S .nodes) (isHook S) (leftArc S)
+  -- from the node h over left arcs
+  abbrev pub Path : ℕ → List ℕ → ℕ → Type 0
+  Path h = Leads (S .nodes) (eqb h) (leftArc S)
 
-  path-reaches : {p : List ℕ} {s : ℕ} → Path p s → Reached S s
-  path-reaches (here h e) = atHook e
-  path-reaches (step {p} {x} {y} {i} l h e) = let a = arc-between x y i e in overArc (path-reaches l) (a .0) (a .1) (a .3)
+  path-reaches : (h : ℕ) → isHook S h ≡ true → {p : List ℕ} {s : ℕ} → Path h p s → Reached S s
+  path-reaches h k (here b e) = atHook (ap (isHook S) (sym (eqb-true h _ e)) ∙ k)
+  path-reaches h k (step {p} {x} {y} {i} l b e) = let a = arc-between x y i e in overArc (path-reaches h k l) (a .0) (a .1) (a .3)
+
+  -- the path that is found from a node
+  pub path-from : (h s : ℕ) (p : List ℕ) → s < S .nodes → pathFrom S h s ≡ some p → Path h p s
+  unfolding pathFrom
+  path-from h s p b e = path-leads (S .nodes) (eqb h) (leftArc S) s p b e
+
+  -- what is found is found from the first hook, or else from the second
+  pub path-cases : (s : ℕ) → there (pathTo S s) ≡ true
+      → (there (pathFrom S firstHook s) ≡ true) ⊎ ((pathFrom S firstHook s ≡ none) × (there (pathFrom S (S .second) s) ≡ true))
+  unfolding pathTo
+  path-cases s e =
+      let g = there-at (pathTo S s) e in
+      ⊎-elim (λ q. inl (there-of q)) (λ q. inr (q .0, there-of (q .1))) (or-else-cases (pathFrom S firstHook s) (pathFrom S (S .second) s) (g .0) (g .1))
+
+  -- and from either one it is
+  path-of : (h s : ℕ) → isHook S h ≡ true → there (pathFrom S h s) ≡ true → there (pathTo S s) ≡ true
+  unfolding pathTo
+  path-of h s k e = ⊎-elim
+      (λ q. there-first _ _ (ap (λ (x : ℕ). there (pathFrom S x s)) (sym q) ∙ e))
+      (λ q. there-second _ _ (ap (λ (x : ℕ). there (pathFrom S x s)) (sym q) ∙ e))
+      (two-hooks S h k)
 
   module _ (f : Shaped S) where
     -- both ends of a left arc are nodes
@@ -80,38 +108,48 @@ module _ (S : Scheme) where
 
     -- a hook is a node
     pub hook-below : (h : ℕ) → isHook S h ≡ true → h < S .nodes
-    hook-below h e = subst (λ (x : ℕ). x < S .nodes) (sym (only-hook S h e)) (f .nodesSome)
+    hook-below h e = ⊎-elim
+        (λ q. subst (λ (x : ℕ). x < S .nodes) (sym q) (f .nodesSome))
+        (λ q. subst (λ (x : ℕ). x < S .nodes) (sym q) (f .secondBelow))
+        (two-hooks S h e)
 
-    reached-path : {s : ℕ} → Reached S s → (p : List ℕ) × Path p s
-    reached-path (atHook {h} e) = ([], here (hook-below h e) e)
+    -- what is reached is reached over a path from a hook
+    reached-path : {s : ℕ} → Reached S s → (h : ℕ) × (isHook S h ≡ true) × (p : List ℕ) × Path h p s
+    reached-path (atHook {h} e) = (h, e, [], here (hook-below h e) (eq-eqb h h refl))
     reached-path (overArc {s} {t} r a h j) =
         let q = reached-path r in
         let b = between-arc s t a h j in
-        (q .0 ++ (b .0 ∷ []), step (q .1) (joined-below a s t h j) (b .1))
+        (q .0, q .1, q .2 ++ (b .0 ∷ []), step (q .3) (joined-below a s t h j) (b .1))
 
     pub reached-found : {s : ℕ} → Reached S s → there (pathTo S s) ≡ true
-    unfolding pathTo
-    reached-found r = path-found (S .nodes) (isHook S) (leftArc S) (reached-path r .1)
-
-    pub found-path : (s : ℕ) → s < S .nodes → there (pathTo S s) ≡ true → (p : List ℕ) × (pathTo S s ≡ some p) × Path p s
-    unfolding pathTo
-    found-path s h e =
-        let g = there-at (pathTo S s) e in
-        (g .0, g .1, path-leads (S .nodes) (isHook S) (leftArc S) s (g .0) h (g .1))
+    unfolding pathFrom
+    reached-found {s} r = let q = reached-path r in path-of (q .0) s (q .1) (path-found (S .nodes) (eqb (q .0)) (leftArc S) (q .3))
 
     pub found-reached : (s : ℕ) → s < S .nodes → there (pathTo S s) ≡ true → Reached S s
-    found-reached s h e = path-reaches (found-path s h e .2)
+    found-reached s b e = ⊎-elim
+        (λ q. let g = there-at _ q in path-reaches firstHook (first-hook S) (path-from firstHook s (g .0) b (g .1)))
+        (λ q. let g = there-at _ (q .1) in path-reaches (S .second) (second-hook S) (path-from (S .second) s (g .0) b (g .1)))
+        (path-cases s e)
 
-    -- a hook's path is the empty one
-    pub hook-path : (h : ℕ) → isHook S h ≡ true → pathTo S h ≡ some []
-    unfolding pathTo
-    hook-path h e = path-start (S .nodes) (isHook S) (leftArc S) h (hook-below h e) e
+    -- from the first hook to itself the path is the empty one
+    pub hook-path : pathFrom S firstHook firstHook ≡ some []
+    unfolding pathFrom
+    hook-path = path-start (S .nodes) (eqb firstHook) (leftArc S) firstHook (f .nodesSome) (eq-eqb firstHook firstHook refl)
 
-    -- the least hook that is not as is asked can be the first one alone
-    pub wrong-hook : least (S .nodes) (λ s. isHook S s and not (hookOk S s)) ≡ someIf (not (hookOk S firstHook)) firstHook
-    unfolding someIf
-    wrong-hook = go (hookOk S firstHook) refl
+    -- the least hook that is not as is asked: the first one, else the second
+    pub wrong-hook : least (S .nodes) (λ s. isHook S s and not (hookOk S s))
+        ≡ someIf (not (hookOk S firstHook)) firstHook orElse someIf (not (hookOk S (S .second))) (S .second)
+    unfolding someIf _orElse_
+    wrong-hook = go (hookOk S firstHook) refl (hookOk S (S .second)) refl
       where
-        go : (b : Bool) → hookOk S firstHook ≡ b → least (S .nodes) (λ s. isHook S s and not (hookOk S s)) ≡ someIf (not b) firstHook
-        go true q = least-none-of (S .nodes) _ (λ s h. not-both (isHook S s) (hookOk S s) (λ e. ap (hookOk S) (only-hook S s e) ∙ q))
-        go false q = least-only (S .nodes) _ firstHook (f .nodesSome) (and-of (first-hook S) (ap not q)) (λ s h e. only-hook S s (and-left _ _ e))
+        go : (b : Bool) → hookOk S firstHook ≡ b → (c : Bool) → hookOk S (S .second) ≡ c
+            → least (S .nodes) (λ s. isHook S s and not (hookOk S s)) ≡ someIf (not b) firstHook orElse someIf (not c) (S .second)
+        go true q true r = least-none-of (S .nodes) _ (λ s h. not-both (isHook S s) (hookOk S s)
+            (λ e. ⊎-elim (λ z. ap (hookOk S) z ∙ q) (λ z. ap (hookOk S) z ∙ r) (two-hooks S s e)))
+        go true q false r = least-only (S .nodes) _ (S .second) (f .secondBelow) (and-of (second-hook S) (ap not r))
+            (λ s h e. ⊎-elim
+            (λ z. absurd (true≢false (sym q ∙ ap (hookOk S) (sym z) ∙ not-true _ (and-right _ _ e))))
+            (λ z. z)
+            (two-hooks S s (and-left _ _ e)))
+        go false q c r = least-hit (S .nodes) _ firstHook (f .nodesSome) (least-none-of firstHook _ (λ s h. absurd (omega arith)))
+            (and-of (first-hook S) (ap not q))

@@ -2,9 +2,9 @@
 -- Assumes nothing.
 use Prim.Native.Nat.{ℕ, suc, _≤_, _<_}
 use mathlib.Core.Path.{_≡_, refl, sym, ap, ap₂, _∙_, subst}
-use mathlib.Core.Logic.{⊎-elim}
+use mathlib.Core.Logic.{_⊎_, inl, inr, ⊎-elim}
 use mathlib.Core.Bool.{Bool, true}
-use mathlib.Core.Option.{Option, some, Option·getD}
+use mathlib.Core.Option.{Option}
 use mathlib.Core.List.{List, [], _∷_, _++_}
 use native.Mathlib.Omega.{arith}
 use borrow.Author.Tests.{eqb-true, eq-eqb}
@@ -14,24 +14,31 @@ use Rattle.model.specs.Map.{Map}
 use Rattle.model.specs.WellFormed.{WellFormed}
 use Rattle.model.specs.Reach.{here, step}
 use Rattle.model.specs.Scheme.{left, orbitDim, word, arcs, arcPart, has, firstHook}
-use Rattle.model.specs.Conditions.{Arc, absent, explicit, implicit, arcAt, touches, far, pathTo}
-use Rattle.model.specs.Site.{Site}
-use Rattle.model.specs.Match.{walk, image, arcHolds, eachPair, onlyPair, matches, Assignment}
+use Rattle.model.specs.Conditions.{Arc, absent, explicit, implicit, arcAt, touches, far, pathFrom}
+use Rattle.model.specs.Orbit.{InOrbit, itself, onward}
+use Rattle.model.specs.Site.{Site, LiveDart}
+use Rattle.model.specs.Match.{walk, along, opposite, image, arcHolds, eachPair, onlyPair, matches, Assignment}
 use Rattle.model.specs.Accepted.{Accepted, SingleSide}
 use Rattle.base.proofs.TestLaws.{and-left, and-right, and-of, or-cases, if-so, if-of}
 use Rattle.base.proofs.BelowLaws.{all-at, all-of}
+use Rattle.base.proofs.FirstLaws.{there-at}
 use Rattle.model.proofs.ArcLaws.{explicit-at, implicit-at, explicit-from, implicit-from, far-from, far-to, touches-from, touches-to}
 use Rattle.model.proofs.AcceptedLaws.{small}
-use Rattle.model.proofs.HookLaws.{Path, first-hook, only-hook, hook-path, arc-between, found-path, reached-found}
+use Rattle.model.proofs.HookLaws.{Path, second-hook, hook-path, arc-between, path-from, path-cases, reached-found}
+use Rattle.model.proofs.OrbitLaws.{step-link, OrbitPath, orbit-path}
 
 module _ (E : Site) where
   open Site E using (map as m, scheme as S, orbit as O)
 
-  -- what the match needs of an orbit: its darts are live, and it is closed under the links of the orbit type
+  -- what the match needs of an orbit: its darts are live and reached from the dart, and it is closed under the links of the orbit type;
+  -- and of the second dart: it is live
   pub record GoodOrbit : Type 0 where
     pub slot : (u : ℕ) → O u ≡ true → u < m .slots
     pub alive : (u : ℕ) → O u ≡ true → m .state u ≡ 1
     pub link : (u p : ℕ) → O u ≡ true → p < S .places → O (m .link (orbitDim S p) u) ≡ true
+    pub dart : O (E .dart) ≡ true
+    pub reached : (u : ℕ) → O u ≡ true → InOrbit m (S .places) (orbitDim S) (E .dart) u
+    pub other : LiveDart m (E .other)
 
 -- ---- walks
 
@@ -41,23 +48,61 @@ walk-more m [] i x = refl
 walk-more m (j ∷ p) i x = walk-more m p i (m .link j x)
 
 module _ (E : Site) (g : Accepted (E .scheme)) where
-  open Site E using (map as m, scheme as S, orbit as O)
-
-  pathLeads : (s : ℕ) → s < S .nodes → has S left s ≡ true → (p : List ℕ) × (pathTo S s ≡ some p) × Path S p s
-  pathLeads s h l = found-path S (g .shaped) s h (reached-found S (g .shaped) (g .reach s h l))
+  open Site E using (map as m, scheme as S, dart as d, other as d₂, orbit as O)
 
   image-hook : (u : ℕ) → image E u firstHook ≡ u
   unfolding image walk
-  image-hook u = rw (hook-path S (g .shaped) firstHook (first-hook S)) refl
+  image-hook u = ap (λ (o : Option (List ℕ)). along m o u (along m (pathFrom S (S .second) firstHook) (opposite E u) u)) (hook-path S (g .shaped))
 
   abbrev gl : SingleSide S left
   gl = g .sides left
 
-  image-walk : (u s : ℕ) (p : List ℕ) → pathTo S s ≡ some p → image E u s ≡ walk m p u
+  -- the image of (u, s) is the end of a walk from the dart of a hook: u at the first, its opposite at the second
+  record Walk (u s : ℕ) : Type 0 where
+    hook : ℕ
+    start : ℕ
+    path : List ℕ
+    leads : Path S hook path s
+    is : image E u s ≡ walk m path start
+    from : ((hook ≡ firstHook) × (start ≡ u)) ⊎ ((hook ≡ S .second) × (start ≡ opposite E u))
+
+  image-walk : (u s : ℕ) → s < S .nodes → has S left s ≡ true → Walk u s
   unfolding image
-  image-walk u s p e = ap (λ (o : Option (List ℕ)). walk m (Option·getD o []) u) e
+  image-walk u s h l = ⊎-elim
+      (λ q. let p = there-at _ q in record {
+        hook = firstHook;
+        start = u;
+        path = p .0;
+        leads = path-from S firstHook s (p .0) h (p .1);
+        is = ap (λ (o : Option (List ℕ)). along m o u (along m (pathFrom S (S .second) s) (opposite E u) u)) (p .1);
+        from = inl (refl, refl);
+      })
+      (λ q. let p = there-at _ (q .1) in record {
+        hook = S .second;
+        start = opposite E u;
+        path = p .0;
+        leads = path-from S (S .second) s (p .0) h (p .1);
+        is = ap₂ (λ (o r : Option (List ℕ)). along m o u (along m r (opposite E u) u)) (q .0) (p .1);
+        from = inr (refl, refl);
+      })
+      (path-cases S s (reached-found S (g .shaped) (g .reach s h l)))
 
   module _ (o : GoodOrbit E) where
+    -- all that is reached from the dart is in the orbit
+    in-orbit : {u : ℕ} → InOrbit m (S .places) (orbitDim S) d u → O u ≡ true
+    in-orbit itself = o .dart
+    in-orbit (onward {x} {y} r p b e) = subst (λ (z : ℕ). O z ≡ true) e (o .link x p (in-orbit r) b)
+
+    abbrev OPath : List ℕ → ℕ → Type 0
+    OPath = OrbitPath m (S .places) (orbitDim S) d
+
+    -- every orbit dart has a path from the dart, and its opposite is the end of that path from the other dart
+    opposite-path : (u : ℕ) → O u ≡ true → (p : List ℕ) × OPath p u × (opposite E u ≡ walk m p d₂)
+    unfolding opposite
+    opposite-path u e =
+        let f = orbit-path m (S .places) (orbitDim S) d (λ x r. o .slot x (in-orbit r)) (o .reached u e) in
+        (f .0, f .2, ap (λ (q : Option (List ℕ)). along m q d₂ d₂) (f .1))
+
     -- what `eachPair` says of a pair
     pair-at : (t : ℕ → ℕ → Bool) → eachPair E t ≡ true → (u : ℕ) → O u ≡ true → (s : ℕ) → s < S .nodes → has S left s ≡ true → t u s ≡ true
     unfolding eachPair
@@ -70,22 +115,43 @@ module _ (E : Site) (g : Accepted (E .scheme)) where
     -- ---- a match is an assignment
 
     module _ (w : WellFormed (S .n) m) where
-      walk-dart : (u : ℕ) → O u ≡ true → {p : List ℕ} {s : ℕ} → Path S p s → (walk m p u < m .slots) × (m .state (walk m p u) ≡ 1)
+      -- one link more from a live dart
+      more-live : (p : List ℕ) (i x : ℕ) → i ≤ S .n → LiveDart m (walk m p x) → LiveDart m (walk m (p ++ (i ∷ [])) x)
+      more-live p i x k r = subst (LiveDart m) (sym (walk-more m p i x)) (record {
+        slot = w .below (walk m p x) (r .slot) (r .alive) i k;
+        alive = w .alive (walk m p x) (r .slot) (r .alive) i k;
+      })
+
+      walk-live : (v h : ℕ) → LiveDart m v → {p : List ℕ} {s : ℕ} → Path S h p s → LiveDart m (walk m p v)
       unfolding walk
-      walk-dart u e (here h z) = (o .slot u e, o .alive u e)
-      walk-dart u e (step {p} {x} {y} {i} l h j) =
-          let r = walk-dart u e l in
+      walk-live v h r (here b z) = r
+      walk-live v h r (step {p} {x} {y} {i} l b j) =
           let a = arc-between S x y i j in
-          let d : i ≤ S .n = subst (λ (k : ℕ). k ≤ S .n) (a .2) (gl .shaped .dims (a .0) (a .1)) in (
-            subst (λ (x : ℕ). x < m .slots) (sym (walk-more m p i u)) (w .below (walk m p u) (r .0) (r .1) i d),
-            ap (m .state) (walk-more m p i u) ∙ w .alive (walk m p u) (r .0) (r .1) i d,
-          )
+          more-live p i v (subst (λ (k : ℕ). k ≤ S .n) (a .2) (gl .shaped .dims (a .0) (a .1))) (walk-live v h r l)
+
+      orbit-live : {p : List ℕ} {u : ℕ} → OPath p u → LiveDart m (walk m p d₂)
+      unfolding walk
+      orbit-live (here b z) = o .other
+      orbit-live (step {p} {x} {y} {i} l b j) =
+          let a = step-link m (S .places) (orbitDim S) d x y i j in
+          more-live p i d₂ (subst (λ (k : ℕ). k ≤ S .n) (a .2) (g .shaped .orbitDims (a .0) (a .1))) (orbit-live l)
+
+      -- the dart of a hook is live, and so is what is found from it
+      start-live : (u s : ℕ) → O u ≡ true → (v : Walk u s) → LiveDart m (v .start)
+      start-live u s e v = ⊎-elim
+          (λ q. subst (LiveDart m) (sym (q .1)) (record { slot = o .slot u e; alive = o .alive u e }))
+          (λ q. let r = opposite-path u e in subst (LiveDart m) (sym (q .1 ∙ r .2)) (orbit-live (r .1)))
+          (v .from)
+
+      image-live : (u : ℕ) → O u ≡ true → (s : ℕ) → s < S .nodes → has S left s ≡ true → LiveDart m (image E u s)
+      image-live u e s h l =
+          let v = image-walk u s h l in subst (LiveDart m) (sym (v .is)) (walk-live (v .start) (v .hook) (start-live u s e v) (v .leads))
 
       module _ (q : matches E ≡ true) where
         both-at : (u : ℕ) → O u ≡ true → (s : ℕ) → s < S .nodes → has S left s ≡ true
             → (allBelow (suc (S .n)) (λ i. arcHolds E u s i (arcAt S left s i)) and onlyPair E u s) ≡ true
         unfolding matches
-        both-at u e s h l = pair-at _ q u e s h l
+        both-at u e s h l = pair-at _ (and-right _ _ q) u e s h l
 
         arc-at : (u : ℕ) → O u ≡ true → (s : ℕ) → s < S .nodes → has S left s ≡ true → (i : ℕ) → i ≤ S .n → arcHolds E u s i (arcAt S left s i) ≡ true
         arc-at u e s h l i k = all-at (suc (S .n)) _ (and-left _ _ (both-at u e s h l)) i (omega arith)
@@ -106,14 +172,11 @@ module _ (E : Site) (g : Accepted (E .scheme)) where
             eqb-true _ _ (subst (λ (c : Arc). arcHolds E u s i c ≡ true) (implicit-at S left gl s i p h b k refl) (arc-at u e s h l i k))
 
         pub match-assigns : Assignment E (image E)
-        unfolding onlyPair
+        unfolding onlyPair matches
         match-assigns = record {
-          darts = λ u b e s h l.
-              let p = pathLeads s h l in
-              let d = walk-dart u e (p .2) in
-              let same = image-walk u s (p .0) (p .1) in
-              (subst (λ (x : ℕ). x < m .slots) (sym same) (d .0), ap (m .state) same ∙ d .1);
+          darts = λ u b e s h l. let r = image-live u e s h l in (r .slot, r .alive);
           hook = λ u b e. image-hook u;
+          second = eqb-true _ _ (and-left _ _ q);
           explicitArc = λ u b e a k.
               let f = gl .shaped .from a k in
               let t = gl .shaped .to a k in (
@@ -129,21 +192,49 @@ module _ (E : Site) (g : Accepted (E .scheme)) where
     -- ---- an assignment is the match
 
     module _ (f : ℕ → ℕ → ℕ) (A : Assignment E f) where
-      walk-is : (u : ℕ) → O u ≡ true → {p : List ℕ} {s : ℕ} → Path S p s → walk m p u ≡ f u s
+      -- from the dart of (u, h) a path leads to the dart of (u, s)
+      walk-is : (u : ℕ) → O u ≡ true → (v h : ℕ) → v ≡ f u h → {p : List ℕ} {s : ℕ} → Path S h p s → walk m p v ≡ f u s
       unfolding walk
-      walk-is u e (here {y} h z) = sym (A .hook u (o .slot u e) e) ∙ ap (f u) (sym (only-hook S y z))
-      walk-is u e (step {p} {x} {y} {i} l h j) =
+      walk-is u e v h same (here b z) = same ∙ ap (f u) (eqb-true h _ z)
+      walk-is u e v h same (step {p} {x} {y} {i} l b j) =
           let a = arc-between S x y i j in
           let x-arc = A .explicitArc u (o .slot u e) e (a .0) (a .1) in
-          walk-more m p i u ∙ ap (m .link i) (walk-is u e l)
+          walk-more m p i v ∙ ap (m .link i) (walk-is u e v h same l)
           ∙ ⊎-elim
           (λ c. ap₂ (λ (k z : ℕ). m .link k (f u z)) (sym (a .2)) (sym (c .0)) ∙ x-arc .0 ∙ ap (f u) (c .1))
           (λ c. ap₂ (λ (k z : ℕ). m .link k (f u z)) (sym (a .2)) (sym (c .1)) ∙ x-arc .1 ∙ ap (f u) (c .0))
           (a .3)
 
+      -- what the second hook's implicit arcs say: its darts follow one another as the orbit darts do
+      pub second-link : (u p : ℕ) → O u ≡ true → p < S .places → m .link (orbitDim S p) (f u (S .second)) ≡ f (m .link (orbitDim S p) u) (S .second)
+      second-link u p e k =
+          let h = g .hooks (S .second) (second-hook S) in
+          let q : word S left (S .second) p ≡ orbitDim S p = h .word p k in
+          let low = g .shaped .orbitDims p k in
+          let n3 = small S (g .shaped) in
+          ap (λ (i : ℕ). m .link i (f u (S .second))) (sym q)
+          ∙ A .implicitArc u (o .slot u e) e (S .second) (g .shaped .secondBelow) (h .kind) p k (λ c. omega arith)
+
+      -- so the path from the dart to u leads from the other dart to the opposite of u
+      orbit-is : {p : List ℕ} {u : ℕ} → OPath p u → (walk m p d₂ ≡ f u (S .second)) × (O u ≡ true)
+      unfolding walk
+      orbit-is (here {y} b z) =
+          let same = eqb-true d y z in (sym (A .second) ∙ ap (λ (x : ℕ). f x (S .second)) same, subst (λ (x : ℕ). O x ≡ true) same (o .dart))
+      orbit-is (step {p} {x} {y} {i} l b j) =
+          let r = orbit-is l in
+          let a = step-link m (S .places) (orbitDim S) d x y i j in (
+            walk-more m p i d₂ ∙ ap₂ (m .link) (sym (a .2)) (r .0) ∙ second-link x (a .0) (r .1) (a .1) ∙ ap (λ (z : ℕ). f z (S .second)) (a .3),
+            subst (λ (z : ℕ). O z ≡ true) (a .3) (o .link x (a .0) (r .1) (a .1)),
+          )
+
       -- there is no other assignment than `image`
       pub assigned : (u : ℕ) → O u ≡ true → (s : ℕ) → s < S .nodes → has S left s ≡ true → image E u s ≡ f u s
-      assigned u e s h l = let p = pathLeads s h l in image-walk u s (p .0) (p .1) ∙ walk-is u e (p .2)
+      assigned u e s h l =
+          let v = image-walk u s h l in
+          v .is ∙ walk-is u e (v .start) (v .hook) (⊎-elim
+          (λ q. q .1 ∙ sym (A .hook u (o .slot u e) e) ∙ ap (f u) (sym (q .0)))
+          (λ q. let r = opposite-path u e in q .1 ∙ r .2 ∙ orbit-is (r .1) .0 ∙ ap (f u) (sym (q .0)))
+          (v .from)) (v .leads)
 
       touched : (u : ℕ) → O u ≡ true → (s i a : ℕ) → a < arcs S left → touches S left s i a ≡ true
           → (far S left s a < S .nodes) × (has S left (far S left s a) ≡ true) × (m .link i (f u s) ≡ f u (far S left s a))
@@ -182,8 +273,9 @@ module _ (E : Site) (g : Accepted (E .scheme)) where
 
       pub assigns-match : matches E ≡ true
       unfolding matches onlyPair
-      assigns-match = pair-of _ (λ u b e s h l. and-of
+      assigns-match = and-of (eq-eqb _ _ (assigned d (o .dart) (S .second) (g .shaped .secondBelow) (g .hooks _ (second-hook S) .kind) ∙ A .second))
+          (pair-of _ (λ u b e s h l. and-of
           (all-of (suc (S .n)) _ (λ i k. arc-of u e s h l i (omega arith) (arcAt S left s i) refl))
           (pair-of _ (λ v c d t i r. if-of _ (λ same.
           let q = A .different u b e s h l v c d t i r (sym (assigned u e s h l) ∙ eqb-true _ _ same ∙ assigned v d t i r) in
-          and-of (eq-eqb _ _ (q .0)) (eq-eqb _ _ (q .1))))))
+          and-of (eq-eqb _ _ (q .0)) (eq-eqb _ _ (q .1)))))))

@@ -9,7 +9,7 @@ use Rattle.model.specs.Match.{Assignment}
 use Rattle.model.specs.Edit.{rank, dartOf, edited}
 use Rattle.model.specs.Rewriting.{Rewriting}
 use Rattle.model.proofs.ArcLaws.{no-arc}
-use Rattle.model.proofs.HookLaws.{first-hook}
+use Rattle.model.proofs.HookLaws.{first-hook, second-hook}
 use Rattle.model.proofs.KindLaws.{right-stays, added-right, preserved-right, preserved-not-added}
 use Rattle.model.proofs.RankLaws.{dart-left}
 use Rattle.model.proofs.EditLaws as L
@@ -27,6 +27,7 @@ module _ {E : Site} (ready : Ready E) where
   assignment = record {
     darts = λ u b e s h l. subst (λ (x : ℕ). (x < m .slots) × (m .state x ≡ 1)) (sym (dart-left E u s l)) (A .darts u b e s h l);
     hook = λ u b e. dart-left E u firstHook (g .hooks firstHook (first-hook S) .kind) ∙ A .hook u b e;
+    second = dart-left E (E .dart) (S .second) (g .hooks (S .second) (second-hook S) .kind) ∙ A .second;
     explicitArc = λ u b e a h.
         let from = g .shaped .sides left .from a h in
         let to = g .shaped .sides left .to a h in

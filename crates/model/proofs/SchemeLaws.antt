@@ -17,7 +17,7 @@ use Rattle.base.proofs.TestLaws.{and-left, and-right, or-cases, true-or-false}
 use Rattle.base.proofs.BelowLaws.{all-at}
 use Rattle.base.proofs.FirstLaws.{first-same, least-none-of, least-same}
 use Rattle.base.proofs.ListLaws.{getD-list}
-use Rattle.model.specs.Bytes.{onSide, byte, dimensionOf, placesOf, nodesOf, kindAt, wordAt, arcCount, arcByte, upTo}
+use Rattle.model.specs.Bytes.{onSide, byte, namesSecond, dimensionOf, placesOf, nodesOf, kindAt, wordAt, hookBytes, secondOf, arcCount, arcByte, upTo}
 use Rattle.model.specs.Arc.{farEnd, arcOf}
 use Rattle.model.specs.Codes.{placeCode, placed, placedAt, targetsOf, targets, arcCode}
 use Rattle.model.specs.Scheme.{Side, left, right, orbitForm, wordForm, nodeForm, arcsForm, inForm, wordsOf, arcsOf, schemeOf, kind, orbitDim}
@@ -56,8 +56,8 @@ module _ (b : List ℕ) (q : inForm b ≡ true) where
   pub arcs-few : (side : Side) → arcCount b side ≤ 64
   arcs-few side = F.arcs-few b form side
 
-  -- docs/RULES.md: the longest scheme has 537 bytes; the bench program's limit relies on it: no scheme in the form is too long for it
-  pub form-short : length b ≤ 537
+  -- docs/RULES.md: the longest scheme has 537 bytes, and one more where it names a second hook
+  pub form-short : length b ≤ 537 + hookBytes b
   form-short =
       let ends = form .ends in
       let n3 = small in
@@ -214,6 +214,19 @@ module _ (b : List ℕ) (q : inForm b ≡ true) where
       let f = and-left _ _ (and-left _ _ (and-left _ _ (and-left _ _ (form-node s h)))) in
       rw (value-kind s h) (leb-true 1 _ (and-left _ _ f), leb-true _ 3 (and-right _ _ f))
 
+  -- the second hook is a node, and where one is named it is a left one
+  second-below : secondOf b < nodesOf b
+  second-below = ⊎-elim
+      (λ e. F.second-parts b (form .second) e .node)
+      (λ e. let none = F.second-none b e in let some = form .nodesSome in omega arith)
+      (true-or-false (namesSecond b))
+
+  second-left : ltb 0 (secondOf b) ≡ true → has (schemeOf b) left (secondOf b) ≡ true
+  second-left h = ap (onSide left) (value-kind _ second-below) ∙ ⊎-elim
+      (λ e. F.second-parts b (form .second) e .onLeft)
+      (λ e. absurd (let none = F.second-none b e in let named = ltb-true 0 (secondOf b) h in omega arith))
+      (true-or-false (namesSecond b))
+
   shaped-side : (side : Side) (few : arcs (schemeOf b) side ≡ arcCount b side) → ShapedSide (schemeOf b) side
   unfolding schemeOf End
   shaped-side side same = record {
@@ -234,6 +247,8 @@ module _ (b : List ℕ) (q : inForm b ≡ true) where
     nodesSome = form .nodesSome;
     nodesFew = nodes-few;
     kinds = kind-range;
+    secondBelow = second-below;
+    secondLeft = second-left;
     sides = λ side. shaped-side side (count-is side);
   }
     where

@@ -16,7 +16,7 @@ pub record SingleSide (S : Scheme) (side : Side) : Type 0 where
 
 pub record Accepted (S : Scheme) : Type 0 where
   pub shaped : Shaped S
-  -- hook: "Node 0 has kind 1 or 2 and its left word equals the orbit type. Every node of kind 1 or 2 can be reached from node 0 over left arcs."
+  -- hook: "Node 0 has kind 1 or 2 and its left word equals the orbit type", and so the second hook; "left nodes must be reached from either hook"
   pub hooks : (h : ℕ) → isHook S h ≡ true → Hooked S h
   pub reach : (s : ℕ) → s < S .nodes → has S left s ≡ true → Reached S s
   -- incidence: "On each side a node has at most one arc of each dimension, explicit and implicit together. A preserved node has the same

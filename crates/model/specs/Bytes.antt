@@ -1,10 +1,10 @@
--- 'The scheme's bytes': where each of the five sections stands. Bytes past the end count as 0; `inForm` (Scheme.antt) tests the exact length.
+-- 'The scheme's bytes': where each of the five sections and the second hook stand. Bytes past the end count as 0; `inForm` (Scheme.antt) tests the exact length.
 -- Assumes nothing.
-use Prim.Native.Nat.{ℕ, _+_, _*_}
+use Prim.Native.Nat.{ℕ, _+_, _*_, _-_}
 use mathlib.Core.Bool.{Bool, cond}
 use mathlib.Core.List.{List}
 use lib.ListN.{getD}
-use lib.Dec.{eqb, ltb}
+use lib.Dec.{eqb, ltb, leb}
 use Rattle.base.specs.Test.{_or_}
 
 pub data Side : Type 0 where
@@ -20,9 +20,13 @@ module _ (b : List ℕ) where
   abbrev pub byte : ℕ → ℕ
   byte at = getD b at 0
 
+  -- the first byte is n, or n + 32 where the scheme names a second hook
+  unfoldable pub namesSecond : Bool
+  namesSecond = leb 32 (byte 0)
+
   -- n, which the first byte says
   unfoldable pub dimensionOf : ℕ
-  dimensionOf = byte 0
+  dimensionOf = cond namesSecond (byte 0 - 32) (byte 0)
 
   -- k, the orbit type's count; its dimensions stand from byte 2 on
   abbrev pub placesOf : ℕ
@@ -44,10 +48,18 @@ module _ (b : List ℕ) where
   wordAt left s p = byte (nodeAt s + 1 + p)
   wordAt right s p = byte (nodeAt s + 1 + placesOf + p)
 
+  -- how many bytes the second hook takes, right after the nodes: one where it is named, else none
+  unfoldable pub hookBytes : ℕ
+  hookBytes = cond namesSecond 1 0
+
+  -- the second hook's node number; 0 where none is named
+  unfoldable pub secondOf : ℕ
+  secondOf = cond namesSecond (byte (nodeAt nodesOf)) 0
+
   -- a side's count of arcs stands at `arcsAt`, its arcs after it: the left arcs, then the right arcs
   abbrev pub arcsAt : Side → ℕ
-  arcsAt left = nodeAt nodesOf
-  arcsAt right = nodeAt nodesOf + 1 + 3 * byte (nodeAt nodesOf)
+  arcsAt left = nodeAt nodesOf + hookBytes
+  arcsAt right = nodeAt nodesOf + hookBytes + 1 + 3 * byte (nodeAt nodesOf + hookBytes)
 
   abbrev pub arcCount : Side → ℕ
   arcCount side = byte (arcsAt side)

@@ -17,6 +17,7 @@ use Rattle.model.specs.WellFormed.{WellFormed}
 use Rattle.model.specs.Alike.{Alike}
 use Rattle.model.specs.Answer.{number, values}
 use Rattle.model.specs.Calls.{sizesOk, checkTable, checkScheme, editAnswer, editTable, editStore, loadAnswer, loadTable, writeAnswer, writeOut}
+use Rattle.model.specs.declared.Darts.{Darts}
 use Rattle.model.specs.declared.Answer.{Answer}
 
 -- ---- two maps of one dimension and slot count, with the same live slots and equal live records
@@ -48,7 +49,7 @@ pub record BothHold (n N : ℕ) (t t′ : List ℕ) : Type 0 where
 pub data Request : Type 0 where
   tableCheck : Request
   schemeCheck : (scheme : List ℕ) → Request
-  edit : (scheme : List ℕ) (dart : ℕ) → Request
+  edit : (scheme : List ℕ) (darts : Darts) → Request
   load : (file : List ℕ) → Request
   write : Request
 
@@ -74,7 +75,7 @@ module _ (n N : ℕ) (t : List ℕ) where
   unfoldable pub outcomeOf : Request → List ℕ → Outcome
   outcomeOf tableCheck l = record { answer = checkTable n N t; table = t; lent = l }
   outcomeOf (schemeCheck b) l = record { answer = checkScheme b; table = t; lent = l }
-  outcomeOf (edit b d) l = record { answer = editAnswer n N t l b d; table = editTable n N t l b d; lent = editStore n N t l b d }
+  outcomeOf (edit b D) l = record { answer = editAnswer n N t l b D; table = editTable n N t l b D; lent = editStore n N t l b D }
   outcomeOf (load b) l = record { answer = loadAnswer n N t b; table = loadTable n N t b; lent = l }
   outcomeOf write l = record { answer = writeAnswer n N t l; table = t; lent = writeOut n N t l }
 
@@ -85,7 +86,7 @@ module _ (n N : ℕ) (t : List ℕ) where
 abbrev pub fileOf : Request → Outcome → List ℕ
 fileOf tableCheck o = []
 fileOf (schemeCheck b) o = []
-fileOf (edit b d) o = []
+fileOf (edit b D) o = []
 fileOf (load b) o = []
 fileOf write o = take (getD (values (o .answer)) 0 0) (o .lent)
 
@@ -94,7 +95,7 @@ fileOf write o = take (getD (values (o .answer)) 0 0) (o .lent)
 abbrev pub knownAfter : Bool → Request → Answer → Bool
 knownAfter known tableCheck a = known or eqb (number a) 0
 knownAfter known (schemeCheck b) a = known
-knownAfter known (edit b d) a = known
+knownAfter known (edit b D) a = known
 knownAfter known (load b) a = false
 knownAfter known write a = known
 

@@ -100,13 +100,14 @@ module _ (m : Map) (dim : ℕ → ℕ) (head : ℕ) (s : List ℕ) (tail : ℕ) 
 -- ---- `walk`
 
 module _ (m : Map) (k : ℕ) (dim : ℕ → ℕ) (d : ℕ) where
-  -- at the loop's head: what stands at a place is reached, and the links of the first `head` darts lead to places
+  -- at the loop's head: what stands at a place is reached, over a link from an earlier place, and the links of the first `head` darts lead to places
   pub record Walking (s : List ℕ) (head tail : ℕ) : Type 0 where
     pub taken : Taken (m .slots) s tail
     pub some : 1 ≤ tail
     pub passed : head ≤ tail
     pub start : place (m .slots) s 0 ≡ d
     pub sound : (e : ℕ) → e < tail → InOrbit m k dim d (place (m .slots) s e)
+    pub after : (e : ℕ) → 1 ≤ e → e < tail → (r : ℕ) × (r < e) × (p : ℕ) × (p < k) × (place (m .slots) s e ≡ m .link (dim p) (place (m .slots) s r))
     pub links : (r : ℕ) → r < head → (p : ℕ) → p < k → (next (m .slots) s r p < tail)
         × (place (m .slots) s (next (m .slots) s r p) ≡ m .link (dim p) (place (m .slots) s r))
 
@@ -119,6 +120,7 @@ module _ (m : Map) (k : ℕ) (dim : ℕ → ℕ) (d : ℕ) where
         passed = omega arith;
         start = here;
         sound = λ e h. let w : e ≡ 0 = omega arith in rw (w, here) itself;
+        after = λ e h l. absurd (omega arith);
         links = λ r h. absurd (omega arith);
       }
 
@@ -134,6 +136,11 @@ module _ (m : Map) (k : ℕ) (dim : ℕ → ℕ) (d : ℕ) where
         sound = λ e h. by-cases (decLt e tail)
             (λ v. rw (g .places e v) (w .sound e v))
             (λ v. let n = x .new e (omega arith) h in rw (n .2) (onward (w .sound head l) (n .0) (n .1) refl));
+        after = λ e one h. by-cases (decLt e tail)
+            (λ v.
+            let o = w .after e one v in
+            (o .0, o .1, o .2, o .3, g .places e v ∙ o .4 ∙ ap (m .link (dim (o .2))) (sym (g .places (o .0) (omega (arith, o .1))))))
+            (λ v. let n = x .new e (omega arith) h in (head, omega arith, n .0, n .1, n .2 ∙ ap (m .link (dim (n .0))) (sym (g .places head l))));
         links = below-more _ head
             (λ r h p b.
             let same : next (m .slots) s′ r p ≡ next (m .slots) s r p = x .earlier r p h (omega arith) in
@@ -165,6 +172,23 @@ module _ (m : Map) (k : ℕ) (dim : ℕ → ℕ) (d : ℕ) where
           let mx : mark s x ≡ i .0 + 1 = ap (mark s) (sym (i .2)) ∙ v .taken .back (i .0) (i .1) in
           among-of s tail x (omega arith) (omega (arith, i .1)))
 
+      -- the link by which a dart was reached leads back to the earlier place
+      leads-back : (e : ℕ) → 1 ≤ e → e < tail → (p : ℕ) × (p < k) × (next (m .slots) s e p < e)
+      leads-back e one b =
+          let a = v .after e one b in
+          let r = a .0 in
+          let p = a .2 in
+          let o = v .links e (omega arith) p (a .3) in
+          let low : r < tail = omega (arith, a .1) in
+          let x = place (m .slots) s r in
+          let there : place (m .slots) s (next (m .slots) s e p) ≡ x =
+          o .1 ∙ ap (m .link (dim p)) (a .4)
+          ∙ w .back x (v .taken .slot r low) (walking-live s head tail r v low) (dim p) (dims p (a .3)) in
+          let near = v .taken .back (next (m .slots) s e p) (o .0) in
+          let far = v .taken .back r low in
+          let same : next (m .slots) s e p + 1 ≡ r + 1 = sym near ∙ ap (mark s) there ∙ far in
+          (p, a .3, omega (arith, a .1))
+
       pub walking-done : Walked m k dim d s tail
       walking-done = record {
         some = v .some;
@@ -174,6 +198,8 @@ module _ (m : Map) (k : ℕ) (dim : ℕ → ℕ) (d : ℕ) where
         is = is-orbit;
         found = λ x b a. v .taken .found x b (among-at s tail x a .0) .1;
         links = λ r p b. v .links r (omega arith) p;
+        start = v .start;
+        earlier = leads-back;
         counted = count-same (m .slots) (orbit m k dim d) (marked s)
             (λ x b. sym (is-orbit x b) ∙ among-all (m .slots) s tail (v .taken) x b) ∙ v .taken .total;
       }
@@ -200,5 +226,10 @@ walked-kept m k dim d s s′ size few w c =
           let o = w .links r p h b in
           let same : next N s′ r p ≡ next N s r p = c .nexts r p h (omega arith) in
           (omega (arith, o .0), ap (place N s′) same ∙ c .places (next N s r p) (o .0) ∙ o .1 ∙ ap (m .link (dim p)) (sym (c .places r h)));
+      start = c .places 0 (omega (arith, w .some)) ∙ w .start;
+      earlier = λ r one h.
+          let o = w .earlier r one h in
+          let same : next N s′ r (o .0) ≡ next N s r (o .0) = c .nexts r (o .0) h (omega (arith, o .1)) in
+          (o .0, o .1, omega (arith, o .2));
       counted = w .counted;
     }

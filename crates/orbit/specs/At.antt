@@ -9,15 +9,16 @@ use Rattle.model.specs.declared.Scheme.{Scheme}
 use Rattle.table.specs.Words.{Sized}
 use Rattle.orbit.specs.Store.{Walked}
 
--- an accepted scheme, and a live dart of a table that is well-formed for it
+-- an accepted scheme, and live darts of its hooks in a table that is well-formed for it
 pub record At (N : ℕ) (t : List ℕ) : Type 0 where
   pub scheme : Scheme
   pub dart : ℕ
+  pub other : ℕ
   pub sized : Sized N t
-  pub sound : Sound (siteAt (view N t) scheme dart)
+  pub sound : Sound (siteAt (view N t) scheme dart other)
 
 abbrev pub site : {N : ℕ} {t : List ℕ} → At N t → Site
-site {N} {t} A = siteAt (view N t) (A .scheme) (A .dart)
+site {N} {t} A = siteAt (view N t) (A .scheme) (A .dart) (A .other)
 
 -- the first `size` places hold the orbit of the site
 abbrev pub WalkedAt : Site → List ℕ → ℕ → Type 0

@@ -49,7 +49,7 @@ pub record Taken (N : ℕ) (s : List ℕ) (end : ℕ) : Type 0 where
   pub found : (x : ℕ) → x < N → 1 ≤ mark s x → (mark s x ≤ end) × (place N s (mark s x - 1) ≡ x)
   pub total : countBelow N (marked s) ≡ end
 
--- the first `size` places hold the orbit of d, each dart once, and `next` its links by place;
+-- the first `size` places hold the orbit of d, each dart once, d first and any other after one to which a link leads, and `next` its links by place;
 -- k and dim are the orbit type
 pub record Walked (m : Map) (k : ℕ) (dim : ℕ → ℕ) (d : ℕ) (s : List ℕ) (size : ℕ) : Type 0 where
   pub some : 1 ≤ size
@@ -60,6 +60,8 @@ pub record Walked (m : Map) (k : ℕ) (dim : ℕ → ℕ) (d : ℕ) (s : List �
   pub found : (x : ℕ) → x < m .slots → among s size x ≡ true → place (m .slots) s (mark s x - 1) ≡ x
   pub links : (r p : ℕ) → r < size → p < k → (next (m .slots) s r p < size)
       × (place (m .slots) s (next (m .slots) s r p) ≡ m .link (dim p) (place (m .slots) s r))
+  pub start : place (m .slots) s 0 ≡ d
+  pub earlier : (r : ℕ) → 1 ≤ r → r < size → (p : ℕ) × (p < k) × (next (m .slots) s r p < r)
   pub counted : countBelow (m .slots) (orbit m k dim d) ≡ size
 
 -- what the later phases leave of the store: the orbit's places, their marks and links

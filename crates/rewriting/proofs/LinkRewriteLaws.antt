@@ -42,7 +42,7 @@ module _ {slots : ℕ} {table store : List ℕ} {size : ℕ} {kinds codes : List
   open Sound (R .at .sound) using (accepted)
 
   ready : Ready E
-  ready = match-ready m S (R .at .dart) (R .at .sound) (R .match) (R .room)
+  ready = match-ready m S (R .at .dart) (R .at .other) (R .at .sound) (R .match) (R .room)
 
   abbrev new : Map
   new = edited E

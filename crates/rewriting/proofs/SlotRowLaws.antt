@@ -97,7 +97,7 @@ module _ {N : ℕ} {t₀ s₀ : List ℕ} {A : At N t₀} {size many : ℕ} (G :
   open Site E using (map as m, scheme as S, orbit as O)
 
   pub good : GoodOrbit E
-  good = good-orbit m S (A .dart) (A .sound)
+  good = good-orbit m S (A .dart) (A .other) (A .sound)
 
   pub granting-none : Granting A s₀ size 0 0 t₀ s₀
   unfolding countBelow

@@ -15,13 +15,12 @@ use Rattle.base.specs.Filled.{stored}
 use Rattle.base.specs.Lists.{list}
 use Rattle.base.proofs.TestLaws.{and-left, and-right, and-of, or-cases, or-left, or-right, true-or-false, refuted, same-test}
 use Rattle.base.proofs.BelowLaws.{all-at, all-of, all-none, all-more, all-ends}
-use Rattle.base.proofs.ListLaws.{getD-list}
 use Rattle.base.proofs.FilledLaws.{filled-none, filled-all, stored-filled, same-ltb}
 use Rattle.base.proofs.AscentLaws.{above, above-step, ascends, descends}
 use Rattle.model.specs.Bytes.{onSide, byte, dimensionOf, nodesOf, kindAt, arcsAt, arcCount, arcByte}
 use Rattle.model.specs.Arc.{farEnd}
 use Rattle.model.specs.Codes.{placedAt, targetsOf}
-use Rattle.model.specs.Scheme.{Side, before, nodeForm, arcForm, arcsForm, arcsOf, schemeOf}
+use Rattle.model.specs.Scheme.{Side, before, arcForm, arcsForm, arcsOf}
 use Rattle.frame.specs.Place.{ArcAt}
 use Rattle.scheme.specs.Words.{sideOf}
 use Rattle.scheme.specs.Arcs.{ArcsPlaced, ArcsRead, keyOf, arcTest}
@@ -30,7 +29,7 @@ use Rattle.frame.specs.declared.cursor.Arc.{Arc}
 use Rattle.frame.specs.declared.Layout.{Layout}
 use Rattle.model.proofs.FormLaws.{arc-parts}
 use Rattle.frame.proofs.FrameLaws.{dimension-small}
-use Rattle.scheme.proofs.WordLaws.{on-side}
+use Rattle.scheme.proofs.NodeLaws.{held-side}
 use Rattle.scheme.proofs.LinkLaws.{Shown, touches, shown-none, linked-more, places}
 
 -- ---- the order of arcs
@@ -105,18 +104,8 @@ module _ (b : List ℕ) (l : Layout) (kinds : List ℕ) (other from : ℕ) (plac
       let h = placed .laid .headed in
       record { dim = f .dim; order = f .order; node = f .node; small = omega arith }
 
-  kind-at : (s : ℕ) → s < nodesOf b → getD kinds s 0 ≡ kindAt b s
-  unfolding schemeOf
-  kind-at s h =
-      let hd = placed .laid .headed in
-      ap (λ (m : List ℕ). getD m s 0) (placed .kindsAre) ∙ getD-list 16 s _ 0 (omega arith) ∙ ap (λ (t : Bool). cond t (kindAt b s) 0) (lt-ltb _ _ h)
-
   joined : (s : ℕ) → s < nodesOf b → onSide side (kindAt b s) ≡ (eqb (getD kinds s 0) other ⇒ false)
-  unfolding nodeForm
-  joined s h =
-      let q = and-left _ _ (and-left _ _ (and-left _ _ (and-left _ _ (all-at _ _ (placed .nodes) s h)))) in
-      on-side (placed .sideIs) (leb-true 1 _ (and-left _ _ q)) (leb-true _ 3 (and-right _ _ q))
-      ∙ ap (λ (k : ℕ). eqb k other ⇒ false) (sym (kind-at s h))
+  joined s h = let hd = placed .laid .headed in held-side b (omega arith) (placed .kindsAre) (placed .nodes) (placed .sideIs) s h
 
   -- among arcs that are in the form, each before the next, the order is that of the keys
   key-order : (a : ℕ) → ((o : ℕ) → o < a → arcForm b side o ≡ true) → Ends a → (o : ℕ) → o < a

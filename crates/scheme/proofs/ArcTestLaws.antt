@@ -11,6 +11,12 @@ use Rattle.base.specs.Test.{_⇒_}
 use Rattle.base.proofs.TestLaws.{and-left, and-right, and-of, refuted, same-test}
 use Rattle.scheme.specs.Arcs.{keyOf, arcTest}
 
+-- a test that is denied
+pub denies : (x : Bool) → not x ≡ (x ⇒ false)
+unfolding _⇒_
+denies true = refl
+denies false = refl
+
 -- a kind at the place of a node
 lacks : (kinds : List ℕ) {near s other : ℕ} → near ≡ s → getD kinds near 0 ≡ other → (eqb (getD kinds s 0) other ⇒ false) ≡ false
 unfolding _⇒_
@@ -47,7 +53,3 @@ module _ (n nodes : ℕ) (kinds : List ℕ) (other low d s t : ℕ) where
   far-last e h₀ h₁ h₂ h₃ e₁ q₁ e₂ = ap (λ (x : ℕ). not (eqb (getD kinds x 0) other)) e₂ ∙ denies (eqb (getD kinds t 0) other) ∙ same-test _ _
       (λ q. and-of (and-of (and-of (and-of (and-of (le-leb _ _ h₁) (le-leb _ _ h₂)) (lt-ltb _ _ h₃)) (has kinds e₁ q₁)) q) (le-leb _ _ (rw e at h₀)))
       (λ q. and-right _ _ (and-left _ _ q))
-    where
-      denies : (x : Bool) → not x ≡ (x ⇒ false)
-      denies true = refl
-      denies false = refl

@@ -1,23 +1,28 @@
--- The nodes as they are read: a node's form from its parts, and what holds once the first s nodes are read.
+-- The nodes as they are read: a node's form from its parts, what holds once the first s nodes are read, and what the kinds tell.
 -- Assumes nothing.
 use Prim.Native.Nat.{ℕ, _+_, _*_, _/_, _≤_, _<_}
 use mathlib.Core.Path.{_≡_, sym, ap, _∙_}
+use mathlib.Core.Logic.{_⊎_}
 use mathlib.Core.Bool.{Bool, true, false, cond}
 use mathlib.Core.List.{List}
 use native.Mathlib.Omega.{arith}
-use lib.ListN.{set, replicate}
-use borrow.Author.Tests.{le-leb, lt-leb}
-use Rattle.base.specs.Test.{_and_}
+use lib.ListN.{getD, set, replicate}
+use lib.Dec.{eqb}
+use borrow.Author.Tests.{lt-ltb, le-leb, lt-leb, leb-true}
+use Rattle.base.specs.Test.{_and_, _⇒_}
+use Rattle.base.specs.Below.{allBelow}
 use Rattle.base.specs.Filled.{filled}
 use Rattle.base.specs.Lists.{list}
 use Rattle.base.proofs.TestLaws.{and-left, and-right, and-of, refuted, same-test}
-use Rattle.base.proofs.BelowLaws.{all-none, all-more}
+use Rattle.base.proofs.BelowLaws.{all-at, all-none, all-more}
+use Rattle.base.proofs.ListLaws.{getD-list}
 use Rattle.base.proofs.FilledLaws.{filled-none, filled-more, filled-all, same-ltb}
-use Rattle.model.specs.Bytes.{placesOf, nodesOf, nodeAt, kindAt, upTo}
+use Rattle.model.specs.Bytes.{onSide, placesOf, nodesOf, nodeAt, kindAt, upTo}
 use Rattle.model.specs.Codes.{placed, placedAt}
 use Rattle.model.specs.Scheme.{Side, left, right, wordForm, wordEmpty, nodeForm, wordsOf, schemeOf}
-use Rattle.scheme.specs.Words.{row}
+use Rattle.scheme.specs.Words.{sideOf, row}
 use Rattle.scheme.specs.Nodes.{Passed, Noded}
+use Rattle.scheme.proofs.WordLaws.{on-side}
 
 -- ---- one node
 
@@ -101,3 +106,18 @@ module _ (b : List ℕ) where
       ltargetsIs = targets-value left (f .ltargetsIs);
       rtargetsIs = targets-value right (f .rtargetsIs);
     }
+
+-- ---- the kinds that are held
+
+module _ (b : List ℕ) {kinds : List ℕ} (few : nodesOf b ≤ 16) (same : kinds ≡ schemeOf b .kinds) where
+  kind-at : (s : ℕ) → s < nodesOf b → getD kinds s 0 ≡ kindAt b s
+  unfolding schemeOf
+  kind-at s h = ap (λ (m : List ℕ). getD m s 0) same ∙ getD-list 16 s _ 0 (omega arith) ∙ ap (λ (t : Bool). cond t (kindAt b s) 0) (lt-ltb _ _ h)
+
+  -- a node in the form is on a side where it has not the kind that the side lacks
+  pub held-side : allBelow (nodesOf b) (nodeForm b) ≡ true → {other : ℕ} → (other ≡ 3) ⊎ (other ≡ 1) → (s : ℕ) → s < nodesOf b
+      → onSide (sideOf other) (kindAt b s) ≡ (eqb (getD kinds s 0) other ⇒ false)
+  unfolding nodeForm
+  held-side nodes {other} o s h =
+      let q = and-left _ _ (and-left _ _ (and-left _ _ (and-left _ _ (all-at _ _ nodes s h)))) in
+      on-side o (leb-true 1 _ (and-left _ _ q)) (leb-true _ 3 (and-right _ _ q)) ∙ ap (λ (k : ℕ). eqb k other ⇒ false) (sym (kind-at s h))

@@ -13,8 +13,8 @@ use Rattle.base.specs.Test.{_or_}
 use Rattle.base.specs.Below.{allBelow, anyBelow, countBelow}
 use Rattle.base.specs.Lists.{list, listFrom}
 use Rattle.base.proofs.TestLaws.{true-or-false, refuted}
-use Rattle.model.specs.Bytes.{nodesOf, arcsAt, arcCount}
-use Rattle.model.specs.Scheme.{Side, left, right, orbitForm, nodeForm, arcsForm, inForm, schemeOf}
+use Rattle.model.specs.Bytes.{nodesOf, secondOf, arcsAt, arcCount}
+use Rattle.model.specs.Scheme.{Side, left, right, orbitForm, nodeForm, secondForm, arcsForm, inForm, schemeOf}
 use Rattle.model.specs.Conditions.{arcsOfDim}
 use Rattle.model.specs.Twice.{twiceAt, twiceOf}
 use Rattle.frame.specs.Frame.{LaidOut}
@@ -41,6 +41,9 @@ module _ (b : List ℕ) where
   pub no-nodes : allBelow (nodesOf b) (nodeForm b) ≡ false → inForm b ≡ false
   no-nodes e = refuted (λ q. parts b q .nodes) e
 
+  pub no-second : secondForm b ≡ false → inForm b ≡ false
+  no-second e = refuted (λ q. parts b q .second) e
+
   pub no-arcs : (side : Side) → arcsForm b side ≡ false → inForm b ≡ false
   no-arcs side e = refuted (λ q. parts b q .arcs side) e
 
@@ -64,8 +67,8 @@ module _ (b : List ℕ) (l : Layout) (laid : LaidOut b l) (nodes : allBelow (nod
     inside = i .1;
   }
 
-  pub all-formed : orbitForm b ≡ true → arcsForm b left ≡ true → arcsForm b right ≡ true → inForm b ≡ true
-  all-formed orbit lefts rights =
+  pub all-formed : orbitForm b ≡ true → secondForm b ≡ true → arcsForm b left ≡ true → arcsForm b right ≡ true → inForm b ≡ true
+  all-formed orbit second lefts rights =
       let h = laid .headed in
       whole b (record {
         dimension = ⊎-elim (λ e. inl (sym (h .nIs) ∙ e)) (λ e. inr (sym (h .nIs) ∙ e)) (h .dimension);
@@ -73,6 +76,7 @@ module _ (b : List ℕ) (l : Layout) (laid : LaidOut b l) (nodes : allBelow (nod
         nodesSome = omega arith;
         nodesFew = omega arith;
         nodes = nodes;
+        second = second;
         arcs = λ side. sides side;
         ends = laid .ends;
       })
@@ -95,9 +99,9 @@ module _ (b : List ℕ) where
   read-broken e = rw e refl
 
   -- the reading is made of its parts
-  pub read-formed : {l : Layout} {first second third : ℕ} {orbit kinds lwords rwords lplaced rplaced larcs ltargets rarcs rtargets : List ℕ}
+  pub read-formed : {l : Layout} {first second third hook : ℕ} {orbit kinds lwords rwords lplaced rplaced larcs ltargets rarcs rtargets : List ℕ}
       {ltwice rtwice : List Bool} → inForm b ≡ true → LaidOut b l → orbit ≡ schemeOf b .orbit → Noded b first kinds lwords rwords lplaced rplaced
-      → ArcsRead b left second larcs ltargets ltwice → ArcsRead b right third rarcs rtargets rtwice
+      → hook ≡ secondOf b → ArcsRead b left second larcs ltargets ltwice → ArcsRead b right third rarcs rtargets rtwice
       → _≡_ {A = Reading} (record {
         ok = true;
         scheme = record {
@@ -105,6 +109,7 @@ module _ (b : List ℕ) where
           places = l .places;
           orbit = orbit;
           nodes = l .nodes;
+          second = hook;
           kinds = kinds;
           lwords = lwords;
           rwords = rwords;
@@ -119,7 +124,7 @@ module _ (b : List ℕ) where
         rtwice = rtwice;
       }) (reading b)
   unfolding reading schemeOf
-  read-formed e laid o n f g = rw (
+  read-formed e laid o n h f g = rw (
     e,
     laid .headed .nIs,
     laid .headed .placesIs,
@@ -130,6 +135,7 @@ module _ (b : List ℕ) where
     n .kindsIs,
     n .lwordsIs,
     n .rwordsIs,
+    h,
     f .arcsIs,
     f .targetsIs,
     g .arcsIs,

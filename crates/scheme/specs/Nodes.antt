@@ -7,7 +7,7 @@ use mathlib.Core.List.{List}
 use Rattle.base.specs.Below.{allBelow}
 use Rattle.base.specs.Filled.{filled}
 use Rattle.base.specs.Lists.{list}
-use Rattle.model.specs.Bytes.{nodeAt, arcsAt, kindAt}
+use Rattle.model.specs.Bytes.{nodesOf, nodeAt, kindAt}
 use Rattle.model.specs.Codes.{placed, placedAt}
 use Rattle.model.specs.Scheme.{left, right, nodeForm, schemeOf}
 use Rattle.scheme.specs.Words.{row}
@@ -24,7 +24,7 @@ pub record Passed (b : List ℕ) (s at : ℕ) (kinds lwords rwords ltargets rtar
 
 -- the arrays are those of all nodes, and `at` is the place after them
 pub record Noded (b : List ℕ) (at : ℕ) (kinds lwords rwords ltargets rtargets : List ℕ) : Type 0 where
-  pub placeIs : at ≡ arcsAt b left
+  pub placeIs : at ≡ nodeAt b (nodesOf b)
   pub kindsIs : kinds ≡ schemeOf b .kinds
   pub lwordsIs : lwords ≡ schemeOf b .lwords
   pub rwordsIs : rwords ≡ schemeOf b .rwords

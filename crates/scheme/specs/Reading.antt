@@ -16,6 +16,7 @@ blank = record {
   places = 0;
   orbit = replicate 4 0;
   nodes = 0;
+  second = 0;
   kinds = replicate 16 0;
   lwords = replicate 64 0;
   rwords = replicate 64 0;

@@ -1,6 +1,7 @@
 // Reading a scheme's bytes into one value of fixed size.
 mod arcs;
 mod nodes;
+mod second;
 
 use arcs::read_arcs;
 use frame::Form;
@@ -8,6 +9,7 @@ use frame::frame;
 use model::Scheme;
 use nodes::read_nodes;
 use nodes::read_orbit;
+use second::read_second;
 ghost use mathlib.Core.Path.{_≡_};
 ghost use mathlib.Core.Bool.{false};
 ghost use Rattle.scheme.specs.Reading.{blank, readAs, reading};
@@ -32,6 +34,7 @@ fn refused() -> Reading
             places: 0,
             orbit: [0u8; 4],
             nodes: 0,
+            second: 0,
             kinds: [0u8; 16],
             lwords: [0u8; 64],
             rwords: [0u8; 64],
@@ -79,15 +82,20 @@ pub fn read(bytes: &[u8]) -> Reading
     if !nodes.ok {
         return refused();
     }
+    let third = nodes.next;
+    let hook = read_second(bytes, l, third, &kinds);
+    if !hook.ok {
+        return refused();
+    }
     let mut larcs = [0u8; 192];
     let mut ltwice = [false; 16];
-    let third = nodes.next;
+    let fourth = hook.next;
     let lefts = read_arcs(
         bytes,
         l,
         &kinds,
         3,
-        third,
+        fourth,
         &mut larcs,
         &mut ltargets,
         &mut ltwice,
@@ -97,13 +105,13 @@ pub fn read(bytes: &[u8]) -> Reading
     }
     let mut rarcs = [0u8; 192];
     let mut rtwice = [false; 16];
-    let fourth = lefts.next;
+    let fifth = lefts.next;
     let rights = read_arcs(
         bytes,
         l,
         &kinds,
         1,
-        fourth,
+        fifth,
         &mut rarcs,
         &mut rtargets,
         &mut rtwice,
@@ -118,6 +126,7 @@ pub fn read(bytes: &[u8]) -> Reading
             places: l.places,
             orbit: orbit,
             nodes: l.nodes,
+            second: hook.node,
             kinds: kinds,
             lwords: lwords,
             rwords: rwords,

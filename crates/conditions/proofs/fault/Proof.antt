@@ -9,13 +9,13 @@ hook-fault-requires : tie.Need-hook-fault-requires
 hook-fault-requires c κs = search needs
 
 returns : tie.Need-returns
-returns c = fault-hook _ _ _ _ _ _ _ _ _ _ _ _ (c .before .before .before .hook-fault .ensures) _ (c .before .hook .given .1)
+returns c = fault-hook _ _ _ _ _ _ _ _ _ _ _ _ _ (c .before .before .before .hook-fault .ensures) _ (c .before .hook .given .1)
 
 arcs-fault-requires : tie.Need-arcs-fault-requires
 arcs-fault-requires c κs = search needs
 
 returns-2 : tie.Need-returns-2
-returns-2 c = fault-arcs _ _ _ _ _ _ _ _ _ _ _ _ (c .before .before .before .hook-fault .ensures) (c .before .enum-told .given .1) _ (c .arcs-fault .ensures)
+returns-2 c = fault-arcs _ _ _ _ _ _ _ _ _ _ _ _ _ (c .before .before .before .hook-fault .ensures) (c .before .enum-told .given .1) _ (c .arcs-fault .ensures)
 
 pub fault-spec : {M : Type 1} → statement M
 fault-spec =

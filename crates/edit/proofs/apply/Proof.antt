@@ -18,7 +18,7 @@ abbrev places : tie.After-walk → tie.After-wide
 places l = l .before .before .before .before .before
 
 abbrev walk-done : tie.After-cols → tie.After-walk
-walk-done a = a .before .before .before .before .before .before .before .before .before .before .before
+walk-done a = a .before .before .before .before .before .before .before .before .before .before .before .before
 
 -- the site
 abbrev here : (b : tie.Start) → At (b .args .slots) (now (b .args .table))
@@ -36,7 +36,7 @@ walk-requires c κs =
     let u = w .before .before .before in
     let b = u .before .before .before .before in (
       rw (w .wide .ensures .0) (walk-ready (here b)),
-      ((b .pre .1 .0 .slot, b .pre .1 .0 .alive), rw (u .unmark .ensures) (unmarked-blank _ _ (b .pre .1 .1 .1 .1))),
+      ((b .pre .1 .0 .dart .slot, b .pre .1 .0 .dart .alive), rw (u .unmark .ensures) (unmarked-blank _ _ (b .pre .1 .1 .1 .1))),
     )
 
 assign-requires : tie.Need-assign-requires
@@ -44,7 +44,7 @@ assign-requires c κs =
     let l = walk-done c in
     let b = start l in
     let w = walking (here b) (places l .wide .ensures .0) (l .walk .ensures .0) (l .walk .ensures .1) in
-    match-ready (here b) w (b .pre .1 .1 .0) _ refl
+    match-ready (here b) w (b .pre .1 .1 .0) (places l .wide .ensures .0) _ refl
 
 returns : tie.Need-returns
 returns c =
@@ -53,7 +53,7 @@ returns c =
     let b = start l in
     let p = b .pre .1 .1 in
     let w = walking (here b) (places l .wide .ensures .0) (l .walk .ensures .0) (l .walk .ensures .1) in
-    no-match (a .assign .ensures .at (match-ready (here b) w (p .0) _ refl)) (not-true _ (c .if1 .taken))
+    no-match (a .assign .ensures .at (match-ready (here b) w (p .0) (places l .wide .ensures .0) _ refl)) (not-true _ (c .if1 .taken))
 
 wide-requires-2 : tie.Need-wide-requires-2
 wide-requires-2 c κs = search needs
@@ -67,7 +67,7 @@ settle-requires c κs =
     let b = start l in
     let p = b .pre .1 .1 in
     let w = walking (here b) (places l .wide .ensures .0) (l .walk .ensures .0) (l .walk .ensures .1) in
-    settle-ready (here b) w (p .0) (a .assign .ensures .at (match-ready (here b) w (p .0) _ refl)) (not-false _ (e .if1 .left))
+    settle-ready (here b) w (p .0) (a .assign .ensures .at (match-ready (here b) w (p .0) (places l .wide .ensures .0) _ refl)) (not-false _ (e .if1 .left))
     (n .wide2 .ensures .0) (p .1 .0)
 
 same-length-4 : tie.Need-same-length-4
@@ -88,7 +88,7 @@ returns-2 c =
     let b = start l in
     let p = b .pre .1 .1 in
     let w = walking (here b) (places l .wide .ensures .0) (l .walk .ensures .0) (l .walk .ensures .1) in
-    r .settle .ensures (settle-ready (here b) w (p .0) (a .assign .ensures .at (match-ready (here b) w (p .0) _ refl))
+    r .settle .ensures (settle-ready (here b) w (p .0) (a .assign .ensures .at (match-ready (here b) w (p .0) (places l .wide .ensures .0) _ refl))
     (not-false _ (e .if1 .left)) (n .wide2 .ensures .0) (p .1 .0))
 
 pub apply-spec : {M : Type 1} → statement M

@@ -24,7 +24,7 @@ read-requires c κs = search needs
 
 returns : tie.Need-returns
 unfolding checkScheme judged
-returns c = record { answer = answers-of (judged-bad _ (form-bad _ _ (c .before .read .ensures) (c .if1 .taken))) }
+returns c = record { answer = answers-of (judged-bad _ _ (form-bad _ _ (c .before .read .ensures) (c .if1 .taken))) }
 
 judge-requires : tie.Need-judge-requires
 judge-requires c κs = let e = c .before .before .before .before .before .before .before .before .before in judge-asks _ _ (e .before .read .ensures) (form e)
@@ -32,7 +32,7 @@ judge-requires c κs = let e = c .before .before .before .before .before .before
 returns-2 : tie.Need-returns-2
 unfolding checkScheme judged
 returns-2 c = let e = c .before .before .before .before .before .before .before .before .before .before in
-    record { answer = answers-of (judged-good _ _ (form e) (scheme-is e) _ (c .judge .ensures (judge-asks _ _ (e .before .read .ensures) (form e)) .answer)) }
+    record { answer = answers-of (judged-good _ _ _ (form e) (scheme-is e) _ (c .judge .ensures (judge-asks _ _ (e .before .read .ensures) (form e)) .answer)) }
 
 pub check-scheme-spec : {M : Type 1} → statement M
 check-scheme-spec = tie.close (tie.spec read-requires returns judge-requires returns-2)

@@ -9,13 +9,13 @@ use Rattle.conditions.proofs.tree.grow.Statement.{statement}
 use Rattle.conditions.proofs.tree.grow.Tie as tie
 
 abbrev Inv-loop : tie.InvT-loop
-Inv-loop count arcs node₀ parent₀ dim₀ reached₀ size k₀ a₀ node parent dim reached k a = (a ≤ count) × Grown arcs count a node parent dim reached size k
+Inv-loop second count arcs node₀ parent₀ dim₀ reached₀ size k₀ a₀ node parent dim reached k a = (a ≤ count) × Grown arcs count a second node parent dim reached size k
 
 abbrev μ-loop : tie.MeasureT-loop
-μ-loop count arcs node₀ parent₀ dim₀ reached₀ size k₀ a₀ node parent dim reached k a = count - a
+μ-loop second count arcs node₀ parent₀ dim₀ reached₀ size k₀ a₀ node parent dim reached k a = count - a
 
 loop-holds : tie.Need-loop-holds Inv-loop μ-loop
-loop-holds c = (omega arith, grown-none _ _ _ _ _ _ _ (c .pre .1))
+loop-holds c = (omega arith, grown-none _ _ _ _ _ _ _ _ (c .pre .1))
 
 join-requires : tie.Need-join-requires Inv-loop μ-loop
 join-requires c κs = let l = c .before .before .before .before .before in (l .before .pre .0, (omega arith, l .loop .inv .1 .spans))
@@ -27,7 +27,7 @@ loop-less : tie.Need-loop-less Inv-loop μ-loop
 loop-less c = omega arith
 
 loop-again : tie.Need-loop-again Inv-loop μ-loop
-loop-again c = (omega arith, grown-more _ _ _ _ _ _ _ _ _ _ _ _ _ _ (c .before .before .before .before .before .before .loop .inv .1) (c .join .ensures))
+loop-again c = (omega arith, grown-more _ _ _ _ _ _ _ _ _ _ _ _ _ _ _ (c .before .before .before .before .before .before .loop .inv .1) (c .join .ensures))
 
 returns : tie.Need-returns Inv-loop μ-loop
 returns c = let l = c .before .loop .inv in let same : c .before .loop .a ≡ c .before .before .args .count = omega arith in rw same at (l .1)

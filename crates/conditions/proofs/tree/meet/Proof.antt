@@ -40,7 +40,7 @@ module _ (e : tie.Else2) where
   small = omega (arith, e .before .before .if1 .left)
 
   fits : start .args .size < 16
-  fits = room _ _ _ _ _ _ (start .pre .1 .tree) _ small (e .if2 .left)
+  fits = room _ _ _ _ _ _ _ (start .pre .1 .tree) _ small (e .if2 .left)
 
 push-requires : tie.Need-push-requires
 push-requires c κs = let e = c .before .before .before .before in (fits e, start e .pre .0 .1, start e .pre .0 .0, small e)
@@ -52,7 +52,7 @@ returns-3 : tie.Need-returns-3
 returns-3 c =
     let e = c .before .before .before .before .before in
     let p = c .push .ensures in
-    reach-push _ _ _ _ _ _ _ (start e .pre .1) (start e .pre .0 .0) _ _ (start e .pre .0 .1) (read e .wide .ensures .0) (small e) (e .if2 .left)
+    reach-push _ _ _ _ _ _ _ _ (start e .pre .1) (start e .pre .0 .0) _ _ (start e .pre .0 .1) (read e .wide .ensures .0) (small e) (e .if2 .left)
     _ _ _ _ (p .0) (p .1 .0) (p .1 .1 .0) (p .1 .1 .1)
 
 pub meet-spec : {M : Type 1} → statement M

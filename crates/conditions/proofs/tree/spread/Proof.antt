@@ -7,10 +7,10 @@ use Rattle.conditions.proofs.tree.spread.Statement.{statement}
 use Rattle.conditions.proofs.tree.spread.Tie as tie
 
 abbrev Inv-loop : tie.InvT-loop
-Inv-loop targets node₀ parent₀ dim₀ reached₀ size s k₀ i₀ node parent dim reached k i = (i ≤ 4) × Reaching targets node parent dim reached k s
+Inv-loop second targets node₀ parent₀ dim₀ reached₀ size s k₀ i₀ node parent dim reached k i = (i ≤ 4) × Reaching targets second node parent dim reached k s
 
 abbrev μ-loop : tie.MeasureT-loop
-μ-loop targets node₀ parent₀ dim₀ reached₀ size s k₀ i₀ node parent dim reached k i = 4 - i
+μ-loop second targets node₀ parent₀ dim₀ reached₀ size s k₀ i₀ node parent dim reached k i = 4 - i
 
 loop-holds : tie.Need-loop-holds Inv-loop μ-loop
 loop-holds c = (omega arith, c .pre .1)

@@ -1,63 +1,90 @@
 -- `kernel::stages::staged` meets its contract.
 -- Assumes nothing.
-use mathlib.Core.Path.{_≡_}
+use mathlib.Core.Path.{_≡_, sym, _∙_}
 use mathlib.Core.Bool.{true}
 use denote.Ref.{now}
+use Rattle.base.proofs.TestLaws.{and-left}
 use Rattle.model.specs.Scheme.{inForm, schemeOf}
+use Rattle.model.specs.Calls.{takes}
 use Rattle.conditions.specs.Verdict.{VerdictOf}
-use Rattle.kernel.proofs.StageLaws.{judged, form-bad, form-good, form-refused, read-scheme, judged-good, judge-asks}
-use Rattle.kernel.proofs.StageLaws.{no-fault, its-fault, no-fault-accepted, stage-refused, stage-on, not-zero}
+use Rattle.kernel.proofs.StageLaws.{judged, form-refused, read-scheme, taken-is, judged-good, judge-asks}
+use Rattle.kernel.proofs.StageLaws.{no-fault, its-fault, no-fault-accepted, no-fault-alone, stage-refused, stage-on, not-zero}
 use borrow.Author.Needs.{needs}
+use borrow.Author.Tests.{not-true, not-false}
 use Rattle.kernel.proofs.stages.staged.Statement.{statement}
 use Rattle.kernel.proofs.stages.staged.Tie as tie
 
--- the bytes are in the form, and what was read is their scheme
-module _ (e : tie.Else1) where
-  form : inForm (now (e .before .before .before .before .before .args .bytes)) ≡ true
-  form = form-good _ _ (e .before .read .ensures) (e .if1 .left)
+abbrev start : tie.Else1 → tie.Start
+start e = e .before .before .before .before .before .before
 
-  scheme-is : e .before .read .result .scheme ≡ schemeOf (now (e .before .before .before .before .before .args .bytes))
-  scheme-is = read-scheme _ _ (e .before .read .ensures) form
+-- the call takes the bytes, and what was read is their scheme
+module _ (e : tie.Else1) where
+  told : let a = start e .args in takes (a .darts) (now (a .bytes)) ≡ true
+  told = sym (taken-is (start e .args .darts) _ _ (e .before .before .read .ensures) _ (e .before .taken .ensures)) ∙ not-false _ (e .if1 .left)
+
+  form : inForm (now (start e .args .bytes)) ≡ true
+  form = and-left _ _ told
+
+  scheme-is : e .before .before .read .result .scheme ≡ schemeOf (now (start e .args .bytes))
+  scheme-is = read-scheme _ _ (e .before .before .read .ensures) form
 
 -- the scheme is judged
 module _ (j : tie.After-judge) where
   abbrev read-done : tie.Else1
   read-done = j .before .before .before .before .before .before .before .before .before .before
 
-  verdict : VerdictOf (read-done .before .read .result .scheme) (j .judge .result)
-  verdict = j .judge .ensures (judge-asks _ _ (read-done .before .read .ensures) (form read-done))
+  verdict : VerdictOf (read-done .before .before .read .result .scheme) (j .judge .result)
+  verdict = j .judge .ensures (judge-asks _ _ (read-done .before .before .read .ensures) (form read-done))
 
-  answer-is : j .judge .result .answer ≡ judged (now (read-done .before .before .before .before .before .args .bytes))
-  answer-is = judged-good _ _ (form read-done) (scheme-is read-done) _ (verdict .answer)
-
-read-requires : tie.Need-read-requires
-read-requires c κs = search needs
+  answer-is : let a = start read-done .args in j .judge .result .answer ≡ judged (takes (a .darts) (now (a .bytes))) (now (a .bytes))
+  answer-is = judged-good _ _ _ (told read-done) (scheme-is read-done) _ (verdict .answer)
 
 returns : tie.Need-returns
-returns c = stage-refused _ _ _ _ _ (form-refused _ (form-bad _ _ (c .before .read .ensures) (c .if1 .taken)))
+returns c =
+    let D = c .before .before .before .before .before .before .args .darts in
+    stage-refused _ _ _ _ D (form-refused _ _
+    (sym (taken-is D _ _ (c .before .before .read .ensures) _ (c .before .taken .ensures)) ∙ not-true _ (c .if1 .taken)))
 
 judge-requires : tie.Need-judge-requires
-judge-requires c κs = let e = c .before .before .before .before .before .before .before .before .before in judge-asks _ _ (e .before .read .ensures) (form e)
+judge-requires c κs =
+    let e = c .before .before .before .before .before .before .before .before .before in
+    judge-asks _ _ (e .before .before .read .ensures) (form e)
 
 apply-at-requires : tie.Need-apply-at-requires
 apply-at-requires c κs =
-    let j = c .before .before .before .before .before .before in
+    let f = c .before in
+    let o = f .before .before .before in
+    let j = o .before .before .before .before in
     let e = read-done j in
-    let p = e .before .before .before .before .before .pre in
-    let none = no-fault _ _ (answer-is j) (c .before .before .enum-told .given .1) in
-    (p .0, (no-fault-accepted _ _ none (scheme-is e), (verdict j .tree, (p .1 .0, p .1 .1))))
+    let p = start e .pre in
+    let D = start e .args .darts in
+    let none = no-fault _ _ _ (answer-is j) (o .enum-told .given .1) in (
+      p .0,
+      (
+        no-fault-accepted D _ _ none (scheme-is e),
+        (
+          no-fault-alone D _ _ none (scheme-is e) (f .first .ensures) (c .second .ensures),
+          (verdict j .tree, (p .1 .0, p .1 .1)),
+        ),
+      ),
+    )
 
 returns-2 : tie.Need-returns-2
 returns-2 c =
     let a = c .before .before .before .before in
-    let o = a .before .before .before in
+    let s = a .before in
+    let f = s .before in
+    let o = f .before .before .before in
     let j = o .before .before .before .before in
-    stage-on _ _ _ _ _ (no-fault _ _ (answer-is j) (o .enum-told .given .1)) (scheme-is (read-done j)) (a .apply-at .ensures)
+    stage-on _ _ _ _ (start (read-done j) .args .darts) (no-fault _ _ _ (answer-is j) (o .enum-told .given .1)) (scheme-is (read-done j))
+    (f .first .ensures) (s .second .ensures) (a .apply-at .ensures)
 
 returns-3 : tie.Need-returns-3
-returns-3 c = stage-refused _ _ _ _ _ (its-fault _ _ (answer-is (c .before .before .before)) (λ e. not-zero (rw e at (c .match .keys2))))
+returns-3 c =
+    let j = c .before .before .before in
+    stage-refused _ _ _ _ (start (read-done j) .args .darts) (its-fault _ _ _ (answer-is j) (λ e. not-zero (rw e at (c .match .keys2))))
 
 pub staged-spec : {M : Type 1} → statement M
 staged-spec =
-    tie.close (tie.spec read-requires returns judge-requires (λ c. search needs) apply-at-requires (λ c. search needs) (λ c. search needs)
-    returns-2 returns-3)
+    tie.close (tie.spec (λ c κs. search needs) (λ c κs. search needs) returns judge-requires (λ c. search needs) (λ c κs. search needs)
+    (λ c κs. search needs) apply-at-requires (λ c. search needs) (λ c. search needs) returns-2 returns-3)

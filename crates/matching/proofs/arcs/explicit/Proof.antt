@@ -1,7 +1,6 @@
 -- `matching::arcs::explicit` meets its contract.
 -- Assumes nothing.
 use mathlib.Core.Path.{refl, _∙_}
-use mathlib.Core.Logic.{inl, inr, ⊎-elim}
 use borrow.Author.Needs.{needs}
 use Rattle.matching.proofs.ArcTestLaws.{explicit-later, explicit-tree, explicit-tested}
 use Rattle.matching.proofs.arcs.explicit.Statement.{statement}
@@ -23,15 +22,15 @@ wide-requires : tie.Need-wide-requires
 wide-requires c κs = search needs
 
 returns-2 : tie.Need-returns-2
-returns-2 c = explicit-tree _ _ _ _ _ _ _ _ _ _ refl (c .before .before .before .if2 .taken) _ (c .before .wide .ensures .0) (c .if3 .taken)
+returns-2 c = explicit-tree _ _ _ _ _ _ _ _ _ _ refl _ (c .before .wide .ensures .0) (c .if2 .taken)
 
 straight-requires : tie.Need-straight-requires
-straight-requires c κs = c .before .before .before .before .before .pre .0
+straight-requires c κs = c .before .before .before .before .before .before .before .pre .0
 
 returns-3 : tie.Need-returns-3
 returns-3 c =
-    explicit-tested _ _ _ _ _ _ _ _ _ _ refl _ (c .before .before .if1 .left)
-    (⊎-elim (λ w. inr (λ e. w .3 .left (w .2 .ensures .0 ∙ e))) (λ w. inl (w .left)) (c .before .if2 .came)) (c .straight .ensures)
+    let w = c .before .before in
+    explicit-tested _ _ _ _ _ _ _ _ _ _ refl _ (w .before .before .if1 .left) (λ e. c .before .if2 .left (w .wide .ensures .0 ∙ e)) (c .straight .ensures)
 
 pub explicit-spec : {M : Type 1} → statement M
 explicit-spec =

@@ -1,43 +1,57 @@
--- `matching::columns::columns` meets its contract. The loop's invariant: the first k entries of the tree have their columns, of which the last ends at `end`.
+-- `matching::columns::columns` meets its contract. The loop's invariant: the first k entries of the trees have their columns, of which the last ends at `end`.
 -- Assumes nothing.
 use Prim.Native.Nat.{_*_, _-_, _≤_, _<_}
-use mathlib.Core.Path.{_≡_}
+use mathlib.Core.Path.{_≡_, refl}
+use native.Mathlib.Nat.{mul-le-mul-right}
 use native.Mathlib.Omega.{arith}
 use denote.Ref.{now}
+use lib.ListN.{getD}
 use borrow.Author.Needs.{needs}
 use borrow.Author.Tests.{not-true, not-false}
 use Rattle.model.specs.Map.{view}
 use Rattle.matching.specs.Columns.{Grown}
-use Rattle.matching.proofs.ColumnTreeLaws.{grown-one, node-fits, parent-fits, column-asks, columns-more, columns-clash, columns-done}
+use Rattle.matching.proofs.ColumnTreeLaws.{hooks-some, hooks-few, grown-hooks, node-below, node-fits, parent-fits, column-asks, columns-more}
+use Rattle.matching.proofs.ColumnTreeLaws.{columns-clash, columns-done}
 use Rattle.matching.proofs.columns.columns.Statement.{statement}
 use Rattle.matching.proofs.columns.columns.Tie as tie
 
 abbrev Inv-loop : tie.InvT-loop
-Inv-loop slots table store₀ size nodes parents dims count cols₀ end₀ k₀ store cols end k =
-    (1 ≤ k) × (k ≤ count) × (end ≡ k * size) × Grown (view slots table) nodes parents dims store₀ store cols size k
+Inv-loop slots table store₀ size nodes parents dims roots count cols₀ end₀ k₀ store cols end k =
+    (roots ≤ k) × (k ≤ count) × (end ≡ k * size) × Grown (view slots table) nodes parents dims roots store₀ store cols size k
 
 abbrev μ-loop : tie.MeasureT-loop
-μ-loop slots table store₀ size nodes parents dims count cols₀ end₀ k₀ store cols end k = count - k
+μ-loop slots table store₀ size nodes parents dims roots count cols₀ end₀ k₀ store cols end k = count - k
+
+abbrev start : tie.At-loop Inv-loop μ-loop → tie.Start Inv-loop μ-loop
+start c = c .before .before .before .before .before
 
 parent : (c : tie.After-wide Inv-loop μ-loop) → c .wide .result < 16
 parent c =
     let l = c .before .before in
-    let a = l .before .before .before .before in
-    parent-fits (a .pre .1) (l .loop-test .taken) (l .before .loop .inv .0) (c .wide .ensures .0)
+    parent-fits (start (l .before) .pre .1) (l .loop-test .taken) (l .before .loop .inv .0) (c .wide .ensures .0)
 
 node : (c : tie.After-wide3 Inv-loop μ-loop) → c .wide3 .result < 16
 node c =
     let l = c .before .before .before .before .before .before .before .before .before .before .before .before in
-    let a = l .before .before .before .before in
-    node-fits (a .pre .1) (l .loop-test .taken) (c .wide3 .ensures .0)
+    node-fits (start (l .before) .pre .1) (l .loop-test .taken) (c .wide3 .ensures .0)
 
-element-write-cols : tie.Need-element-write-cols Inv-loop μ-loop
-element-write-cols c = search needs
+begin-requires : tie.Need-begin-requires Inv-loop μ-loop
+begin-requires c κs =
+    let p = c .before .before .before .pre .1 in
+    let some = hooks-some p in
+    (p .at .sized .few, p .walked .fits, some, hooks-few p, node-below p _ (omega (arith, p .rooted .some)))
+
+mul-end : tie.Need-mul-end Inv-loop μ-loop
+mul-end c =
+    let s = c .before .before .before .before in
+    let p = s .pre .1 in
+    omega (arith, mul-le-mul-right (s .args .size) (hooks-few p), p .walked .fits, p .at .sized .few)
 
 loop-holds : tie.Need-loop-holds Inv-loop μ-loop
 loop-holds c =
-    let p = c .before .before .pre in
-    (omega arith, p .1 .rooted .some, omega arith, grown-one (p .1) (now (c .before .before .args .cols)) (p .0))
+    let s = c .before .before .before .before in
+    let p = s .pre in
+    (omega arith, p .1 .rooted .some, refl, rw (c .begin .ensures) (grown-hooks (p .1) (now (s .args .cols)) (p .0) _ refl))
 
 element-copy-out-wide : tie.Need-element-copy-out-wide Inv-loop μ-loop
 element-copy-out-wide c = search needs
@@ -62,8 +76,7 @@ column-requires c κs =
     let w = c .before .before .before .before in
     let l = w .before .before in
     let inv = l .before .loop .inv in
-    let a = l .before .before .before .before in
-    column-asks (inv .3) (inv .0) (l .loop-test .taken) (w .wide .ensures .0) (c .wide2 .ensures .0) (inv .2) (a .pre .1)
+    column-asks (inv .3) (inv .0) (l .loop-test .taken) (w .wide .ensures .0) (c .wide2 .ensures .0) (inv .2) (start (l .before) .pre .1)
 
 same-length : tie.Need-same-length Inv-loop μ-loop
 same-length c = search needs
@@ -90,8 +103,8 @@ wide-requires-3 c κs = search needs
 mul-cols : tie.Need-mul-cols Inv-loop μ-loop
 mul-cols c = omega (arith, node c)
 
-element-write-cols-2 : tie.Need-element-write-cols-2 Inv-loop μ-loop
-element-write-cols-2 c = omega (arith, node c)
+element-write-cols : tie.Need-element-write-cols Inv-loop μ-loop
+element-write-cols c = omega (arith, node c)
 
 add-end : tie.Need-add-end Inv-loop μ-loop
 add-end c = search needs
@@ -109,12 +122,11 @@ loop-again c =
     let d = k .before in
     let w = d .before .before .before .before in
     let l = w .before .before in
-    let inv = l .before .loop .inv in
-    let a = l .before .before .before .before in (
+    let inv = l .before .loop .inv in (
       omega arith,
       omega arith,
       omega arith,
-      columns-more (inv .3) (inv .0) (l .loop-test .taken) (w .wide .ensures .0) (d .wide2 .ensures .0) (inv .2) (a .pre .1)
+      columns-more (inv .3) (inv .0) (l .loop-test .taken) (w .wide .ensures .0) (d .wide2 .ensures .0) (inv .2) (start (l .before) .pre .1)
           _ _ (c .wide3 .ensures .0) _ (k .column .ensures) (not-false _ (e .if1 .left)),
     )
 
@@ -128,6 +140,6 @@ returns-2 c =
 
 pub columns-spec : {M : Type 1} → statement M
 columns-spec =
-    tie.close (tie.spec Inv-loop μ-loop element-write-cols loop-holds element-copy-out-wide wide-requires mul-from element-copy-out-from
+    tie.close (tie.spec Inv-loop μ-loop begin-requires mul-end loop-holds element-copy-out-wide wide-requires mul-from element-copy-out-from
     element-copy-out-wide-2 wide-requires-2 column-requires same-length returns add-cols element-copy-out-wide-3 wide-requires-3 mul-cols
-    element-write-cols-2 add-end add-k loop-less loop-again same-length-2 returns-2)
+    element-write-cols add-end add-k loop-less loop-again same-length-2 returns-2)

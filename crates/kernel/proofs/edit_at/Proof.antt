@@ -1,4 +1,4 @@
--- `kernel::edit` meets its contract.
+-- `kernel::edit_at` meets its contract.
 -- Assumes nothing.
 use Prim.Native.Nat.{ℕ}
 use mathlib.Core.Path.{_≡_, sym, ap, _∙_}
@@ -10,8 +10,8 @@ use Rattle.model.specs.Calls.{sizesOk}
 use Rattle.kernel.proofs.CallLaws.{sizes-read}
 use Rattle.kernel.proofs.StageLaws.{edit-bad-sizes, edit-bad-store, edit-staged}
 use borrow.Author.Needs.{needs}
-use Rattle.kernel.proofs.edit.Statement.{statement}
-use Rattle.kernel.proofs.edit.Tie as tie
+use Rattle.kernel.proofs.edit_at.Statement.{statement}
+use Rattle.kernel.proofs.edit_at.Tie as tie
 
 sized : (c : tie.Else1) → let a = c .before .before .before .before .before .before .args in sizesOk (a .n) (a .slots) (now (a .table)) ≡ true
 sized c = sym (c .before .sizes .ensures) ∙ not-false _ (c .if1 .left)
@@ -46,7 +46,7 @@ returns-3 c =
     edit-staged _ _ _ _ _ _ (sized (e .before)) (e .if2 .left) _ _ _ (s .staged .ensures)
     (k .clear .ensures ∙ ap (λ (z : ℕ). replicate z 0) (s .staged .kept .1 .1 .1 .0))
 
-pub edit-spec : {M : Type 1} → statement M
-edit-spec =
+pub edit-at-spec : {M : Type 1} → statement M
+edit-at-spec =
     tie.close (tie.spec sizes-requires (λ c. search needs) returns mul-if2 (λ c. search needs) returns-2 staged-requires clear-requires
     (λ c. search needs) (λ c. search needs) returns-3)
