@@ -1,6 +1,7 @@
 /* controller PART ARCHIVE: a shift at a small cell, as an integrator would write it.
  *
- * It loads the part's map file and checks it, splits an edge, drops a piece, adds a flange, and writes the archive's map file.
+ * It loads the part's map file and checks it, splits an edge, drops a piece, adds a flange, sews it to a flange of another lot, and
+ * writes the archive's map file.
  * A part that is broken is shown as it was loaded, with the links that break it, and the shift ends there.
  * Every answer of the kernel is printed in words; the exit status is 0 only where the archive file was written.
  *
@@ -18,8 +19,8 @@ static uint32_t store[GMAP_STORE * GMAP_MAX_SLOTS];
 static uint8_t file[GMAP_MAX_FILE + 1];
 static uint32_t n, slots;
 
-/* The part's dart that the operator points at for each operation. */
-enum { EDGE = 8, PIECE = 0, FLANGE = 10 };
+/* The part's dart that the operator points at for each operation; for the sewing two darts, one on each edge. */
+enum { EDGE = 8, PIECE = 0, FLANGE = 10, SEAM = 3, OTHER_SEAM = 23 };
 
 /* Prints an answer, with the node of a refused scheme, and says whether the call was done. */
 static int told(const char *what, uint64_t answer)
@@ -33,13 +34,24 @@ static int told(const char *what, uint64_t answer)
     return number == GMAP_DONE;
 }
 
-/* Applies a stored operation where the operator points. */
-static int apply(const char *what, const uint8_t *scheme, size_t length, uint32_t dart)
+/* Prints the answer of an edit, with its counts, and says whether it was done. */
+static int edited(const char *what, uint64_t answer)
 {
-    uint64_t answer = gmap_edit(n, slots, table, GMAP_RECORD * slots, store, GMAP_STORE * slots, scheme, length, dart);
     if (!told(what, answer)) return 0;
     printf("  %" PRIu32 " darts matched, %" PRIu32 " added, %" PRIu32 " deleted\n", gmap_orbit(answer), gmap_added(answer), gmap_deleted(answer));
     return 1;
+}
+
+/* Applies a stored operation where the operator points. */
+static int apply(const char *what, const uint8_t *scheme, size_t length, uint32_t dart)
+{
+    return edited(what, gmap_edit(n, slots, table, GMAP_RECORD * slots, store, GMAP_STORE * slots, scheme, length, dart));
+}
+
+/* Applies a stored operation with two hooks where the operator points at two darts. */
+static int apply_at_two(const char *what, const uint8_t *scheme, size_t length, uint32_t dart, uint32_t other)
+{
+    return edited(what, gmap_edit2(n, slots, table, GMAP_RECORD * slots, store, GMAP_STORE * slots, scheme, length, dart, other));
 }
 
 /* Whether there is a dart x. A link of a broken part may be any number, so this is asked before the record that it leads to is read. */
@@ -161,5 +173,10 @@ int main(int argc, char **argv)
     /* The flange takes slots that the dropped piece left, and the lot of the sheet that it grows on. */
     if (!apply("add a flange", add_flange, sizeof add_flange, FLANGE)) return 1;
     print_lots();
+
+    /* The flange and one of the piece of lot 4713 become one edge, and each keeps its lot; then neither edge is free any more. */
+    if (!apply_at_two("sew the two flanges", sew_edges, sizeof sew_edges, SEAM, OTHER_SEAM)) return 1;
+    print_lots();
+    apply_at_two("sew them again", sew_edges, sizeof sew_edges, SEAM, OTHER_SEAM);
     return write_archive(argv[2]) ? 0 : 1;
 }

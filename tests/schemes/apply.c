@@ -1,5 +1,5 @@
-/* apply SCHEME MAP DART: applies the scheme in the file SCHEME to the map in the file MAP at a dart, and prints the answer, the
- * cells before and after, and the live records after.
+/* apply SCHEME MAP DART [OTHER]: applies the scheme in the file SCHEME to the map in the file MAP at a dart, or at two, and prints the
+ * answer, the cells before and after, and the live records after.
  *
  * MAP is text: `n N` and `slots S`, then a line for each live dart: its slot, its links a0 to an, its tag; # starts a comment.
  * Unused records and the working store are filled with a pattern, so that a kernel that consults them is seen. */
@@ -9,7 +9,7 @@
 #include <stdlib.h>
 #include <string.h>
 
-enum { MOST = 1024, LONGEST = 537, RECORD = 6, ROW = 16, TAG = 5 };
+enum { MOST = 1024, LONGEST = 538, RECORD = 6, ROW = 16, TAG = 5 };
 
 static uint32_t n, slots, table[RECORD * MOST], before[RECORD * MOST], store[ROW * MOST];
 
@@ -60,6 +60,12 @@ static size_t read_scheme(const char *path, uint8_t *bytes, size_t room)
     return length;
 }
 
+static uint32_t dart_of(const char *word)
+{
+    if (!word[0] || strspn(word, "0123456789") != strlen(word) || strlen(word) > 9) fail(word, "no dart's number");
+    return (uint32_t)strtoul(word, NULL, 10);
+}
+
 /* How many orbits the links in `set` (bit i for ai) part the live darts into. */
 static uint32_t cells(const uint32_t *t, uint32_t set)
 {
@@ -107,8 +113,8 @@ static void print_records(void)
 int main(int argc, char **argv)
 {
     uint8_t scheme[LONGEST + 1];
-    if (argc != 4) fail("usage", "apply SCHEME MAP DART");
-    if (!argv[3][0] || strspn(argv[3], "0123456789") != strlen(argv[3]) || strlen(argv[3]) > 9) fail(argv[3], "no dart's number");
+    if (argc != 4 && argc != 5) fail("usage", "apply SCHEME MAP DART [OTHER]");
+    uint32_t dart = dart_of(argv[3]), other = argc == 5 ? dart_of(argv[4]) : 0;
     size_t length = read_scheme(argv[1], scheme, sizeof scheme);
     read_map(argv[2]);
     if (gmap_check_table(n, slots, table, RECORD * slots) != 0) fail(argv[2], "not well-formed");
@@ -116,7 +122,8 @@ int main(int argc, char **argv)
     memcpy(before, table, sizeof table);
     memset(store, 0x5A, sizeof store);
 
-    uint64_t answer = gmap_edit(n, slots, table, RECORD * slots, store, ROW * slots, scheme, length, (uint32_t)strtoul(argv[3], NULL, 10));
+    uint64_t answer = argc == 4 ? gmap_edit(n, slots, table, RECORD * slots, store, ROW * slots, scheme, length, dart)
+                                : gmap_edit2(n, slots, table, RECORD * slots, store, ROW * slots, scheme, length, dart, other);
     if (gmap_number(answer) != 0) printf("refused %" PRIu32 "\n", gmap_number(answer));
     else printf("done: orbit %" PRIu32 ", added %" PRIu32 ", deleted %" PRIu32 "\n", gmap_orbit(answer), gmap_added(answer), gmap_deleted(answer));
     for (uint32_t w = 0; w < ROW * slots; w++)

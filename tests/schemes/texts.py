@@ -16,6 +16,7 @@ import unittest
 
 TOOL = "tools/scheme"
 HEAD = "n 2\norbit 0 2\nnode 0 preserved 0 2 -> _ 2\nnode 1 added -> 1 2\n"
+PAIR = "n 2\norbit 0\nnode 0 preserved 0 -> 0\nnode 1 preserved 0 -> 0\n"
 
 # (what is wrong, the text, the line and column, a part of the message)
 FAULTS = [
@@ -45,6 +46,20 @@ FAULTS = [
     ("seventeen nodes", "n 2\norbit\n" + "".join(f"node {v} added ->\n" for v in range(17)), "19:6", "expected at most 16 nodes"),
     ("a node after an arc", HEAD + "right 0: 0-1\nnode 2 added -> 1 2\n", "6:1", "found 'node' after 'right', expected the order n, orbit, node"),
     ("left after right", HEAD + "right 0: 0-1\nleft 1: 0-0\n", "6:1", "found 'left' after 'right'"),
+    ("node 0 as the second hook", PAIR + "hook 0\n", "5:6", "found '0', expected the second hook: another node than 0, which is the first"),
+    ("a second hook where there is one node", "n 2\norbit\nnode 0 preserved ->\nhook 1\n", "4:6", "found '1', expected the second hook: another node than 0"),
+    ("a second hook not below the count", PAIR + "node 2 preserved 0 -> 0\nhook 3\n", "6:6", "found '3', expected a node number from 1 to 2"),
+    ("an added second hook", HEAD + "hook 1\n", "5:6", "found node 1, which is added, expected a node that is there on the left"),
+    ("hook alone", PAIR + "hook\n", "5:5", "found the end of the line, expected a node number 1"),
+    ("a word after hook", PAIR + "hook one\n", "5:6", "found 'one', expected a node number 1"),
+    ("two numbers after hook", PAIR + "hook 1 0\n", "5:8", "found '0', expected the end of the line"),
+    ("hook twice", PAIR + "hook 1\nhook 1\n", "6:1", "found a second 'hook' line, expected one"),
+    ("a hook before the nodes", "n 2\norbit\nhook 1\n", "3:1", "found 'hook', expected a line 'node ..' first"),
+    ("a node after the hook", PAIR + "hook 1\nnode 2 added -> 0\n", "6:1", "found 'node' after 'hook', expected the order n, orbit, node, hook, left, right, bytes"),
+    ("a hook after an arc", PAIR + "left 2: 0-0\nhook 1\n", "6:1", "found 'hook' after 'left'"),
+    ("bytes without the mark of the second hook", PAIR + "hook 1\nbytes 2 1 0\n", "6:7", "found 2 as byte 1 of the scheme, expected 34"),
+    ("bytes with the mark and no second hook", PAIR + "bytes 34 1 0\n", "5:7", "found 34 as byte 1 of the scheme, expected 2"),
+    ("another second hook in the bytes", PAIR + "node 2 deleted 0 ->\nhook 1\nbytes 34 1 0 3 2 0 0 2 0 0 1 0 255 2\n", "7:36", "found 2 as byte 14 of the scheme, expected 1"),
     ("an arc without its dimension", HEAD + "right 0-1\n", "5:8", "found '-', expected ':' and the arcs"),
     ("an arc of dimension 3 where n is 2", HEAD + "right 3: 0-1\n", "5:7", "found '3', expected a dimension 0, 1 or 2"),
     ("no arcs after the colon", HEAD + "right 0:\n", "5:9", "found the end of the line, expected an arc"),
@@ -64,12 +79,21 @@ FAULTS = [
 BYTE_FAULTS = [
     ("nothing", [], 1, "found the end, expected the dimension"),
     ("n is 4", [4], 1, "found 4, expected the dimension"),
+    ("n is 4, with a second hook", [36], 1, "found 36, expected the dimension of the map, 2 or 3, and 32 more where there is a second hook"),
+    ("the mark alone", [32], 1, "found 32, expected the dimension"),
+    ("a mark that there is not", [66], 1, "found 66, expected the dimension"),
     ("orbit type too long", [2, 4], 2, "found 4, expected the number of dimensions in the orbit type, 0 to 3"),
     ("orbit type not ascending", [2, 2, 1, 1], 4, "found 1, expected a dimension of the orbit type"),
     ("seventeen nodes", [2, 0, 17], 3, "found 17, expected the number of nodes, 1 to 16"),
     ("kind 4", [2, 0, 1, 4], 4, "found 4, expected the kind of node 0"),
     ("a dimension twice in a word", [2, 2, 0, 1, 1, 2, 0, 0], 8, "found 0, expected in the left word of node 0 a dimension not yet in it"),
     ("a right word of a deleted node", [2, 1, 0, 1, 1, 0, 0], 7, "found 0, expected 255, as node 0 is deleted"),
+    ("node 0 as the second hook", [34, 0, 2, 2, 2, 0, 0, 0], 6, "found 0, expected the second hook: a node other than 0 that is there on the left, 1\n"),
+    ("a second hook not below the count", [35, 0, 3, 2, 2, 1, 3, 0, 0], 7, "found 3, expected the second hook: a node other than 0 that is there on the left, 1 or 2\n"),
+    ("an added second hook", [34, 0, 2, 2, 3, 1, 0, 0], 6, "found 1, expected the second hook: a node other than 0 that is there on the left, and there is none\n"),
+    ("a second hook where there is one node", [34, 0, 1, 2, 1, 0, 0], 5, "found 1, expected the second hook"),
+    ("no second hook", [34, 0, 2, 2, 2], 6, "found the end, expected the second hook"),
+    ("a second hook without the mark", [2, 0, 2, 2, 2, 1, 0, 0], 9, "found the end, expected a node that is there on the left"),
     ("an added node on the left", [2, 0, 1, 3, 1, 0, 0, 0], 7, "found 0, expected a node that is there on the left"),
     ("the larger node first", [2, 0, 2, 2, 2, 1, 0, 1, 0], 9, "found 0, expected a node that is there on the left, 1 or more"),
     ("arcs not ascending", [2, 0, 1, 2, 2, 1, 0, 0, 0, 0, 0], 9, "found the left arc 0 0 0 after 1 0 0, expected ascending arcs"),
@@ -103,14 +127,16 @@ def in_form(source):
     """Some bytes in the form."""
     n = source.choice((2, 3))
     orbit = [d for d in range(n + 1) if source.random() < 0.5]
-    out = [n, len(orbit), *orbit]
     kinds = [source.choice((1, 2, 3)) for _ in range(source.randint(1, 16))]
-    out.append(len(kinds))
+    seconds = [v for v, kind in enumerate(kinds) if v > 0 and kind != 3]
+    second = [source.choice(seconds)] if seconds and source.random() < 0.5 else []
+    out = [n + 32 * len(second), len(orbit), *orbit, len(kinds)]
     for kind in kinds:
         out.append(kind)
         for absent in (3, 1):
             word = source.sample([*range(n + 1), 255, 255, 255, 255], len(orbit))
             out += [255] * len(orbit) if kind == absent else word
+    out += second
     for absent in (3, 1):
         ends = [v for v, kind in enumerate(kinds) if kind != absent]
         arcs = {(d, *sorted(source.choices(ends, k=2))) for d in range(n + 1) for _ in range(source.randint(0, 9)) if ends}
@@ -151,15 +177,28 @@ class Texts(unittest.TestCase):
                 self.assertIn(message, done.stderr)
 
     def test_bytes_to_text_and_back(self):
-        source = random.Random(4711)
+        source, hooked = random.Random(4711), 0
         for _ in range(100):
             data = in_form(source)
+            hooked += data[0] > 32
             with open(self.bytes, "wb") as file:
                 file.write(bytes(data))
             shown = run("show", self.bytes)
             self.assertEqual(shown.returncode, 0, shown.stderr)
             self.write(shown.stdout)
             self.assertEqual(run("assemble", self.path).stdout.split(), [str(byte) for byte in data])
+            self.assertEqual(shown.stdout.count("\nhook "), data[0] > 32)
+        self.assertGreater(min(hooked, 100 - hooked), 20)
+
+    def test_two_hooks(self):
+        """The second hook is one byte after the nodes, and a line of its own in what is shown."""
+        self.write(PAIR + "hook 1 # the second dart\nleft 2: 0-0 1-1\nright 2: 0-1\n")
+        self.assertEqual(run("assemble", self.path).stdout, "34 1 0 2 2 0 0 2 0 0 1 2 2 0 0 2 1 1 1 2 0 1\n")
+        self.assertEqual(run("assemble", self.path, "-o", self.bytes).returncode, 0)
+        with open("schemes/sew-edges.scheme", encoding="utf-8") as file:
+            self.assertEqual(run("show", self.bytes).stdout, "".join(line for line in file if not line.startswith("#")))
+        self.write((PAIR + "node 2 deleted 0 ->\nhook 2\n").replace("n 2", "n 3"))
+        self.assertEqual(run("assemble", self.path).stdout, "35 1 0 3 2 0 0 2 0 0 1 0 255 2 0 0\n")
 
     def test_the_order_of_arcs_is_free(self):
         self.write("n 2\norbit\nnode 0 preserved ->\nnode 1 preserved ->\nleft 2: 0-1\nleft 0: 1-1 0-0\nright 0: 1-1 0-0\nright 2: 0-1\n")

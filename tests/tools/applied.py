@@ -13,16 +13,18 @@ from gmap.files import data_of
 
 
 def outcome(path):
-    """The map, dart, first line and live records that a stored outcome has."""
+    """The map, the darts, the first line and the live records that a stored outcome has."""
     with open(path) as file:
         lines = [line.rstrip("\n") for line in file if not line.startswith("#")]
     records = [line.split() for line in lines[lines.index(next(line for line in lines if line.startswith("slot"))) + 1:]]
-    return lines[0].split()[1], lines[1].split()[1], lines[2], records
+    return lines[0].split()[1], lines[1].split()[1:], lines[2], records
 
 
 def refusals():
+    """The scheme, the map, the darts and the number of each stored refusal."""
     with open("schemes/refusals.txt") as file:
-        return [line.split(None, 4)[:4] for line in file if line.strip() and not line.startswith("#")]
+        rows = [line.split(None, 4)[:4] for line in file if line.strip() and not line.startswith("#")]
+    return [(name, on, darts.split(","), number) for name, on, darts, number in rows]
 
 
 class Applied(Case):
@@ -32,8 +34,8 @@ class Applied(Case):
         for path in paths:
             with self.subTest(path):
                 name, out = os.path.basename(path)[:-len(".outcome")], self.path("out.map")
-                on, dart, said, records = outcome(path)
-                done = run("tools/apply", f"schemes/maps/{on}.map", name, dart, "-o", out)
+                on, darts, said, records = outcome(path)
+                done = run("tools/apply", f"schemes/maps/{on}.map", name, *darts, "-o", out)
                 self.assertEqual((done.returncode, done.stderr), (0, ""))
                 self.assertEqual(done.stdout.split(";")[0], said)
                 text = data_of(out).decode()
@@ -43,11 +45,13 @@ class Applied(Case):
 
     def test_refusals(self):
         self.assertGreaterEqual(len(refusals()), 10)
-        for name, on, dart, number in refusals():
-            with self.subTest(f"{name} on {on} at {dart}"):
-                done = run("tools/apply", f"schemes/maps/{on}.map", name, dart, "-o", self.path("out.map"))
+        self.assertEqual({len(darts) for _, _, darts, _ in refusals()}, {1, 2})
+        for name, on, darts, number in refusals():
+            with self.subTest(f"{name} on {on} at {darts}"):
+                done = run("tools/apply", f"schemes/maps/{on}.map", name, *darts, "-o", self.path("out.map"))
                 self.assertEqual((done.returncode, done.stdout), (1, ""))
-                self.assertRegex(done.stderr, f"^schemes/maps/{on}.map: {name} at dart {dart}: refused {number}: [a-z][^\n]+\n$")
+                at = f"dart {darts[0]}" if len(darts) == 1 else f"darts {darts[0]} and {darts[1]}"
+                self.assertRegex(done.stderr, f"^schemes/maps/{on}.map: {name} at {at}: refused {number}: [a-z][^\n]+\n$")
         self.assertEqual(os.listdir(self.folder), [])
 
     def test_refusals_in_words(self):
@@ -58,7 +62,28 @@ class Applied(Case):
                  "16 new darts, 2 for each of the orbit's 8, and 8 unused slots"),
                 (("square", "extrude-face", "0"), "square.map: extrude-face at dart 0: refused 6: the scheme is for maps of another dimension: "
                  "the scheme is for n = 3, the map has n = 2"),
-                (("square", "merge-faces", "0"), "square.map: merge-faces at dart 0: refused 9: the scheme does not fit here")):
+                (("square", "merge-faces", "0"), "square.map: merge-faces at dart 0: refused 9: the scheme does not fit here"),
+                (("pan", "sew-edges", "11"), "pan.map: sew-edges at dart 11: refused 2: the scheme is for another number of darts: "
+                 "it has two hooks, nodes 0 and 1, and one dart was given"),
+                (("pan", "split-edge", "11", "16"), "pan.map: split-edge at darts 11 and 16: refused 2: the scheme is for another number of darts: "
+                 "it has one hook, node 0, and two darts were given"),
+                (("pan", "sew-faces", "11"), "pan.map: sew-faces at dart 11: refused 2: the scheme is for another number of darts: "
+                 "it has two hooks, nodes 0 and 1, and one dart was given"),
+                (("pan", "sew-faces", "63", "16"), "pan.map: sew-faces at darts 63 and 16: refused 6: the scheme is for maps of another dimension: "
+                 "the scheme is for n = 3, the map has n = 2"),
+                (("pan", "sew-edges", "40", "16"), "pan.map: sew-edges at darts 40 and 16: refused 8: there is no such dart: slot 40 is unused"),
+                (("pan", "sew-edges", "11", "40"), "pan.map: sew-edges at darts 11 and 40: refused 8: there is no such dart: slot 40 is unused"),
+                (("pan", "sew-edges", "63", "64"), "pan.map: sew-edges at darts 63 and 64: refused 8: there is no such dart: slot 63 is unused; there are 64 slots"),
+                (("pan", "sew-edges", "64", "65"), "pan.map: sew-edges at darts 64 and 65: refused 8: there is no such dart: there are 64 slots"),
+                (("pan", "sew-edges", "11", "11"), "pan.map: sew-edges at darts 11 and 11: refused 9: the scheme does not fit here: "
+                 "dart 11 was given for both hooks, and each node has a dart of its own"),
+                (("pan", "sew-edges", "11", "10"), "pan.map: sew-edges at darts 11 and 10: refused 9: the scheme does not fit here: "
+                 "both darts are of one orbit, 10 and 11, and each node has darts of its own"),
+                (("pan", "sew-edges", "11", "22"), "pan.map: sew-edges at darts 11 and 22: refused 9: the scheme does not fit here"),
+                (("square-and-triangle", "sew-faces", "0", "8"), "square-and-triangle.map: sew-faces at darts 0 and 8: refused 9: "
+                 "the scheme does not fit here: the orbit of dart 0 has 8 darts, that of dart 8 has 6, and they must be of one shape"),
+                (("bend-split", "join-flanges-by-strip", "0", "9"), "bend-split.map: join-flanges-by-strip at darts 0 and 9: refused 10: "
+                 "the table has too little room: 8 new darts, 4 for each of the orbit's 2, and 4 unused slots")):
             done = run("tools/apply", f"schemes/maps/{words[0]}.map", *words[1:])
             self.assertEqual((done.returncode, done.stderr), (1, f"schemes/maps/{said}\n"))
 
@@ -79,6 +104,46 @@ class Applied(Case):
         self.assertEqual(set(written), {written[0]})
         self.assertNotEqual(written[0], data_of(file))
 
+    def test_forms_at_two_darts(self):
+        scheme, written = self.path("sew.bytes"), set()
+        run("tools/scheme", "assemble", "schemes/sew-edges.scheme", "-o", scheme)
+        for operation in ("sew-edges", "schemes/sew-edges.scheme", scheme):
+            done = run("tools/apply", "schemes/maps/two-pieces.map", operation, "2", "15", "-o", self.path("a.gmap"))
+            self.assertEqual((done.returncode, done.stdout, done.stderr), (0, "done: orbit 2, added 0, deleted 0; live 16, unused 8\n", ""))
+            written.add(data_of(self.path("a.gmap")))
+        self.assertEqual(written, {maps.map_in(data_of("schemes/maps/bend.map")).file()})
+
+    def test_the_darts_have_their_order(self):
+        """The first dart is that of node 0: the strip takes its lot; and sewn at the other end, an edge is sewn the other way round."""
+        on, lots = maps.map_in(data_of("schemes/maps/two-pieces.map")), {}
+        for darts in (("2", "15"), ("15", "2")):
+            run("tools/apply", "schemes/maps/two-pieces.map", "join-flanges-by-strip", *darts, "-o", self.path("a.map"))
+            after = maps.map_in(data_of(self.path("a.map")))
+            lots[darts] = {tag for slot, (_, tag) in after.live.items() if slot not in on.live}
+        self.assertEqual(lots, {("2", "15"): {4711}, ("15", "2"): {4712}})
+        for other, met in (("15", {2: 15, 3: 14}), ("14", {2: 14, 3: 15})):
+            run("tools/apply", "schemes/maps/two-pieces.map", "sew-edges", "2", other, "-o", self.path("a.map"))
+            after = maps.map_in(data_of(self.path("a.map")))
+            self.assertEqual({x: after.live[x][0][2] for x in met}, met)
+
+    def test_both_sides(self):
+        """Edges in space are sewn on both sides of their faces, or on the one that there is, and not where one face has two and the other one."""
+        done = run("tools/apply", "schemes/maps/two-plates.map", "sew-edges-in-space", "2", "15")
+        self.assertEqual((done.returncode, done.stdout), (0, "done: orbit 2, added 0, deleted 0; live 16, unused 48\n"))
+        m = maps.map_in(data_of("schemes/maps/two-sheets.map"))
+        m.live = {x: (links[:3] + [x if x >= 16 else links[3]], tag) for x, (links, tag) in m.live.items() if x < 24}
+        for darts, sizes in ((("2", "23"), (2, 4, 23, 2)), (("23", "2"), (23, 2, 2, 4))):
+            done = run("tools/apply", self.file("a.map", m.text()), "sew-edges-in-space", *darts)
+            said = "refused 9: the scheme does not fit here: the orbit of dart {} has {} darts, that of dart {} has {}, and they must be of one shape\n".format(*sizes)
+            self.assertEqual((done.returncode, done.stderr), (1, f"{self.path('a.map')}: sew-edges-in-space at darts {darts[0]} and {darts[1]}: {said}"))
+
+    def test_undone(self):
+        """part-faces at the first dart undoes the sewing."""
+        before = maps.map_in(data_of("schemes/maps/pan.map"))
+        run("tools/apply", "schemes/maps/pan.map", "sew-edges", "11", "16", "-o", self.path("a.map"))
+        self.assertEqual(run("tools/apply", self.path("a.map"), "part-faces", "11", "-o", self.path("b.map")).returncode, 0)
+        self.assertEqual(maps.map_in(data_of(self.path("b.map"))).file(), before.file())
+
     def test_without_out(self):
         done = run("tools/apply", "schemes/maps/bend.map", "split-edge", "2")
         self.assertEqual((done.returncode, done.stdout, done.stderr), (0, "done: orbit 4, added 4, deleted 0; live 20, unused 4\n", ""))
@@ -86,10 +151,13 @@ class Applied(Case):
     def test_faults(self):
         bad_map, bad_scheme, refused = self.file("a.map", "n 2\nslots 8\n0 0 3 0 7\n"), self.file("a.scheme", "n 2\norbit 3\n"), self.file(
             "b.scheme", "n 2\norbit 0\nnode 0 preserved 0 -> _\n")
+        hooked = self.file("c.scheme", "n 2\norbit 0\nnode 0 preserved 0 -> 0\nnode 1 preserved _ -> _\nhook 1\n")
         bend = "schemes/maps/bend.map"
         for words, said in (((bad_map, "split-edge", "0"), f"{bad_map}: refused 7: the map is not well-formed\n{bad_map}:3: slot 0: α1 leads to 3, which is unused\n"),
                             ((bend, bad_scheme, "0"), f"{bad_scheme}:2:7: found '3', expected a dimension 0, 1 or 2\n"),
                             ((bend, refused, "0"), f"{refused}:3: node 0: refused 4: it is preserved, has 0 on the left side and lacks it on the right\n"),
+                            ((bend, hooked, "0", "1"), f"{hooked}:4: node 1: refused 3: the left word of the second hook is '_', and must be the orbit type, '0'\n"),
+                            ((bend, hooked, "0"), f"{bend}: {hooked} at dart 0: refused 2: the scheme is for another number of darts: it has two hooks, nodes 0 and 1, and one dart was given\n"),
                             ((bend, "no-such", "0"), "no-such: no such file, and no operation of the catalogue has this name\n"),
                             ((bend, "no/such", "0"), "no/such: No such file or directory\n"),
                             (("no/such", "split-edge", "0"), "no/such: No such file or directory\n"),
@@ -98,11 +166,12 @@ class Applied(Case):
             done = run("tools/apply", *words, *out)
             self.assertEqual((done.returncode, done.stdout), (1, ""))
             self.assertIn(said, done.stderr)
-        self.assertEqual(sorted(os.listdir(self.folder)), ["a.map", "a.scheme", "b.scheme"])
+        self.assertEqual(sorted(os.listdir(self.folder)), ["a.map", "a.scheme", "b.scheme", "c.scheme"])
 
     def test_use(self):
         bend = "schemes/maps/bend.map"
-        for words in ((), (bend,), (bend, "split-edge"), (bend, "split-edge", "x"), (bend, "split-edge", "4294967296"), (bend, "split-edge", "2", "3"),
+        for words in ((), (bend,), (bend, "split-edge"), (bend, "split-edge", "x"), (bend, "split-edge", "4294967296"), (bend, "sew-edges", "2", "x"),
+                      (bend, "sew-edges", "2", "4294967296"), (bend, "sew-edges", "2", "3", "4"),
                       (bend, "split-edge", "2", "-o"), (bend, "split-edge", "2", "-o", self.path("out")), (bend, "split-edge", "2", "--text"), (bend, "split-edge", "2", "-x")):
             done = run("tools/apply", *words)
             self.assertEqual((done.returncode, done.stdout), (2, ""), words)

@@ -300,9 +300,20 @@ class Maps(Case):
             self.assertEqual([words.split(":")[:2] for words in seen.faults], [[when, " slot 2"], [when, " slot 15"]])
 
     def test_free_and_pointed(self):
-        svg = draw_map.drawn([map_at("schemes/maps/lone.map")], 0)
+        svg = draw_map.drawn([map_at("schemes/maps/lone.map")], [0])
         self.assertIn("free: the link leads to its own dart", svg)
+        self.assertIn(">the dart pointed at<", svg)
         self.assertEqual(svg.count('class="pointed"'), 2)  # the dart and the legend
+
+    def test_two_are_pointed_at(self):
+        """Both darts have the ring, before the edit alone, and the legend says which is the first."""
+        pair = [map_at("schemes/maps/two-pieces.map"), map_at("schemes/maps/bend.map")]
+        for darts in ([2, 15], [15, 2]):
+            root = ElementTree.fromstring(draw_map.drawn(pair, darts))
+            rings = [int(group.find(SVG + "text").text) for group in root.iter(SVG + "g") for circle in group.findall(SVG + "circle") if circle.get("class") == "pointed"]
+            self.assertEqual(rings, [2, 15])
+            self.assertEqual(sum(circle.get("class") == "pointed" for circle in root.iter(SVG + "circle")), 3)  # and the legend
+            self.assertIn(f"the darts pointed at: {darts[0]}, then {darts[1]}", [text.text for text in root.iter(SVG + "text")])
 
     def test_before_and_after(self):
         """Deleted and new darts are marked, and the darts of a face that keeps its form stay at their places."""
@@ -353,16 +364,33 @@ class Schemes(Case):
                 if s.orbit:
                     words = ["⟨" + ",".join("_" if d == 255 else str(d) for d in node[1 + k]) + "⟩" for k, side in enumerate(sides) for _, node in side]
                     self.assertEqual([text for kind, text in texts if kind == "word"], [*words, "⟨..⟩"])
+                rings = [element for element in root.iter() if element.get("class") == "ring"]
+                self.assertEqual(len(rings), 2 * len(s.hooks()))  # on the left and in the legend
+                hooks = ["hook: the dart pointed at"] if s.second is None else ["hook 0: the first dart pointed at", f"hook {s.second}: the second dart pointed at"]
+                self.assertEqual([text for _, text in texts if text.startswith("hook")], hooks)
                 for i in range(4):
                     arcs = sum(arc[0] == i for side in s.arcs.values() for arc in side)
                     lines = sum(path.get("class") == f"a{i}" for path in root.iter(SVG + "path"))
                     self.assertEqual(lines, arcs + (arcs > 0), f"dimension {i}")  # and one in the legend
 
+    def test_rings(self):
+        """The ring of a hook is around its node on the left and has its kind's shape; no other node has one."""
+        for second, kind in ((1, "ellipse"), (2, "rect")):
+            nodes = "node 0 preserved 0 -> 0\nnode 1 preserved 0 -> 0\nnode 2 deleted 0 ->\nnode 3 added -> 0\n"
+            path, out = self.file("a.scheme", f"n 2\norbit 0\n{nodes}hook {second}\n"), self.path("a.svg")
+            self.assertEqual(run("tools/scheme", "draw", path, "-o", out).returncode, 0)
+            root = ElementTree.fromstring(data_of(out))
+            drawn = list(root.iter())
+            rings = [(k, element) for k, element in enumerate(drawn) if element.get("class") == "ring"]
+            self.assertEqual([element.tag for _, element in rings], [SVG + shape for shape in ("ellipse", kind) * 2])
+            numbers = [next(element.text for element in drawn[k:] if element.get("class") == "node") for k, _ in rings[:2]]
+            self.assertEqual(numbers, ["0", str(second)])
+
     def test_any_scheme_is_drawn(self):
-        """Sixteen nodes, every arc, two arcs of a dimension, loops, empty sides."""
+        """Sixteen nodes, every arc, two arcs of a dimension, loops, empty sides, a second hook."""
         nodes = "".join(f"node {v} preserved 0 1 2 3 -> _ _ 2 3\n" for v in range(16))
         arcs = "left 0: 0-0 0-1 0-2 1-1 0-15\nright 1: 0-1 2-9 9-9\nright 2: 0-1\nright 3: 0-1 15-15\n"
-        for text in ("n 3\norbit 0 1 2 3\n" + nodes + arcs, "n 2\norbit\nnode 0 added ->\n",
+        for text in ("n 3\norbit 0 1 2 3\n" + nodes + arcs, "n 3\norbit 0 1 2 3\n" + nodes + "hook 15\n" + arcs, "n 2\norbit\nnode 0 added ->\n",
                      "n 2\norbit\nnode 0 deleted ->\nleft 0: 0-0\nleft 1: 0-0\nleft 2: 0-0\n"):
             path, out = self.file("a.scheme", text), self.path("a.svg")
             done = run("tools/scheme", "draw", path, "-o", out)
@@ -385,7 +413,7 @@ class Catalogue(Case):
     """What `tools/catalogue check` says of a copy, of the introduction and of some operations, their texts without bytes lines, in which
     one thing was changed."""
 
-    KEPT = ("add-flange", "drop-piece", "look-at-edge", "merge-faces", "split-edge")
+    KEPT = ("add-flange", "drop-piece", "look-at-edge", "merge-faces", "sew-edges", "split-edge")
     CHANGES = [
         ("a word", "schemes/split-edge.scheme", "-> 1 2", "-> 2 1", "split-edge.svg: it is not what is drawn now"),
         ("a kind", "schemes/drop-piece.scheme", "deleted 0 1 2 ->", "preserved 0 1 2 -> 0 1 2", "drop-piece.svg: it is not what is drawn now"),
@@ -396,6 +424,10 @@ class Catalogue(Case):
         ("a link of the sample", "schemes/look-at-edge.outcome", "   0  1  7  0 4711", "   0  1  7  1 4711", "look-at-edge-sample.svg: it is not what is drawn now"),
         ("a tag of the sample", "schemes/split-edge.outcome", "  16  2 17 19 4711", "  16  2 17 19 4712", "split-edge-sample.svg: it is not what is drawn now"),
         ("the dart", "schemes/split-edge.outcome", "dart 2", "dart 3", "split-edge-sample.svg: it is not what is drawn now"),
+        ("the second hook", "schemes/sew-edges.scheme", "hook 1\n", "", "sew-edges.svg: it is not what is drawn now"),
+        ("the second dart", "schemes/sew-edges.outcome", "dart 11 16", "dart 11 17", "sew-edges-sample.svg: it is not what is drawn now"),
+        ("the order of the darts", "schemes/sew-edges.outcome", "dart 11 16", "dart 16 11", "sew-edges-sample.svg: it is not what is drawn now"),
+        ("one dart more", "schemes/sew-edges.outcome", "dart 11 16", "dart 11 16 17", "schemes/sew-edges.outcome:1: expected lines 'map ..' and 'dart ..'"),
         ("the map", "schemes/maps/bend.map", "15 14  8  2  4712", "15 14  8  2  4711", "merge-faces-sample.svg: it is not what is drawn now"),
         ("a text in a picture", "schemes/pictures/split-edge.svg", ">⟨1,2⟩<", ">⟨1,_⟩<", "split-edge.svg: it is not what is drawn now"),
         ("a line in a picture", "schemes/pictures/split-edge-sample.svg", '<path class="a1"', '<path class="a0"', "split-edge-sample.svg: it is not what is drawn now"),
@@ -408,6 +440,7 @@ class Catalogue(Case):
         ("an operation without pictures", "schemes/pictures/fold-edge.svg", "", "x", "fold-edge.svg: there is no operation of this name"),
         ("the page", "schemes/README.md", "](pictures/drop-piece.svg)", "](pictures/split-edge.svg)", "schemes/README.md: it lacks these lines:\n### drop-piece\n"),
         ("words of the page", "schemes/README.md", "at dart 2: The bend line", "at dart 3: The bend line", "schemes/README.md: it lacks these lines:\nOn [bend](maps/bend.map) at dart 2"),
+        ("darts of the page", "schemes/README.md", "at darts 11 and 16: ", "at dart 11: ", "schemes/README.md: it lacks these lines:\nOn [pan](maps/pan.map) at darts 11 and 16"),
         ("an outcome", "schemes/drop-piece.outcome", "\nslot ", "\nslots ", "schemes/drop-piece.outcome:1: expected a line 'slot ..'"),
         ("a record", "schemes/drop-piece.outcome", "   8  9", "   x  9", "schemes/drop-piece.outcome:8: found 'x 9 15 8 4712', expected 5 numbers"),
         ("a link of a map", "docs/pictures/broken.map", "2   3  1 99", "2   3  1 15", "docs/pictures/broken.svg: it is not what is drawn now"),
@@ -517,14 +550,17 @@ class Use(Case):
                 for name, exact in (("sin", math.sin), ("cos", math.cos), ("atan2", math.atan2), ("hypot", math.hypot)):
                     stack.enter_context(unittest.mock.patch.object(math, name, lambda *x, exact=exact: exact(*x) * (1 + k * 4e-16)))
                 for operation in names():
-                    dart = int(re.search("^dart (.*)", data_of(f"schemes/{operation}.outcome").decode(), re.M).group(1))
-                    self.assertEqual(draw_map.drawn(sample(operation), dart).encode(), data_of(f"schemes/pictures/{operation}-sample.svg"), operation)
+                    darts = [int(dart) for dart in re.search("^dart (.*)", data_of(f"schemes/{operation}.outcome").decode(), re.M).group(1).split()]
+                    self.assertEqual(draw_map.drawn(sample(operation), darts).encode(), data_of(f"schemes/pictures/{operation}-sample.svg"), operation)
                 self.assertEqual(draw_map.drawn([map_at("docs/pictures/broken.map")]).encode(), data_of("docs/pictures/broken.svg"))
 
     def test_apply_draws(self):
         done = run("tools/apply", "schemes/maps/bend.map", "split-edge", "2", "--draw", self.path("a.svg"))
         self.assertEqual((done.returncode, done.stderr), (0, ""))
         self.assertEqual(data_of(self.path("a.svg")), data_of("schemes/pictures/split-edge-sample.svg"))
+        done = run("tools/apply", "schemes/maps/pan.map", "sew-edges", "11", "16", "--draw", self.path("a.svg"))
+        self.assertEqual((done.returncode, done.stderr), (0, ""))
+        self.assertEqual(data_of(self.path("a.svg")), data_of("schemes/pictures/sew-edges-sample.svg"))
         done = run("tools/apply", "schemes/maps/bend.map", "split-edge", "23", "--draw", self.path("b.svg"))
         self.assertEqual(done.returncode, 1)
         self.assertFalse(os.path.exists(self.path("b.svg")))

@@ -1,6 +1,6 @@
 #!/usr/bin/env python3
-"""Why the kernel refuses: the words of tools/scheme explain and tools/map check at their places, and, over thousands of schemes and
-maps, that the reasons they look for are the kernel's: each refusal has its reason, and nothing that is accepted has one."""
+"""Why the kernel refuses: the words of tools/scheme explain and tools/map check at their places, and, over thousands of schemes, maps
+and edits, that the reasons they look for are the kernel's: each refusal has its reason, and nothing that is accepted has one."""
 import collections
 import copy
 import glob
@@ -22,6 +22,14 @@ SCHEMES = [
      "4: node 0: refused 3: the left word of the hook is '0 _', and must be the orbit type, '0 2'", ""),
     ("a node not reached", "n 2\norbit\nnode 0 preserved ->\nnode 1 preserved ->\nleft 1: 1-1\n",
      "4: node 1: refused 3: no left arcs lead to it from node 0", "node 0 reaches 0; on the left node 1 has 1 to itself (line 5)"),
+    ("another left word of the second hook", "n 2\norbit 0\nnode 0 preserved 0 -> 0\nnode 1 preserved _ -> _\nhook 1\nleft 2: 0-1\nright 2: 0-1\n",
+     "4: node 1: refused 3: the left word of the second hook is '_', and must be the orbit type, '0'", "    node 1 is named as the second hook at line 5\n"),
+    ("both hooks have another left word", "n 2\norbit 0\nnode 0 preserved _ -> _\nnode 1 preserved _ -> _\nhook 1\n",
+     "3: node 0: refused 3: the left word of the hook is '_', and must be the orbit type, '0'", ""),
+    ("the second hook before a node not reached", "n 2\norbit 0\nnode 0 preserved 0 -> 0\nnode 1 preserved 0 -> 0\nnode 2 preserved _ -> _\nhook 2\n",
+     "5: node 2: refused 3: the left word of the second hook is '_', and must be the orbit type, '0'", "hook at line 6"),
+    ("a node reached from neither hook", "n 2\norbit\nnode 0 preserved ->\nnode 1 preserved ->\nnode 2 preserved ->\nnode 3 preserved ->\nhook 2\nleft 1: 0-3\n",
+     "4: node 1: refused 3: no left arcs lead to it from a hook", "nodes 0 and 2, the hooks, reach 0, 2 and 3; on the left node 1 has nothing"),
     ("P5", "n 2\norbit 0 2\nnode 0 preserved 0 2 -> _ 2\nnode 1 added -> 1 2\n",
      "3: node 0: refused 4: it is preserved, has 0 on the left side and lacks it on the right",
      "on the left node 0 has 0 in its word under orbit 0 and 2 in its word under orbit 2\n    on the right node 0 has 2 in its word under orbit 2\n"),
@@ -62,7 +70,8 @@ MAPS = [
 
 # Every way in which a scheme is refused with 3, 4 or 5.
 REASONS = [
-    "the hook is added", "the left word of the hook is", "no left arcs lead to it", "it has [23] arcs of dimension", "on the left side and lacks",
+    "the hook is added", "the left word of the hook is", "the left word of the second hook is", "no left arcs lead to it from node 0\n",
+    "no left arcs lead to it from a hook\n", "it has [23] arcs of dimension", "on the left side and lacks",
     "on the right side and lacks", "it is deleted, must have", "it is added, must have", "close no cycle on the right side\n", "as they do on the left",
     "close no cycle on the left side", "it lacks an arc of dimension", "does not lead back", "must stand under orbit", "which are not two apart",
     "which lacks an arc of dimension [0-3] to a node",
@@ -76,13 +85,13 @@ def catalogue():
 
 
 def mutated(source, s):
-    """A scheme near an accepted one: a few small changes of words, arcs and kinds."""
+    """A scheme near an accepted one: a few small changes of words, arcs, kinds and the second hook."""
     s = copy.deepcopy(s)
     s.nodes = [(kind, list(left), list(right)) for kind, left, right in s.nodes]
     for _ in range(source.choice((1, 1, 1, 2, 3))):
         v, side = source.randrange(len(s.nodes)), source.choice(("left", "right", "right"))
         kind, left, right = s.nodes[v]
-        word, arcs, change = left if side == "left" else right, s.arcs[side], source.randrange(9)
+        word, arcs, change = left if side == "left" else right, s.arcs[side], source.randrange(10)
         ends = [u for u, node in enumerate(s.nodes) if node[0] in schemes.allowed(side)]
         if change == 0 and word and kind in schemes.allowed(side):
             word[source.randrange(len(word))] = source.choice([*range(s.n + 1), schemes.REMOVES])
@@ -115,8 +124,29 @@ def mutated(source, s):
             for of in s.arcs:
                 if kind not in schemes.allowed(of):
                     s.arcs[of] = [arc for arc in s.arcs[of] if v not in arc[1:]]
+        elif change == 9:  # another second hook, which may be none, or no node that can be one
+            s.second = source.choice((None, 0, v, v, len(s.nodes)))
     for side in s.arcs:
         s.arcs[side] = sorted(set(s.arcs[side]))[:schemes.ARCS]
+    return bytes(s.bytes())
+
+
+def hooked(source):
+    """Left nodes of which some hang on one hook, some on the other, and some on none, with words that may be the orbit type."""
+    s, count = schemes.Scheme(), source.randint(2, 6)
+    s.n = source.choice((2, 3))
+    s.orbit = [d for d in range(s.n + 1) if source.random() < 0.4]
+    s.second = source.randrange(1, count)
+    for v in range(count):
+        word = s.orbit if v in s.hooks() and source.random() < 0.9 else [schemes.REMOVES] * len(s.orbit)
+        s.nodes.append((2, word, word))
+    for v in range(count):
+        if source.random() < 0.7:
+            arc = (source.randint(0, s.n), *sorted((v, source.randrange(count))))
+            s.arcs["left"].append(arc)
+            s.arcs["right"].append(arc)
+    for side in s.arcs:
+        s.arcs[side] = sorted(set(s.arcs[side]))
     return bytes(s.bytes())
 
 
@@ -175,6 +205,16 @@ class Schemes(Case):
         path = self.file("a.bytes", bytes([2, 4]))
         done = run("tools/scheme", "explain", path)
         self.assertEqual((done.returncode, done.stderr), (1, f"{path}:byte 2: refused 2: found 4, expected the number of dimensions in the orbit type, 0 to 3\n"))
+        for second, said in ((0, "found 0"), (3, "found 3"), (2, "found 2")):  # the first hook, no node, an added one
+            path = self.file("a.bytes", bytes([34, 0, 3, 2, 2, 3, second, 0, 0]))
+            done = run("tools/scheme", "explain", path)
+            self.assertEqual((done.returncode, done.stderr), (
+                1, f"{path}:byte 7: refused 2: {said}, expected the second hook: a node other than 0 that is there on the left, 1\n"))
+        path = self.file("a.bytes", bytes([35, 1, 0, 2, 2, 0, 0, 2, 255, 255, 1, 0, 0]))
+        done = run("tools/scheme", "explain", path)
+        self.assertEqual((done.returncode, done.stderr), (
+            1, f"{path}:byte 8: node 1: refused 3: the left word of the second hook is '_', and must be the orbit type, '0'\n"
+            "    node 1 is named as the second hook at byte 11\n"))
 
     def test_accepted(self):
         with open("schemes/split-edge.scheme") as file:
@@ -200,27 +240,42 @@ class Schemes(Case):
             1, "schemes/split-edge.scheme: node 1: refused 5: the scheme would tear the map at a node (dimensions 0 and 2); this tool finds no reason for it\n"))
 
     def test_reasons_are_the_kernels(self):
-        kernel, source, seen, said = Kernel.loaded(), random.Random(4711), collections.Counter(), ""
+        kernel, source, seen, two, said = Kernel.loaded(), random.Random(4711), collections.Counter(), collections.Counter(), ""
         stored = catalogue()
         for case in range(8000):
-            data = loops(source) if case % 4 == 3 else mutated(source, source.choice(stored))
+            data = loops(source) if case % 4 == 3 else hooked(source) if case % 8 == 6 else mutated(source, source.choice(stored))
             if case % 9 == 8:
                 data = damaged(source, data)
             answer = kernel.check_scheme(data)
             self.assertEqual(reasons_of_scheme(data), (answer.number, answer.node, answer.i, answer.j), list(data))
             seen[answer.number] += 1
+            two[answer.number] += data[:1] in (b"\42", b"\43")
             if answer.number in (3, 4, 5):
                 said += "\n".join(explain.scheme_refusal(kernel, "f", data)) + "\n"
         self.assertNotIn(explain.NO_REASON, said)
         for number in (0, 2, 3, 4, 5):
             self.assertGreater(seen[number], 200, seen)
+            self.assertGreater(two[number], 20, two)
         for words in REASONS:
             self.assertGreater(len(re.findall(words, said)), 10, words)
-        print(f"schemes by answer: {dict(sorted(seen.items()))}", file=sys.stderr)
+        print(f"schemes by answer: {dict(sorted(seen.items()))}, with two hooks: {dict(sorted(two.items()))}", file=sys.stderr)
 
     def test_limits(self):
         kernel = Kernel.loaded()
         self.assertEqual((schemes.LONGEST, maps.LONGEST), (kernel.max_scheme, kernel.max_file))
+
+    def test_longest(self):
+        """A scheme with all that a scheme can have is in the form, with one hook and with two, and has the greatest length."""
+        s = schemes.Scheme()
+        s.n, s.orbit = 3, [0, 1, 2, 3]
+        s.nodes = [(2, s.orbit, s.orbit)] * schemes.NODES
+        arcs = [(d, a, b) for d in range(4) for a in range(schemes.NODES) for b in range(a, schemes.NODES)][:schemes.ARCS]
+        s.arcs = {"left": arcs, "right": arcs}
+        for s.second, length in ((None, schemes.LONGEST_OF_ONE), (15, schemes.LONGEST)):
+            data = bytes(s.bytes())
+            self.assertEqual((len(data), schemes.Bytes(data).scheme().second), (length, s.second))
+            self.assertEqual(Kernel.loaded().check_scheme(data).number, 4)
+            self.assertEqual(Kernel.loaded().check_scheme(data + b"\0").number, 2)
 
 
 def changed(source, m):
@@ -249,6 +304,58 @@ def sample_maps():
     found = [maps.map_in(data_of(path)) for path in sorted(glob.glob("schemes/maps/*.map"))]
     assert len(found) >= 5
     return found
+
+
+class Edits(Case):
+    def first_reason(self, m, data, darts):
+        """The number of the first refusal that the tools find a reason for before the match, or 0."""
+        found = reasons_of_scheme(data)[0]
+        if found == 2:
+            return 2
+        s = schemes.Bytes(data).scheme()
+        for number in (2, 3, 4, 5, 6, 8):
+            if number == found or (number not in (3, 4, 5) and explain.edit_reason(number, m, s, darts)):
+                return number
+        return 0
+
+    def test_reasons_are_the_kernels(self):
+        """Stored operations, some of them changed, at one dart and at two, some of them not live: each refusal but a 9 has its reason, and
+        what is done has none."""
+        kernel, source, seen, two = Kernel.loaded(), random.Random(4715), collections.Counter(), collections.Counter()
+        stored, on = catalogue(), sample_maps()
+        for case in range(4000):
+            s = source.choice(stored)
+            m = source.choice([m for m in on if m.n == s.n] if source.random() < 0.9 else on)
+            data = mutated(source, s) if case % 5 == 4 else bytes(s.bytes())
+            darts = [source.choice(sorted(m.live)) if source.random() < 0.9 else source.randrange(m.slots + 2)
+                     for _ in range(len(s.hooks()) if source.random() < 0.9 else source.choice((1, 2)))]
+            if source.random() < 0.1:
+                darts = darts[:1] * len(darts)
+            _, table = kernel.load(m.n, m.slots, m.file())
+            answer = kernel.edit(m.n, m.slots, table, data, *darts)
+            first = self.first_reason(m, data, darts)
+            self.assertEqual(answer.number if answer.number < 9 else 0, first, (list(data), darts))
+            seen[answer.number] += 1
+            two[answer.number] += len(darts) == 2
+            if answer.number != 0:
+                said = explain.edit_refusal(kernel, "m", "s", ("f", data), m, darts, answer)
+                self.assertNotIn(explain.NO_REASON, "\n".join(said))
+                self.assertIn(f"refused {answer.number}: ", said[0])
+            elif first == 0:
+                s = schemes.Bytes(data).scheme()
+                self.assertEqual([explain.edit_reason(number, m, s, darts) for number in (9, 10)], ["", ""])
+        for number in (0, 2, 3, 4, 5, 6, 8, 9, 10):
+            self.assertGreater(seen[number], 20, seen)
+            self.assertGreater(two[number], 2, two)
+        print(f"edits by answer: {dict(sorted(seen.items()))}, at two darts: {dict(sorted(two.items()))}", file=sys.stderr)
+
+    def test_no_reason_is_said(self):
+        """An edit that is refused with what is not so: the tools say that they find no reason, and make none up."""
+        m, kernel = maps.map_in(data_of("schemes/maps/pan.map")), Kernel.loaded()
+        for number in (2, 3, 6, 7, 8, 10):
+            answer = kernel.answer(1 << 63 | number)
+            lines = explain.edit_refusal(kernel, "m", "sew-edges", ("f", data_of("schemes/sew-edges.scheme")), m, [11, 16], answer)
+            self.assertEqual(lines, [f"m: sew-edges at darts 11 and 16: refused {number}: {kernel.words(number)}; {explain.NO_REASON}"])
 
 
 class Maps(Case):
@@ -301,11 +408,13 @@ class Maps(Case):
 
     def test_bench_names_what_does_not_fit(self):
         small, large, out = self.file("small", b"\2"), self.file("large", b"\2" * 14346), self.path("out")
+        hooked = self.file("hooked", b"\2" * schemes.LONGEST)  # as long as a scheme with two hooks can be, which the bench program does not take
         for words, said in (((small, small, "1", "70000"), "the darts: found dart 70000, expected at most 65535, as a dart has two bytes"),
                             ((large, small), f"{large}: found 14346 bytes, expected at most 14345"),
                             (("schemes/maps/bend.map", small), "schemes/maps/bend.map: found a text, expected a map file, which tools/map assemble makes of it"),
                             ((small, "schemes/split-edge.scheme"), "schemes/split-edge.scheme: found a text, expected a scheme's bytes, which tools/scheme assemble makes of it"),
                             ((small, large), f"{large}: found 14346 bytes, expected at most 537"),
+                            ((small, hooked), f"{hooked}: found 538 bytes, expected at most 537"),
                             ((small, small, *["0"] * 1025), "the darts: found 1025 darts, expected at most 1024")):
             done = run("tools/map", "bench", *words, "-o", out)
             self.assertEqual((done.returncode, done.stderr), (1, said + "\n"))

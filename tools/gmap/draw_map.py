@@ -19,7 +19,7 @@ class Panel:
     def __init__(self, when, layout, corner, shift):
         """`when` is 'before' or 'after', or None for a map alone."""
         self.when, self.layout, self.m, self.corner, self.shift = when, layout, layout.m, corner, shift
-        self.marked, self.mark, self.pointed = set(), None, None  # darts that only this map has, how they are marked, the dart pointed at
+        self.marked, self.mark, self.pointed = set(), None, ()  # darts that only this map has, how they are marked, the darts pointed at
         self.darts = layout.darts
         self.faulty = explain.faults_at(self.m)
         self.used = set()  # what the legend has to explain
@@ -110,7 +110,7 @@ def draw_darts(picture, panel, fills):
         picture.open()
         broken = "".join(f"\nbroken: {words}" for words in panel.faulty.get(x, ()))
         picture.put("title", f"dart {x}: " + ", ".join(f"α{i} {y}" for i, y in enumerate(links)) + f", tag {tag}{broken}")
-        if x == panel.pointed:
+        if x in panel.pointed:
             picture.put("circle", class_="pointed", cx=cx, cy=cy, r=DISC + 3)
         if x in panel.faulty:
             panel.used.add(("broken", None))
@@ -182,8 +182,9 @@ def legend_rows(panels, fills):
     """What is to be explained, as (draw, words)."""
     yield from link_rows(set().union(*(panel.used for panel in panels)))
     for panel in panels:
-        if panel.pointed is not None:
-            yield ring("pointed"), "the dart pointed at"
+        if panel.pointed:
+            first, *others = panel.pointed
+            yield ring("pointed"), "the dart pointed at" if not others else f"the darts pointed at: {first}, then {', '.join(map(str, others))}"
         if panel.marked:
             yield ring(f"{panel.mark} paper"), MARKS[panel.mark]
     yield from tag_rows(panels, fills)
@@ -219,8 +220,8 @@ def panels_of(maps, pointed):
     return panels, pitch, HEAD + MARGIN + below - top
 
 
-def drawn(maps, pointed=None):
-    """The SVG of a map, or of a map before and after an edit at the dart `pointed`."""
+def drawn(maps, pointed=()):
+    """The SVG of a map, or of a map before and after an edit at the darts `pointed`, of which there are one or two."""
     panels, pitch, end = panels_of(maps, pointed)
     fills = look.tag_fills(record[1] for m in maps for record in m.live.values())
     picture = Picture(look.rules() + look.map_rules(fills))

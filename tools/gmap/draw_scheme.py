@@ -9,11 +9,6 @@ EDGE, HEAD = 26.0, 58.0
 TITLE = {"left": "left: what is there", "right": "right: what it becomes"}
 
 
-def hooks(s):
-    """The nodes that are given a dart to begin with."""
-    return {0}
-
-
 def letters(dimensions):
     return "⟨" + ",".join("_" if d == REMOVES else str(d) for d in dimensions) + "⟩"
 
@@ -35,7 +30,7 @@ def outline(picture, class_, kind, p, more=0.0):
 
 def draw_node(picture, s, v, side, p):
     kind = NAMES[s.nodes[v][0]]
-    if v in hooks(s) and side == "left":
+    if v in s.hooks() and side == "left":
         outline(picture, "ring", kind, p, 4.0)
     outline(picture, kind, kind, p)
     picture.text("node", (p[0], p[1] + (-3 if s.orbit else 5)), v)
@@ -76,8 +71,10 @@ def small(picture, class_, kind, p, more=0.0):
 
 def legend_rows(s):
     """What is in the picture, as (draw, words)."""
-    hook = NAMES[s.nodes[0][0]]
-    yield (lambda picture, p: (small(picture, "ring", hook, p, 3.0), small(picture, hook, hook, p))), "hook: the dart pointed at"
+    for v, name in zip(s.hooks(), ("first", "second")):
+        kind = NAMES[s.nodes[v][0]]
+        words = "hook: the dart pointed at" if s.second is None else f"hook {v}: the {name} dart pointed at"
+        yield (lambda picture, p, kind=kind: (small(picture, "ring", kind, p, 3.0), small(picture, kind, kind, p))), words
     for kind in KINDS:
         if any(NAMES[node[0]] == kind for node in s.nodes):
             yield (lambda picture, p, kind=kind: small(picture, kind, kind, p)), SAID[kind]

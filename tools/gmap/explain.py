@@ -18,6 +18,11 @@ def listed(things):
 
 # ---- schemes
 
+def placed(place):
+    """A place in a scheme's file in words: 'line 5' or 'byte 7'."""
+    return place if place.startswith("byte") else f"line {place}"
+
+
 class Refusal:
     """A refusal of a scheme at a node: its number, the pair of dimensions of a 5, a headline, and what more is known."""
 
@@ -60,7 +65,7 @@ class Side:
     def said(self, v, i, arc):
         if arc.position is not None:
             return f"{i} in its word under orbit {self.s.orbit[arc.position]}"
-        line = "" if arc.place is None else f" ({arc.place})" if arc.place.startswith("byte") else f" (line {arc.place})"
+        line = "" if arc.place is None else f" ({placed(arc.place)})"
         return f"{i} to {'itself' if arc.to == v else f'node {arc.to}'}{line}"
 
     def has(self, v, dimensions=None):
@@ -102,20 +107,23 @@ def word_text(word):
 
 
 def hook_refusals(s, left):
-    kind, word, _ = s.nodes[0]
-    if kind == ADDED:
-        yield Refusal(3, 0, "the hook is added, and must be preserved or deleted")
-    elif word != s.orbit:
-        yield Refusal(3, 0, f"the left word of the hook is {word_text(word)}, and must be the orbit type, {word_text(s.orbit)}")
-    reached, ways = {0}, [0]
+    for v, name in zip(s.hooks(), ("the hook", "the second hook")):
+        kind, word, _ = s.nodes[v]
+        if kind == ADDED:
+            yield Refusal(3, v, f"{name} is added, and must be preserved or deleted")
+        elif word != s.orbit:
+            named = [f"node {v} is named as the second hook at {placed(s.second_place)}"] if v and s.second_place else []
+            yield Refusal(3, v, f"the left word of {name} is {word_text(word)}, and must be the orbit type, {word_text(s.orbit)}", named)
+    reached, ways = set(s.hooks()), s.hooks()
     while ways:
         arcs = left.arcs[ways.pop()]
         more = {arc.to for these in arcs.values() for arc in these if arc.to is not None} - reached
         reached |= more
         ways += more
+    from_, reach = ("node 0", "node 0 reaches") if s.second is None else ("a hook", f"nodes 0 and {s.second}, the hooks, reach")
     for v, node in enumerate(s.nodes):
         if node[0] != ADDED and v not in reached:
-            yield Refusal(3, v, "no left arcs lead to it from node 0", [f"node 0 reaches {listed(sorted(reached))}; {left.has(v)}"])
+            yield Refusal(3, v, f"no left arcs lead to it from {from_}", [f"{reach} {listed(sorted(reached))}; {left.has(v)}"])
 
 
 def incidence_refusals(s, left, right):
@@ -187,6 +195,55 @@ def scheme_refusal(kernel, path, data):
     at = f"node {answer.node}: " if answer.number in (3, 4, 5) else ""
     pair = f" (dimensions {answer.i} and {answer.j})" if answer.number == 5 else ""
     return [f"{path}: {at}refused {answer.number}: {answer.words}{pair}; {NO_REASON}"]
+
+
+# ---- edits
+
+def darts_named(darts):
+    """'dart 2', or 'darts 2 and 15'."""
+    return f"dart{'s' if len(darts) > 1 else ''} {listed(darts)}"
+
+
+def orbits_reason(m, dimensions, dart, other):
+    """Why no scheme of this orbit type fits at two darts, where their orbits say it, else nothing."""
+    if dart == other:
+        return f"dart {dart} was given for both hooks, and each node has a dart of its own"
+    orbits = [m.orbit(x, dimensions) for x in (dart, other)]
+    if other in orbits[0]:
+        return f"both darts are of one orbit, {listed(sorted(orbits[0]))}, and each node has darts of its own"
+    if len(orbits[0]) != len(orbits[1]):
+        return f"the orbit of dart {dart} has {len(orbits[0])} darts, that of dart {other} has {len(orbits[1])}, and they must be of one shape"
+    return ""
+
+
+def edit_reason(number, m, s, darts):
+    """What the refusal of an edit at these darts of a well-formed map comes from, where map, scheme and darts say it, else nothing.
+    The scheme is in the form."""
+    if number == 2 and len(s.hooks()) != len(darts):
+        hooks = "one hook, node 0" if s.second is None else f"two hooks, nodes 0 and {s.second}"
+        return f"it has {hooks}, and {'one dart was' if len(darts) == 1 else 'two darts were'} given"
+    if number == 6 and s.n != m.n:
+        return f"the scheme is for n = {s.n}, the map has n = {m.n}"
+    if number == 8:
+        lacking = [f"slot {dart} is unused" if dart < m.slots else f"there are {m.slots} slots" for dart in darts if dart not in m.live]
+        return "; ".join(dict.fromkeys(lacking))
+    if number == 9 and len(darts) == 2:
+        return orbits_reason(m, s.orbit, *darts)
+    if number == 10:
+        orbit, added, unused = len(m.orbit(darts[0], s.orbit)), sum(node[0] == ADDED for node in s.nodes), m.slots - len(m.live)
+        return f"{orbit * added} new darts, {added} for each of the orbit's {orbit}, and {unused} unused slots" if orbit * added > unused else ""
+    return ""
+
+
+def edit_refusal(kernel, path, name, stored, m, darts, answer):
+    """Lines that say why the kernel refused an edit. `stored` is the scheme's path and data, `name` what it was called; what is wrong with
+    the scheme itself stands at its place in its file, and the rest at the map's path."""
+    if answer.number in (2, 3, 4, 5) and kernel.check_scheme(bytes_in(stored[1])).number == answer.number:
+        return scheme_refusal(kernel, *stored)
+    reason = edit_reason(answer.number, m, scheme_in(stored[1]), darts)
+    words = "the scheme is for another number of darts" if answer.number == 2 and reason else answer.words
+    why = f": {reason}" if reason else "" if answer.number == 9 else f"; {NO_REASON}"
+    return [f"{path}: {name} at {darts_named(darts)}: refused {answer.number}: {words}{why}"]
 
 
 # ---- maps

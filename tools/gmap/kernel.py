@@ -95,7 +95,7 @@ class Kernel:
 
     def __init__(self, calls):
         self.calls = calls
-        for name in ("check_table", "check_scheme", "load", "edit", "write"):
+        for name in ("check_table", "check_scheme", "load", "edit", "edit2", "write"):
             getattr(calls, "gmap_" + name).restype = ctypes.c_uint64
         for name in ("number", "node", "i", "j", "orbit", "added", "deleted"):
             getattr(calls, "tool_" + name).argtypes = [ctypes.c_uint64]
@@ -121,10 +121,12 @@ class Kernel:
     def check_table(self, n, slots, table):
         return self.answer(self.calls.gmap_check_table(n, slots, table, ctypes.c_size_t(self.record * slots)))
 
-    def edit(self, n, slots, table, scheme, dart):
+    def edit(self, n, slots, table, scheme, *darts):
+        """The edit at one dart, or at two."""
+        call = self.calls.gmap_edit if len(darts) == 1 else self.calls.gmap_edit2
         store, length = lent(ctypes.c_uint32, [0] * (self.store * slots))
-        return self.answer(self.calls.gmap_edit(n, slots, table, ctypes.c_size_t(self.record * slots), store, length,
-                                                *lent(ctypes.c_uint8, scheme), ctypes.c_uint32(dart)))
+        return self.answer(call(n, slots, table, ctypes.c_size_t(self.record * slots), store, length,
+                                *lent(ctypes.c_uint8, scheme), *map(ctypes.c_uint32, darts)))
 
     def write(self, n, slots, table):
         """The map file; the table must be one to which `check_table` answers 0."""

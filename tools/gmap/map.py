@@ -3,11 +3,12 @@ import re
 import struct
 
 from gmap.files import Fault, is_text, lines_of, text_in
-from gmap.scheme import LONGEST as LONGEST_SCHEME
+from gmap.scheme import LONGEST_OF_ONE
 
 SLOTS = 1024  # slots of a table at most
 LONGEST = 9 + SLOTS * (6 + 2 * 4)  # bytes of a map file at most
 DARTS = 1024  # darts of the bench program's input at most
+BENCH_SCHEME = LONGEST_OF_ONE  # bytes of its scheme at most: it edits at one dart, so schemes with one hook are for it
 
 
 class Map:
@@ -139,7 +140,7 @@ def bench_input(map_file, scheme, darts):
                                     ("scheme", scheme, "a scheme's bytes, which tools/scheme assemble makes of it")):
         if data and is_text(data):
             raise Misfit(section, f"found a text, expected {expected}")
-    for section, found, unit, most in (("map", len(map_file), "bytes", LONGEST), ("scheme", len(scheme), "bytes", LONGEST_SCHEME),
+    for section, found, unit, most in (("map", len(map_file), "bytes", LONGEST), ("scheme", len(scheme), "bytes", BENCH_SCHEME),
                                        ("darts", len(darts), "darts", DARTS)):
         if found > most:
             raise Misfit(section, f"found {found} {unit}, expected at most {most}")

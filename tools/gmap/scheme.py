@@ -7,8 +7,10 @@ KINDS = {"deleted": 1, "preserved": 2, "added": 3}
 NAMES = {number: name for name, number in KINDS.items()}
 REMOVES = 255
 NODES, ARCS = 16, 64
-LONGEST = 2 + 4 + 1 + NODES * (1 + 2 * 4) + 2 * (1 + 3 * ARCS)  # bytes of a scheme at most
-ORDER = ["n", "orbit", "node", "left", "right", "bytes"]
+LONGEST_OF_ONE = 2 + 4 + 1 + NODES * (1 + 2 * 4) + 2 * (1 + 3 * ARCS)  # bytes of a scheme with one hook at most
+LONGEST = LONGEST_OF_ONE + 1  # with two hooks
+TWO_HOOKS = 32  # what the first byte is greater by where there is a second hook
+ORDER = ["n", "orbit", "node", "hook", "left", "right", "bytes"]
 
 
 class Scheme:
@@ -18,17 +20,24 @@ class Scheme:
         self.n = None
         self.orbit = None
         self.nodes = []  # (kind, left word, right word)
+        self.second = None  # the second hook, a node, where there is one
         self.arcs = {"left": [], "right": []}  # (dimension, smaller node, other node)
         self.node_places = []  # where each node stands in its file, as a fault names it
+        self.second_place = None  # where the second hook is named
         self.arc_places = {"left": {}, "right": {}}  # where each arc stands
+
+    def hooks(self):
+        """The nodes that are given a dart to begin with, in the order of the darts."""
+        return [0] if self.second is None else [0, self.second]
 
     def sections(self):
         """The bytes, one list for each line that `show` gives them."""
         nodes = [len(self.nodes)]
         for kind, left, right in self.nodes:
             nodes += [kind, *left, *right]
+        second = [] if self.second is None else [[self.second]]
         sides = [[len(arcs), *(byte for arc in sorted(arcs) for byte in arc)] for arcs in self.arcs.values()]
-        return [[self.n, len(self.orbit), *self.orbit], nodes, *sides]
+        return [[self.n + (TWO_HOOKS if second else 0), len(self.orbit), *self.orbit], nodes, *second, *sides]
 
     def bytes(self):
         return [byte for section in self.sections() for byte in section]
@@ -113,7 +122,7 @@ class Reader:
         self.need(where, place, f"found '{word}'")
         if where < self.at:
             raise Fault(place, f"found '{word}' after '{ORDER[self.at]}', expected the order {', '.join(ORDER)}")
-        if where == self.at and word in ("n", "orbit") and (self.scheme.n if word == "n" else self.scheme.orbit) is not None:
+        if {"n": self.scheme.n, "orbit": self.scheme.orbit, "hook": self.scheme.second}.get(word) is not None:
             raise Fault(place, f"found a second '{word}' line, expected one")
         self.at = where
         line.take(word)
@@ -174,13 +183,20 @@ class Reader:
         self.scheme.nodes.append((KINDS[kind], left, right))
         self.scheme.node_places.append(str(line.number))
 
-    def end_of_arc(self, line, side):
+    def node_on(self, line, side, least=0):
+        """A node that is there on a side, and its place."""
         place, last = line.place(), len(self.scheme.nodes) - 1
-        node = line.number_in(range(last + 1), "a node number" + (f" from 0 to {last}" if last else " 0"))
+        node = line.number_in(range(least, last + 1), "a node number" + (f" from {least} to {last}" if last > least else f" {least}"))
         kind = self.scheme.nodes[node][0]
         if kind not in allowed(side):
             raise Fault(place, f"found node {node}, which is {NAMES[kind]}, expected a node that is there on the {side}")
         return place, node
+
+    def hook(self, line):
+        if line.peek() == "0" or len(self.scheme.nodes) == 1:
+            raise line.wrong("the second hook: another node than 0, which is the first")
+        _, self.scheme.second = self.node_on(line, "left", 1)
+        self.scheme.second_place = str(line.number)
 
     def side(self, line, side):
         arcs = self.scheme.arcs[side]
@@ -189,9 +205,9 @@ class Reader:
         if not line.tokens:
             raise line.wrong("an arc, for example 0-1")
         while line.tokens:
-            start, a = self.end_of_arc(line, side)
+            start, a = self.node_on(line, side)
             line.take("-", "'-' and the node at the arc's other end")
-            _, b = self.end_of_arc(line, side)
+            _, b = self.node_on(line, side)
             if b < a:
                 raise Fault(start, f"found {a}-{b}, expected the smaller node first: {b}-{a}")
             if (dimension, a, b) in arcs:
@@ -242,7 +258,8 @@ class Bytes:
 
     def scheme(self):
         s = Scheme()
-        s.n = self.take((2, 3), "the dimension of the map, 2 or 3")
+        first = self.take((2, 3, 2 + TWO_HOOKS, 3 + TWO_HOOKS), f"the dimension of the map, 2 or 3, and {TWO_HOOKS} more where there is a second hook")
+        s.n = first % TWO_HOOKS
         k = self.take(range(s.n + 2), f"the number of dimensions in the orbit type, 0 to {s.n + 1}")
         s.orbit = []
         for _ in range(k):
@@ -252,6 +269,10 @@ class Bytes:
             s.node_places.append(self.place())
             kind = self.take(NAMES, f"the kind of node {number}: 1 deleted, 2 preserved, 3 added")
             s.nodes.append((kind, *(self.word(s, k, number, kind, side) for side in ("left", "right"))))
+        if first > TWO_HOOKS:
+            s.second_place = self.place()
+            free = [v for v in self.ends(s, "left") if v != 0]
+            s.second = self.take(free, "the second hook: a node other than 0 that is there on the left, " + (plain(free) if free else "and there is none"))
         for side, arcs in s.arcs.items():
             for _ in range(self.take(range(ARCS + 1), f"the number of {side} arcs, 0 to {ARCS}")):
                 arcs.append(self.arc(s, side, arcs))
@@ -270,9 +291,12 @@ class Bytes:
             word.append(self.take(free, expected))
         return word
 
+    def ends(self, s, side):
+        """The nodes that are there on a side."""
+        return [v for v, node in enumerate(s.nodes) if node[0] in allowed(side)]
+
     def arc(self, s, side, arcs):
-        ends = [v for v, node in enumerate(s.nodes) if node[0] in allowed(side)]
-        start = self.place()
+        ends, start = self.ends(s, side), self.place()
         dimension = self.take(range(s.n + 1), f"the dimension of a {side} arc, " + plain(range(s.n + 1)))
         a = self.take(ends, f"a node that is there on the {side}")
         b = self.take([v for v in ends if v >= a], f"a node that is there on the {side}, {a} or more")
@@ -296,6 +320,8 @@ def shown(s):
         room = max(2 * len(s.orbit) - 1, 0)
         words = f"{left:{room}} -> {right}" if room else "->"
         lines.append(f"node {v:<{wide}} {NAMES[kind]:{named}} {words}".rstrip())
+    if s.second is not None:
+        lines.append(f"hook {s.second}")
     for side, arcs in s.arcs.items():
         for dimension in range(s.n + 1):
             these = [f"{a}-{b}" for d, a, b in sorted(arcs) if d == dimension]
