@@ -34,6 +34,7 @@ use Rattle.rewriting.specs.Slots as G
 use Rattle.rewriting.specs.Links as L
 use Rattle.edit.specs.Apply.{Walking, Settling, Applied}
 use Rattle.matching.proofs.RootedLaws.{rooted}
+use Rattle.orbit.proofs.PlaceLaws.{places-few}
 use Rattle.orbit.proofs.WalkLaws.{walked-kept}
 
 -- ---- the ends
@@ -49,9 +50,6 @@ abbrev pub at-site : {slots : ℕ} {t : List ℕ} {S : Scheme} {d d₂ : ℕ} �
 at-site {S = S} {d = d} {d₂ = d₂} sized sound = record { scheme = S; dart = d; other = d₂; sized = sized; sound = sound }
 
 module _ {slots : ℕ} {t : List ℕ} (A : At slots t) where
-  pub places-few : A .scheme .places ≤ 4
-  places-few = omega (arith, A .sound .accepted .shaped .placesFew, small (A .scheme) (A .sound .accepted .shaped))
-
   -- the walk can begin
   pub walk-ready : W.BeforeWalking slots t (A .scheme .orbit) (A .scheme .places)
   walk-ready = record {
@@ -59,7 +57,7 @@ module _ {slots : ℕ} {t : List ℕ} (A : At slots t) where
     n = A .scheme .n;
     small = small (A .scheme) (A .sound .accepted .shaped);
     well = A .sound .well;
-    few = places-few;
+    few = places-few A;
     dim = A .sound .accepted .shaped .orbitDims;
   }
 
@@ -97,7 +95,7 @@ module _ {slots : ℕ} {t : List ℕ} (A : At slots t) where
       at = A;
       fitting = record {
         long = m .long ∙ w .taken .long;
-        walked = walked-kept _ _ _ _ store store′ size places-few (w .walked) (m .kept e);
+        walked = walked-kept _ _ _ _ store store′ size (places-few A) (w .walked) (m .kept e);
         match = sym (m .is) ∙ e;
         assigned = m .assigned e;
         wide = m .wide e;

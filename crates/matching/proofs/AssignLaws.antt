@@ -421,7 +421,7 @@ module _ {N : ℕ} {t s : List ℕ} {size : ℕ} {orbit : List ℕ} {k other : �
   abbrev pub ready : BeforeMatching N t s′ size nodes parents dims roots count
   ready = record {
     at = P .ready .at;
-    walked = hung-walked (P .ready) s′ (H .done e (P .ready) .0) (H .done e (P .ready) .1);
+    walked = hung-walked (P .ready) (H .done e (P .ready) .0) (H .done e (P .ready) .1);
     hung = H .done e (P .ready) .0;
     rooted = P .rooted;
   }

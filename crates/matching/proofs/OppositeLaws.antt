@@ -3,17 +3,14 @@
 use Prim.Native.Nat.{ℕ, zero, suc, _+_, _*_, _-_, _≤_, _<_}
 use mathlib.Core.Path.{_≡_, refl, sym, ap, ap₂, _∙_, subst}
 use mathlib.Core.Logic.{_⊎_, inl, inr, ⊎-elim, by-cases}
-use mathlib.Core.Bool.{Bool, true, false, cond, true≢false}
+use mathlib.Core.Bool.{true, false, true≢false}
 use mathlib.Core.List.{List}
 use native.Mathlib.Nat.{not-suc-le-zero, mul-le-mul-right}
 use native.Mathlib.Decide.{ℕ-discrete, decLt}
 use native.Mathlib.Omega.{arith}
 use lib.ListN.{getD}
-use lib.Dec.{ltb}
-use borrow.Author.Tests.{ltb-true}
 use Rattle.base.proofs.TestLaws.{true-or-false}
 use Rattle.base.proofs.RowLaws.{row-end}
-use Rattle.model.specs.Map.{Map}
 use Rattle.model.specs.Scheme.{left, orbitDim, has, firstHook}
 use Rattle.model.specs.Site.{Site, Sound, LiveDart}
 use Rattle.model.specs.Match.{image, matches, Assignment}
@@ -24,12 +21,12 @@ use Rattle.model.proofs.MatchIff.{good-orbit}
 use Rattle.orbit.specs.Store.{mark, place, next, Taken}
 use Rattle.orbit.specs.Places.{Pushed}
 use Rattle.orbit.specs.At.{At, site, WalkedAt}
-use Rattle.orbit.proofs.PlaceLaws.{place-in, place-once}
+use Rattle.orbit.proofs.PlaceLaws.{places-few, place-in, place-once}
 use Rattle.orbit.proofs.StoreLaws.{pushed-place}
 use Rattle.orbit.proofs.WalkLaws.{walked-kept}
 use Rattle.conditions.specs.Tree.{rootsOf}
 use Rattle.conditions.proofs.TreeLaws.{one-root, two-roots, roots-few}
-use Rattle.matching.specs.Opposite.{Longer, Follows, Turn, Turning, Opposed, Hung, BeforeHanging, Hanging, HungAll}
+use Rattle.matching.specs.Opposite.{Longer, Turn, Turning, Opposed, Hung, BeforeHanging, Hanging, HungAll}
 use Rattle.matching.proofs.ColumnLaws.{pushed-longer, longer-less, longer-trans, longer-kept}
 
 -- ---- how many hooks there are
@@ -202,10 +199,7 @@ module _ {N : ℕ} {t : List ℕ} (A : At N t) {s : List ℕ} {size : ℕ} (W : 
 
 module _ {N : ℕ} {t s : List ℕ} {size : ℕ} {dims : List ℕ} {k other r : ℕ} (T : Turning N t s size dims k other r) where
   pub few-places : k ≤ 4
-  few-places =
-      let few = T .at .sound .accepted .shaped .placesFew in
-      let n3 = small (T .at .scheme) (T .at .sound .accepted .shaped) in
-      omega (arith, T .placesAre)
+  few-places = omega (arith, T .placesAre, places-few (T .at))
 
   -- a link leads back from each place but the first
   pub leads-back : (r ≡ 0 → ⊥) → (p : ℕ) × (p < k) × (next N s r p < r)
@@ -257,13 +251,18 @@ module _ {N : ℕ} {t s : List ℕ} {size : ℕ} {dims : List ℕ} {k other root
   abbrev E₂ : Site
   E₂ = site (R .at)
 
-  -- the orbit stands where it stood
+  -- the orbit stands where it stood, in a store with further places
+  pub still-walked : {s′ : List ℕ} {end : ℕ} → Taken N s′ end → size ≤ end → Longer N s s′ size → WalkedAt E₂ s′ size
+  still-walked {s′} {end} t′ more l = walked-kept (E₂ .map) (E₂ .scheme .places) (orbitDim (E₂ .scheme)) (E₂ .dart) s s′ size (places-few (R .at))
+      (R .walked) (longer-kept N s s′ size l end (R .taken) t′ more)
+
   pub hanging-walked : {s′ : List ℕ} {r : ℕ} → Hanging E₂ s s′ size r → WalkedAt E₂ s′ size
-  hanging-walked {s′} {r} H =
-      let few = R .at .sound .accepted .shaped .placesFew in
-      let n3 = small (R .at .scheme) (R .at .sound .accepted .shaped) in
-      walked-kept (E₂ .map) (E₂ .scheme .places) (orbitDim (E₂ .scheme)) (E₂ .dart) s s′ size (omega arith) (R .walked)
-      (longer-kept N s s′ size (H .longer) (size + r) (R .taken) (H .taken) (omega arith))
+  hanging-walked H = still-walked (H .taken) (omega arith) (H .longer)
+
+  pub hung-walked : {s′ : List ℕ} → Hung E₂ s′ size roots → Longer N s s′ size → WalkedAt E₂ s′ size
+  hung-walked H l =
+      let some : 1 ≤ roots = omega (arith, R .rootsAre, roots-few (R .at .scheme .second) .0) in
+      still-walked (H .taken) (let e = row-end size 0 roots some in omega arith) l
 
   abbrev pub turning : {s′ : List ℕ} {r : ℕ} → Hanging E₂ s s′ size r → r < size → Turning N t s′ size dims k other r
   turning H h = record {
@@ -323,16 +322,3 @@ module _ {N : ℕ} {t s : List ℕ} {size : ℕ} {dims : List ℕ} {k other root
           );
       none = λ q. absurd (true≢false q);
     }
-
--- ---- after it
-
-module _ {N : ℕ} {t s : List ℕ} {size : ℕ} {dims : List ℕ} {k other roots : ℕ} (R : BeforeHanging N t s size dims k other roots) where
-  -- the orbit stands where it stood
-  pub hung-walked : (s′ : List ℕ) → Hung (site (R .at)) s′ size roots → Longer N s s′ size → WalkedAt (site (R .at)) s′ size
-  hung-walked s′ H L =
-      let E = site (R .at) in
-      let few = R .at .sound .accepted .shaped .placesFew in
-      let n3 = small (R .at .scheme) (R .at .sound .accepted .shaped) in
-      let some : 1 ≤ roots = omega (arith, R .rootsAre, roots-few (R .at .scheme .second) .0) in
-      walked-kept (E .map) (E .scheme .places) (orbitDim (E .scheme)) (E .dart) s s′ size (omega arith) (R .walked)
-      (longer-kept N s s′ size L (roots * size) (R .taken) (H .taken) (let e = row-end size 0 roots some in omega arith))

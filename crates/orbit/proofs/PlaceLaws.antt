@@ -1,4 +1,4 @@
--- For the phases after the walk: the darts of the orbit by their places and their marks.
+-- For the phases of an edit: that the orbit type is short, and after the walk the darts of the orbit by their places and their marks.
 -- Assumes nothing.
 use Prim.Native.Nat.{ℕ, _-_, _≤_, _<_}
 use mathlib.Core.Path.{_≡_, sym, ap, _∙_}
@@ -8,8 +8,14 @@ use native.Mathlib.Omega.{arith}
 use Rattle.model.specs.Map.{Map}
 use Rattle.model.specs.Orbit.{orbit}
 use Rattle.model.proofs.OrbitLaws.{orbit-slot}
+use Rattle.model.proofs.AcceptedLaws.{small}
 use Rattle.orbit.specs.Store.{mark, place, among, Walked}
+use Rattle.orbit.specs.At.{At}
 use Rattle.orbit.proofs.StoreLaws.{among-at, among-of}
+
+-- an orbit type has four dimensions at the most
+pub places-few : {N : ℕ} {t : List ℕ} (A : At N t) → A .scheme .places ≤ 4
+places-few A = omega (arith, A .sound .accepted .shaped .placesFew, small (A .scheme) (A .sound .accepted .shaped))
 
 module _ {m : Map} {k : ℕ} {dim : ℕ → ℕ} {d : ℕ} {s : List ℕ} {size : ℕ} (W : Walked m k dim d s size) where
   -- the dart at a place is in the orbit

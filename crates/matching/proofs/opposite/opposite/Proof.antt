@@ -1,6 +1,6 @@
 -- `matching::opposite::opposite` meets its contract. The loop's invariant: the first q darts of the column have their places.
 -- Assumes nothing.
-use Prim.Native.Nat.{_*_, _-_, _≤_, _<_}
+use Prim.Native.Nat.{_*_, _-_, _≤_}
 use mathlib.Core.Path.{_≡_}
 use native.Mathlib.Omega.{arith}
 use lib.ListN.{length}
