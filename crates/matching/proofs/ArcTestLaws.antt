@@ -79,49 +79,49 @@ module _ (m : Map) (s : List ℕ) (size : ℕ) (dims cols : List ℕ) (j i from 
     unfolding explicitTest _or_
     explicit-tested r h other f = rw (← e, le-ltb from to h, ne-eqb (getD dims j 0) i other) f
 
-  pub code-none : (code : ℕ) → code ≡ 255 → true ≡ codeTest m s size dims cols j i from code
+  pub code-none : (roots code : ℕ) → code ≡ 255 → true ≡ codeTest m s size dims cols j i from roots code
   unfolding codeTest
-  code-none code e = rw (eq-eqb code 255 e)
+  code-none roots code e = rw (eq-eqb code 255 e)
 
-  module _ (code : ℕ) (some : code ≡ 255 → ⊥) where
-    pub code-explicit : (r : Bool) → code < 16 → r ≡ explicitTest m s size dims cols j i from code → r ≡ codeTest m s size dims cols j i from code
+  module _ (roots code : ℕ) (some : code ≡ 255 → ⊥) where
+    pub code-explicit : (r : Bool) → code < 16 → r ≡ explicitTest m s size dims cols j i from code → r ≡ codeTest m s size dims cols j i from roots code
     unfolding codeTest
     code-explicit r h e = rw (ne-eqb code 255 some, lt-ltb code 16 h) e
 
-    pub code-hook : 16 ≤ code → j ≡ 0 → true ≡ codeTest m s size dims cols j i from code
+    pub code-hook : 16 ≤ code → j < roots → true ≡ codeTest m s size dims cols j i from roots code
     unfolding codeTest implicitTest _or_
-    code-hook h z = rw (ne-eqb code 255 some, le-ltb code 16 h, eq-eqb j 0 z)
+    code-hook h z = rw (ne-eqb code 255 some, le-ltb code 16 h, lt-ltb j roots z)
 
-    pub code-implicit : (r : Bool) → 16 ≤ code → (j ≡ 0 → ⊥) → r ≡ follows m s size i from from (λ q. next (m .slots) s q (code - 16)) → r
-        ≡ codeTest m s size dims cols j i from code
+    pub code-implicit : (r : Bool) → 16 ≤ code → roots ≤ j → r ≡ follows m s size i from from (λ q. next (m .slots) s q (code - 16)) → r
+        ≡ codeTest m s size dims cols j i from roots code
     unfolding codeTest implicitTest _or_
-    code-implicit r h ne e = rw (ne-eqb code 255 some, le-ltb code 16 h, ne-eqb j 0 ne) e
+    code-implicit r h late e = rw (ne-eqb code 255 some, le-ltb code 16 h, le-ltb j roots late) e
 
 -- v, code and from are what the test of an arc reads
-pub arc-read : (m : Map) (s : List ℕ) (size : ℕ) (nodes dims codes cols : List ℕ) (j i v code from : ℕ) (r : Bool)
+pub arc-read : (m : Map) (s : List ℕ) (size : ℕ) (nodes dims : List ℕ) (roots : ℕ) (codes cols : List ℕ) (j i v code from : ℕ) (r : Bool)
     → v ≡ getD nodes j 0 → code ≡ getD codes (4 * v + i) 0 → from ≡ getD cols v 0
-    → r ≡ codeTest m s size dims cols j i from code → r ≡ arcTest m s size nodes dims codes cols j i
+    → r ≡ codeTest m s size dims cols j i from roots code → r ≡ arcTest m s size nodes dims roots codes cols j i
 unfolding arcTest
-arc-read m s size nodes dims codes cols j i v code from r a b c e = rw (← a, ← c, ← b) e
+arc-read m s size nodes dims roots codes cols j i v code from r a b c e = rw (← a, ← c, ← b) e
 
 -- ---- every arc
 
-module _ (m : Map) (s : List ℕ) (size : ℕ) (nodes dims codes cols : List ℕ) where
-  pub arcs-none : arcsTest m s size nodes dims codes cols 0 ≡ true
+module _ (m : Map) (s : List ℕ) (size : ℕ) (nodes dims : List ℕ) (roots : ℕ) (codes cols : List ℕ) where
+  pub arcs-none : arcsTest m s size nodes dims roots codes cols 0 ≡ true
   unfolding arcsTest
   arcs-none = all-none _
 
-  module _ (k : ℕ) (r : Bool) (e : r ≡ arcTest m s size nodes dims codes cols (k / 4) (k % 4)) where
-    pub arcs-more : r ≡ true → arcsTest m s size nodes dims codes cols k ≡ true → arcsTest m s size nodes dims codes cols (k + 1) ≡ true
+  module _ (k : ℕ) (r : Bool) (e : r ≡ arcTest m s size nodes dims roots codes cols (k / 4) (k % 4)) where
+    pub arcs-more : r ≡ true → arcsTest m s size nodes dims roots codes cols k ≡ true → arcsTest m s size nodes dims roots codes cols (k + 1) ≡ true
     unfolding arcsTest
     arcs-more h f = all-more _ k f (sym e ∙ h)
 
-    pub arcs-stop : r ≡ false → (bound : ℕ) → k < bound → false ≡ arcsTest m s size nodes dims codes cols bound
+    pub arcs-stop : r ≡ false → (bound : ℕ) → k < bound → false ≡ arcsTest m s size nodes dims roots codes cols bound
     unfolding arcsTest
     arcs-stop h bound l = all-stops _ k bound l (sym e ∙ h)
 
-  pub arcs-done : (k bound : ℕ) → k ≤ bound → bound ≤ k → arcsTest m s size nodes dims codes cols k ≡ true → true
-      ≡ arcsTest m s size nodes dims codes cols bound
+  pub arcs-done : (k bound : ℕ) → k ≤ bound → bound ≤ k → arcsTest m s size nodes dims roots codes cols k ≡ true → true
+      ≡ arcsTest m s size nodes dims roots codes cols bound
   unfolding arcsTest
   arcs-done k bound h l e = all-ends _ k bound e h l
 

@@ -6,7 +6,7 @@ use mathlib.Core.Logic.{_⊎_, inl, inr, ⊎-elim, by-cases}
 use mathlib.Core.Bool.{Bool, true, false, true≢false}
 use mathlib.Core.List.{List}
 use native.Mathlib.Nat.{mul-le-mul-right}
-use native.Mathlib.Decide.{ℕ-discrete, decLt}
+use native.Mathlib.Decide.{decLt}
 use native.Mathlib.Omega.{arith}
 use lib.ListN.{length, getD}
 use borrow.Author.Tests.{eqb-true, eq-eqb, ne-eqb, ltb-true, lt-ltb, le-ltb}
@@ -22,7 +22,7 @@ use Rattle.model.specs.Match.{image, matches, Assignment}
 use Rattle.model.specs.Accepted.{SingleSide}
 use Rattle.model.proofs.AcceptedLaws.{small}
 use Rattle.model.proofs.ArcLaws.{explicit-at, explicit-end, implicit-at, implicit-from, far-from, far-to, touches-from, touches-to}
-use Rattle.model.proofs.HookLaws.{first-hook}
+use Rattle.model.proofs.HookLaws.{first-hook, second-hook}
 use Rattle.model.proofs.MatchLaws.{assigns-match}
 use Rattle.orbit.specs.At.{site}
 use Rattle.orbit.specs.Store.{mark, place, next, dartAt, Taken, Assigned}
@@ -34,7 +34,7 @@ use Rattle.matching.specs.ArcTests.{Turns, follows, explicitTest, implic
 use Rattle.matching.specs.Assign.{Posed, Matched}
 use Rattle.orbit.proofs.PlaceLaws.{place-in, place-of}
 use Rattle.matching.proofs.ColumnLaws.{longer-less, longer-trans, longer-mark, longer-kept}
-use Rattle.matching.proofs.OppositeLaws.{hung-walked}
+use Rattle.matching.proofs.OppositeLaws.{next-longer, hung-walked}
 use Rattle.matching.proofs.ColumnTreeLaws.{good, node-below, hooks-some, hook-node, dart-at, dart-slot, column-inside, images, arc-image, turn-image}
 
 -- ---- the tests
@@ -49,9 +49,9 @@ follows-of : (m : Map) (s : List ℕ) (size i from base : ℕ) (to : ℕ → ℕ
 unfolding follows
 follows-of m s size i from base to f = all-of size _ (λ r h. eq-eqb _ _ (f r h))
 
-module _ (m : Map) (s : List ℕ) (size : ℕ) (dims cols : List ℕ) (j i from : ℕ) where
+module _ (m : Map) (s : List ℕ) (size : ℕ) (dims cols : List ℕ) (j i from roots : ℕ) where
   -- what a test that holds says of each kind of arc
-  explicit-cases : (t : ℕ) → t < 16 → codeTest m s size dims cols j i from t ≡ true
+  explicit-cases : (t : ℕ) → t < 16 → codeTest m s size dims cols j i from roots t ≡ true
       → (from < getD cols t 0) ⊎ ((getD dims j 0 ≡ i) ⊎ (follows m s size i from (getD cols t 0) (λ r. r) ≡ true))
   unfolding codeTest explicitTest
   explicit-cases t h e =
@@ -64,23 +64,23 @@ module _ (m : Map) (s : List ℕ) (size : ℕ) (dims cols : List ℕ) (j i from 
       (λ o. inr (inr o))
       (or-cases _ _ f)
 
-  implicit-case : (p : ℕ) → p < 4 → (j ≡ 0 → ⊥) → codeTest m s size dims cols j i from (16 + p) ≡ true
+  implicit-case : (p : ℕ) → p < 4 → roots ≤ j → codeTest m s size dims cols j i from roots (16 + p) ≡ true
       → follows m s size i from from (λ r. next (m .slots) s r p) ≡ true
   unfolding codeTest implicitTest _or_
-  implicit-case p h ne e =
+  implicit-case p h late e =
       let same : 16 + p - 16 ≡ p = omega arith in
-      rw (ne-eqb (16 + p) 255 (λ q. absurd (omega arith)), le-ltb (16 + p) 16 (omega arith), ne-eqb j 0 ne, same) at e
+      rw (ne-eqb (16 + p) 255 (λ q. absurd (omega arith)), le-ltb (16 + p) 16 (omega arith), le-ltb j roots late, same) at e
 
   -- a test holds where the arc does
-  absent-holds : codeTest m s size dims cols j i from 255 ≡ true
+  absent-holds : codeTest m s size dims cols j i from roots 255 ≡ true
   unfolding codeTest
   absent-holds = refl
 
-  explicit-holds : (t : ℕ) → t < 16 → follows m s size i from (getD cols t 0) (λ r. r) ≡ true → codeTest m s size dims cols j i from t ≡ true
+  explicit-holds : (t : ℕ) → t < 16 → follows m s size i from (getD cols t 0) (λ r. r) ≡ true → codeTest m s size dims cols j i from roots t ≡ true
   unfolding codeTest explicitTest
   explicit-holds t h f = rw (ne-eqb t 255 (λ q. absurd (omega arith)), lt-ltb t 16 h) (or-right _ f)
 
-  implicit-holds : (p : ℕ) → p < 4 → follows m s size i from from (λ r. next (m .slots) s r p) ≡ true → codeTest m s size dims cols j i from (16 + p) ≡ true
+  implicit-holds : (p : ℕ) → p < 4 → follows m s size i from from (λ r. next (m .slots) s r p) ≡ true → codeTest m s size dims cols j i from roots (16 + p) ≡ true
   unfolding codeTest implicitTest
   implicit-holds p h f =
       let same : 16 + p - 16 ≡ p = omega arith in
@@ -119,9 +119,8 @@ module _ {N : ℕ} {t s : List ℕ} {size : ℕ} {nodes parents dims : List ℕ}
 
   -- the place to which a link of the orbit type leads
   turn : (r p : ℕ) → r < size → p < S .places → (next N s′ r p < size) × (place N s (next N s′ r p) ≡ m .link (orbitDim S p) (place N s r))
-  unfolding next
   turn r p h k = subst (λ (q : ℕ). (q < size) × (place N s q ≡ m .link (orbitDim S p) (place N s r)))
-      (sym (G .longer .rest (4 * N + 4 * r + p) (omega arith))) (R .walked .links r p h k)
+      (sym (next-longer N s s′ (roots * size) (G .longer) r p)) (R .walked .links r p h k)
 
   -- ---- an arc can be tested
 
@@ -175,12 +174,12 @@ module _ {N : ℕ} {t s : List ℕ} {size : ℕ} {nodes parents dims : List ℕ}
         subst (λ (w : ℕ). at w r ≡ image E (place N s r) w) (z .2) (images R q G (omega arith) (z .0) r (z .1) b)
 
     arc-holds : (j i : ℕ) → j < count → i < 4 → (a : Arc) → arcAt S left (node j) i ≡ a
-        → codeTest m s′ size dims cols j i (getD cols (node j) 0) (arcCode a) ≡ true
-    arc-holds j i h k absent e = absent-holds m s′ size dims cols j i (getD cols (node j) 0)
+        → codeTest m s′ size dims cols j i (getD cols (node j) 0) roots (arcCode a) ≡ true
+    arc-holds j i h k absent e = absent-holds m s′ size dims cols j i (getD cols (node j) 0) roots
     arc-holds j i h k (explicit w) e =
         let end = explicit-end S left single (node j) i w e in
         let on = R .rooted .onLeft j h in
-        explicit-holds m s′ size dims cols j i (getD cols (node j) 0) w (omega (arith, end .0, accepted .shaped .nodesFew))
+        explicit-holds m s′ size dims cols j i (getD cols (node j) 0) roots w (omega (arith, end .0, accepted .shaped .nodesFew))
         (follows-of m s′ size i (getD cols (node j) 0) (getD cols w 0) (λ r. r) (λ r b.
         ap (m .link i) (image-at (node j) r (on .0) (on .1) b)
         ∙ arc-image R q (place N s r) (node j) i w (place-in (R .walked) r b) (on .0) (on .1) (end .2) e
@@ -188,7 +187,7 @@ module _ {N : ℕ} {t s : List ℕ} {size : ℕ} {nodes parents dims : List ℕ}
     arc-holds j i h k (implicit p) e =
         let on = R .rooted .onLeft j h in
         let f = implicit-in (node j) i p (on .0) k e in
-        implicit-holds m s′ size dims cols j i (getD cols (node j) 0) p (f .1)
+        implicit-holds m s′ size dims cols j i (getD cols (node j) 0) roots p (f .1)
         (follows-of m s′ size i (getD cols (node j) 0) (getD cols (node j) 0) (λ r. next N s′ r p) (λ r b.
         let g = turn r p b (f .0) in
         ap (m .link i) (image-at (node j) r (on .0) (on .1) b)
@@ -196,7 +195,7 @@ module _ {N : ℕ} {t s : List ℕ} {size : ℕ} {nodes parents dims : List ℕ}
         ∙ ap (λ (u : ℕ). image E u (node j)) (sym (g .1))
         ∙ sym (image-at (node j) (next N s′ r p) (on .0) (on .1) (g .0))))
 
-    pub match-tests : arcsTest m s′ size nodes dims codes cols (4 * count) ≡ true
+    pub match-tests : arcsTest m s′ size nodes dims roots codes cols (4 * count) ≡ true
     unfolding arcsTest arcTest
     match-tests = all-of (4 * count) _ (λ k h.
         let j : k / 4 < count = omega arith in
@@ -270,18 +269,18 @@ module _ {N : ℕ} {t s : List ℕ} {size : ℕ} {nodes parents dims : List ℕ}
       ap (place N s) at₀ ∙ R .walked .start ∙ sym (R .at .sound .alone (le-ltb 0 (S .second) (omega arith))))
       (λ z.
       let at₁ : (roots - 1) * size + 0 ≡ size + 0 = ap (λ (i : ℕ). i * size + 0) (z .0) ∙ omega arith in
-      ap (place N s) at₁ ∙ ⊎-elim (λ f. f .1) (λ f. absurd (omega (arith, f .0))) (R .hung .second (z .1) .turn 0 row))
+      ap (place N s) at₁ ∙ R .hung .second (z .1) .first row)
       (hook-node R (roots - 1) (omega arith))
 
-  module _ (T : arcsTest m s′ size nodes dims codes cols (4 * count) ≡ true) where
+  module _ (T : arcsTest m s′ size nodes dims roots codes cols (4 * count) ≡ true) where
     test-at : (j i : ℕ) → j < count → i < 4 → (a : Arc) → arcAt S left (node j) i ≡ a
-        → codeTest m s′ size dims cols j i (getD cols (node j) 0) (arcCode a) ≡ true
+        → codeTest m s′ size dims cols j i (getD cols (node j) 0) roots (arcCode a) ≡ true
     unfolding arcsTest arcTest
     test-at j i h k a e =
         let by-four : (4 * j + i) / 4 ≡ j = omega arith in
         let rest : (4 * j + i) % 4 ≡ i = omega arith in
         let f = all-at (4 * count) _ T (4 * j + i) (omega arith) in
-        ap (codeTest m s′ size dims cols j i (getD cols (node j) 0)) (sym (code-at j i h k ∙ ap arcCode e)) ∙ (rw (by-four, rest) at f)
+        ap (codeTest m s′ size dims cols j i (getD cols (node j) 0) roots) (sym (code-at j i h k ∙ ap arcCode e)) ∙ (rw (by-four, rest) at f)
 
     -- an explicit arc from a column to one that is not later
     arc-back : (j k i r : ℕ) → j < count → k < count → k ≤ j → i < 4 → r < size → arcAt S left (node j) i ≡ explicit (node k)
@@ -304,7 +303,7 @@ module _ {N : ℕ} {t s : List ℕ} {size : ℕ} {nodes parents dims : List ℕ}
         ap (m .link i) step ∙ well .back (at (node k) r) (on .0) (on .1) i low)
         (λ f. follows-at m s′ size i (getD cols (node j) 0) (getD cols (node k) 0) (λ q. q) f r c)
         w)
-        (explicit-cases m s′ size dims cols j i (getD cols (node j) 0) (node k) below (test-at j i h b (explicit (node k)) e))
+        (explicit-cases m s′ size dims cols j i (getD cols (node j) 0) roots (node k) below (test-at j i h b (explicit (node k)) e))
 
     -- an explicit arc, from either end
     arc-at : (v w i r : ℕ) → v < S .nodes → has S left v ≡ true → r < size → arcAt S left v i ≡ explicit w → m .link i (at v r) ≡ at w r
@@ -324,16 +323,41 @@ module _ {N : ℕ} {t s : List ℕ} {size : ℕ} {nodes parents dims : List ℕ}
         (λ o. arc-back (y .0) (z .0) i r (y .1) (z .1) (omega arith) low c to) in
         ap (λ (x : ℕ). m .link i (at x r)) (sym (y .2)) ∙ way ∙ ap (λ (x : ℕ). at x r) (z .2)
 
+    -- an implicit arc of the second hook
+    second-turn : (j p r : ℕ) → j ≡ 1 → roots ≡ 2 → node j ≡ S .second → j < count → p < S .places → r < size
+        → m .link (orbitDim S p) (at (node j) r) ≡ at (node j) (next N s′ r p)
+    second-turn j p r one two is h b c =
+        let row : (q : ℕ) → q < size → at (node j) q ≡ place N s (size + q) = λ q l.
+        let cell : j * size + q ≡ size + q = ap (λ (k : ℕ). k * size + q) one ∙ omega arith in
+        dart-at R G j q h ∙ G .longer .places (j * size + q) (row-cell size j roots q (omega arith) l) ∙ ap (place N s) cell in
+        let o = R .hung .second two .links r p b (omega (arith, small S (accepted .shaped), accepted .shaped .placesFew)) in
+        let same : next N s′ r p ≡ next N s r p = next-longer N s s′ (roots * size) (G .longer) r p in
+        ap (m .link (orbitDim S p)) (row r c) ∙ o .is ∙ ap (λ (q : ℕ). place N s (size + q)) (sym same)
+        ∙ sym (row (next N s′ r p) (turn r p c b .0))
+
     -- an implicit arc
-    turn-at : (v i p r : ℕ) → v < S .nodes → has S left v ≡ true → (v ≡ firstHook → ⊥) → i < 4 → r < size → arcAt S left v i ≡ implicit p
+    turn-at : (v i p r : ℕ) → v < S .nodes → has S left v ≡ true → i < 4 → r < size → p < S .places → word S left v p ≡ i → arcAt S left v i ≡ implicit p
         → m .link i (at v r) ≡ at v (next N s′ r p)
-    turn-at v i p r h l ne k c e =
-        let f = implicit-in v i p h k e in
+    turn-at v i p r h l k c o w e =
         let z = R .rooted .every v h l in
-        let later : z .0 ≡ 0 → ⊥ = λ o. ne (sym (z .2) ∙ ap node o ∙ R .rooted .hooks .first) in
+        subst (λ (x : ℕ). m .link i (at x r) ≡ at x (next N s′ r p)) (z .2) (by-cases (decLt (z .0) roots)
+        (λ hook. ⊎-elim
+        (λ f.
+        let g = turn r p c o in
+        let first : v ≡ firstHook = sym (z .2) ∙ f .1 in
+        let dim : i ≡ orbitDim S p = sym w ∙ ap (λ (x : ℕ). word S left x p) first ∙ accepted .hooks firstHook (first-hook S) .word p o in
+        subst (λ (x : ℕ). m .link i (at x r) ≡ at x (next N s′ r p)) (sym (f .1))
+        (ap₂ (m .link) dim (hook-at r c) ∙ sym (g .1) ∙ sym (hook-at (next N s′ r p) (g .0))))
+        (λ f.
+        let second : v ≡ S .second = sym (z .2) ∙ f .2 in
+        let dim : i ≡ orbitDim S p = sym w ∙ ap (λ (x : ℕ). word S left x p) second ∙ accepted .hooks (S .second) (second-hook S) .word p o in
+        ap (λ (x : ℕ). m .link x (at (node (z .0)) r)) dim ∙ second-turn (z .0) p r (f .0) (f .1) (f .2) (z .1) o c)
+        (hook-node R (z .0) hook))
+        (λ late.
+        let few : p < 4 = omega (arith, small S (accepted .shaped), accepted .shaped .placesFew) in
         let a : arcAt S left (node (z .0)) i ≡ implicit p = ap (λ (x : ℕ). arcAt S left x i) (z .2) ∙ e in
-        let g = implicit-case m s′ size dims cols (z .0) i (getD cols (node (z .0)) 0) p (f .1) later (test-at (z .0) i (z .1) k (implicit p) a) in
-        subst (λ (x : ℕ). m .link i (at x r) ≡ at x (next N s′ r p)) (z .2) (follows-at m s′ size i _ _ (λ q. next N s′ q p) g r c)
+        let g = implicit-case m s′ size dims cols (z .0) i (getD cols (node (z .0)) 0) roots p few (omega arith) (test-at (z .0) i (z .1) k (implicit p) a) in
+        follows-at m s′ size i _ _ (λ q. next N s′ q p) g r c))
 
     -- two pairs with one dart are one pair
     apart : (v w r q : ℕ) → v < S .nodes → has S left v ≡ true → w < S .nodes → has S left w ≡ true → r < size → q < size → at v r ≡ at w q → (r ≡ q) × (v ≡ w)
@@ -375,11 +399,7 @@ module _ {N : ℕ} {t s : List ℕ} {size : ℕ} {nodes parents dims : List ℕ}
           let g = turn r p (rank-below u e) k in
           let to : place N s (next N s′ r p) ≡ m .link (orbitDim S p) u = g .1 ∙ ap (m .link (orbitDim S p)) (rank-place u e) in
           ap (m .link i) (found-is u v e)
-          ∙ by-cases (ℕ-discrete v firstHook)
-          (λ z. subst (λ (x : ℕ). m .link (word S left x p) (at x r) ≡ at x (next N s′ r p)) (sym z)
-          (ap₂ (λ (x y : ℕ). m .link x y) (accepted .hooks firstHook (first-hook S) .word p k) (hook-at r (rank-below u e)) ∙ sym (g .1)
-          ∙ sym (hook-at (next N s′ r p) (g .0))))
-          (λ ne. turn-at v i p r h l ne few (rank-below u e) (implicit-at S left single v i p h k low refl))
+          ∙ turn-at v i p r h l few (rank-below u e) k refl (implicit-at S left single v i p h k low refl)
           ∙ sym (found-at v (next N s′ r p) (g .0)) ∙ ap (λ (x : ℕ). found x v) to;
       different = λ u b e v h l x c f w k o same.
           let p = apart v w (rank u e) (rank x f) h l k o (rank-below u e) (rank-below x f) (sym (found-is u v e) ∙ same ∙ found-is x w f) in
@@ -402,7 +422,7 @@ module _ {N : ℕ} {t s : List ℕ} {size : ℕ} {nodes parents dims : List ℕ}
   }
 
   -- s₀ is the store before the second hook had its column
-  pub matched : (s₀ : List ℕ) → Taken N s₀ size → Longer N s₀ s size → (b : Bool) → b ≡ arcsTest m s′ size nodes dims codes cols (4 * count)
+  pub matched : (s₀ : List ℕ) → Taken N s₀ size → Longer N s₀ s size → (b : Bool) → b ≡ arcsTest m s′ size nodes dims roots codes cols (4 * count)
       → Matched E s₀ s′ cols size b
   matched s₀ T L b e =
       let longer = longer-trans N s₀ s size L s′ (longer-less N s s′ (roots * size) (G .longer) size first-row) in
@@ -410,7 +430,7 @@ module _ {N : ℕ} {t s : List ℕ} {size : ℕ} {nodes parents dims : List ℕ}
         is = e ∙ same-test _ _ tests-match match-tests;
         long = G .taken .long ∙ sym (T .long);
         assigned = λ f. assigned-columns (tests-match (sym e ∙ f));
-        kept = λ f. longer-kept N s₀ s′ size longer (count * size) T (G .taken) (omega (arith, first-row, more));
+        kept = λ f. longer-kept N s₀ s′ size longer (count * size) T (G .taken) (omega (arith, first-row, more)) size (omega arith);
         wide = λ f. G .wide;
       }
 
@@ -427,7 +447,7 @@ module _ {N : ℕ} {t s : List ℕ} {size : ℕ} {orbit : List ℕ} {k other : �
   }
 
   pub matched-at : {s″ cols : List ℕ} → Grown (view N t) nodes parents dims roots s′ s″ cols size count → (b : Bool)
-      → b ≡ arcsTest (view N t) s″ size nodes dims codes cols (4 * count) → Matched (site (P .ready .at)) s s″ cols size b
+      → b ≡ arcsTest (view N t) s″ size nodes dims roots codes cols (4 * count) → Matched (site (P .ready .at)) s s″ cols size b
   matched-at G b f = matched ready G (P .coded) s (P .ready .taken) (H .done e (P .ready) .1) b f
 
 -- where two pairs fall on one dart, or the other dart is in the orbit

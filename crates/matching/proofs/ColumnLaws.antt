@@ -54,15 +54,16 @@ module _ (N : ℕ) (s s′ : List ℕ) (end : ℕ) (l : Longer N s s′ end) whe
         let same : mark s x ≡ mark s (place N s (mark s′ x - 1)) = ap (mark s) (sym at) in
         omega arith
 
-    pub longer-kept : Kept N s s′ end
+    -- the first places keep their darts, marks and links
+    pub longer-kept : (few : ℕ) → few ≤ end → Kept N s s′ few
     unfolding next
-    longer-kept = record {
+    longer-kept few b = record {
       long = t′ .long ∙ sym (t .long);
-      places = l .places;
+      places = λ r h. l .places r (omega arith);
       marks = λ x h. same-test _ _
-          (λ a. let p = among-at s′ end x a in let e = longer-found x h (p .0) (p .1) in among-of s end x (omega arith) (omega arith))
-          (λ a. let p = among-at s end x a in let e = longer-mark x h (p .0) in among-of s′ end x (omega arith) (omega arith));
-      ranks = λ x h a. longer-mark x h (among-at s end x a .0);
+          (λ a. let p = among-at s′ few x a in let e = longer-found x h (p .0) (omega arith) in among-of s few x (omega arith) (omega arith))
+          (λ a. let p = among-at s few x a in let e = longer-mark x h (p .0) in among-of s′ few x (omega arith) (omega arith));
+      ranks = λ x h a. longer-mark x h (among-at s few x a .0);
       nexts = λ r p h k. l .rest (4 * N + 4 * r + p) (omega arith);
     }
 

@@ -29,7 +29,6 @@ use Rattle.conditions.specs.Tree.{rootsOf}
 use Rattle.conditions.proofs.TreeLaws.{roots-few}
 use Rattle.orbit.proofs.PlaceLaws.{place-in}
 use Rattle.matching.proofs.ColumnLaws.{dart-place, longer-dart, longer-less, longer-trans}
-use Rattle.matching.proofs.OppositeLaws.{opposed-image}
 
 module _ {N : ℕ} {t s : List ℕ} {size : ℕ} {nodes parents dims : List ℕ} {roots count : ℕ}
     (R : BeforeMatching N t s size nodes parents dims roots count) where
@@ -244,7 +243,7 @@ module _ {N : ℕ} {t s : List ℕ} {size : ℕ} {nodes parents dims : List ℕ}
           ap (place N s) at ∙ sym (assignment .hook u (R .walked .slot r h) (place-in (R .walked) r h)) ∙ ap (image E u) (sym (z .1)))
           (λ z.
           let at : j * size + r ≡ size + r = ap (λ (i : ℕ). i * size + r) (z .0) ∙ omega arith in
-          ap (place N s) at ∙ opposed-image (R .at) (R .walked) q size (omega arith) (R .hung .second (z .1)) r h ∙ ap (image E u) (sym (z .2)))
+          ap (place N s) at ∙ R .hung .second (z .1) .images q r h ∙ ap (image E u) (sym (z .2)))
           (hook-node j b)
 
       images-below : (b j r : ℕ) → j < b → j < k → r < size → dartAt s′ (getD cols (node j) 0) r ≡ image E (place N s r) (node j)

@@ -1,11 +1,12 @@
--- The laws of `opposite::opposite`: the column of the second hook while its darts take their places, and what it holds where there is a match.
+-- The laws of `opposite`: the column of the second hook while its darts take their places, link by link in the walk's order, and why there is no
+-- match where a dart cannot take its place.
 -- Assumes nothing.
-use Prim.Native.Nat.{ℕ, zero, suc, _+_, _*_, _-_, _≤_, _<_}
+use Prim.Native.Nat.{ℕ, _+_, _*_, _-_, _≤_, _<_}
 use mathlib.Core.Path.{_≡_, refl, sym, ap, ap₂, _∙_, subst}
-use mathlib.Core.Logic.{_⊎_, inl, inr, ⊎-elim, by-cases}
-use mathlib.Core.Bool.{true, false, true≢false}
+use mathlib.Core.Logic.{_⊎_, inl, inr, _≢_, ⊎-elim, by-cases}
+use mathlib.Core.Bool.{Bool, true, false, true≢false}
 use mathlib.Core.List.{List}
-use native.Mathlib.Nat.{not-suc-le-zero, mul-le-mul-right}
+use native.Mathlib.Nat.{mul-le-mul-right}
 use native.Mathlib.Decide.{ℕ-discrete, decLt}
 use native.Mathlib.Omega.{arith}
 use lib.ListN.{getD}
@@ -26,7 +27,7 @@ use Rattle.orbit.proofs.StoreLaws.{pushed-place}
 use Rattle.orbit.proofs.WalkLaws.{walked-kept}
 use Rattle.conditions.specs.Tree.{rootsOf}
 use Rattle.conditions.proofs.TreeLaws.{one-root, two-roots, roots-few}
-use Rattle.matching.specs.Opposite.{Longer, Turn, Turning, Opposed, Hung, BeforeHanging, Hanging, HungAll}
+use Rattle.matching.specs.Opposite.{Longer, Met, Follows, Opposed, Hung, BeforeHanging, Retracing, Retraced, RetracedAll, HungAll}
 use Rattle.matching.proofs.ColumnLaws.{pushed-longer, longer-less, longer-trans, longer-kept}
 
 -- ---- how many hooks there are
@@ -41,19 +42,28 @@ second-named second ne = by-cases (ℕ-discrete second firstHook)
     (λ e. absurd (ne (one-root second e)))
     (λ other. (two-roots second other, omega arith))
 
--- ---- the links by place
+-- ---- `meet`
 
--- q is what is read of the link at position p from place r
-module _ (N : ℕ) (s : List ℕ) (r p q : ℕ) (e : q ≡ getD s (4 * N + 4 * r + p) 0) where
-  pub next-back : q < r → next N s r p < r
-  unfolding next
-  next-back h = rw (← e) h
+-- x is what is read of the column at place q
+pub column-read : (N : ℕ) (s : List ℕ) (size q x : ℕ) → x ≡ getD s (N + size + q) 0 → x ≡ place N s (size + q)
+unfolding place
+column-read N s size q x e = let same : N + size + q ≡ N + (size + q) = omega arith in e ∙ ap (λ (i : ℕ). getD s i 0) same
 
-  pub next-on : r ≤ q → r ≤ next N s r p
-  unfolding next
-  next-on h = rw (← e) h
+pub mark-some : (s : List ℕ) (y w : ℕ) → w ≡ getD s y 0 → (w ≡ 0 → ⊥) → 1 ≤ mark s y
+unfolding mark
+mark-some s y w e ne = by-cases (ℕ-discrete w 0) (λ z. absurd (ne z)) (λ z. omega arith)
 
--- ---- one dart more
+-- ---- one dart or one link more
+
+-- the orbit stands where it stood, in a store with further places
+pub still-walked : {N : ℕ} {t : List ℕ} (A : At N t) {s s′ : List ℕ} {size end end′ : ℕ} → WalkedAt (site A) s size → Taken N s end → size ≤ end
+    → Longer N s s′ end → Taken N s′ end′ → end ≤ end′ → WalkedAt (site A) s′ size
+still-walked {N} A {s} {s′} {size} {end} {end′} W T few l T′ more =
+    walked-kept (site A .map) (A .scheme .places) (orbitDim (A .scheme)) (A .dart) s s′ size (places-few A) W (longer-kept N s s′ end l end′ T T′ more size few)
+
+pub next-longer : (N : ℕ) (s s′ : List ℕ) (end : ℕ) → Longer N s s′ end → (r p : ℕ) → next N s′ r p ≡ next N s r p
+unfolding next
+next-longer N s s′ end l r p = l .rest (4 * N + 4 * r + p) (omega arith)
 
 module _ (E : Site) where
   open Site E using (map as m, scheme as S)
@@ -61,61 +71,81 @@ module _ (E : Site) where
   abbrev N : ℕ
   N = m .slots
 
-  -- the dart for a place stays that where the store keeps the places before it and the links
-  turn-kept : (s s′ : List ℕ) (size end r y : ℕ) → size ≤ N → Longer N s s′ end → size + r ≤ end → Turn E s size r y → Turn E s′ size r y
-  unfolding next
-  turn-kept s s′ size end r y few l h (inl e) = inl e
-  turn-kept s s′ size end r y few l h (inr f) =
-      let p = f .1 .position in
-      let same : getD s′ (4 * N + 4 * r + p) 0 ≡ getD s (4 * N + 4 * r + p) 0 = l .rest (4 * N + 4 * r + p) (omega arith) in
-      inr (
-        f .0,
-        record {
-          position = p;
-          below = f .1 .below;
-          back = rw same (f .1 .back);
-          is = f .1 .is ∙ ap (m .link (orbitDim S p))
-              (sym (l .places (size + getD s (4 * N + 4 * r + p) 0) (omega (arith, f .1 .back))) ∙ ap (λ (z : ℕ). place N s′ (size + z)) (sym same));
-        },
-      )
+  pub opposed-none : (s : List ℕ) (size : ℕ) → Taken N s size → Opposed E s size (4 * 0) 0
+  opposed-none s size t = record {
+    taken = let same : size + 0 ≡ size = omega arith in rw same t;
+    fits = omega arith;
+    alive = λ q h. absurd (omega arith);
+    first = λ h. absurd (omega arith);
+    images = λ e q h. absurd (omega arith);
+    links = λ r p b h. absurd (omega arith);
+  }
 
-  module _ (s : List ℕ) (size : ℕ) (few : size ≤ N) where
-    pub hanging-none : Taken N s size → Hanging E s s size 0
-    hanging-none t = record {
-      taken = let same : size + 0 ≡ size = omega arith in rw same t;
-      longer = record { places = λ e h. refl; rest = λ k h. refl };
-      opposed = record { alive = λ q h. absurd (omega arith); turn = λ q h. absurd (omega arith) };
-    }
+  -- dart y takes the next place
+  pub opposed-push : (s : List ℕ) (size c end y : ℕ) → Opposed E s size c end → end < size → LiveDart m y → (end ≡ 0 → y ≡ E .other)
+      → (matches E ≡ true → y ≡ image E (place N s end) (S .second)) → (s′ : List ℕ) → Pushed N s (size + end) y s′ → Opposed E s′ size c (end + 1)
+  opposed-push s size c end y O b l start is s′ p =
+      let longer : Longer N s s′ (size + end) = pushed-longer N s s′ (size + end) y (l .slot) p in
+      let here : place N s′ (size + end) ≡ y = ap (λ (z : List ℕ). place N z (size + end)) (p .is) ∙ pushed-place N s (size + end) y (O .taken) (l .slot) in
+      let old : (q : ℕ) → q < end → place N s′ (size + q) ≡ place N s (size + q) = λ q h. longer .places (size + q) (omega arith) in
+      let fits = p .taken .fits in
+      record {
+        taken = let same : size + (end + 1) ≡ size + end + 1 = omega arith in rw same (p .taken);
+        fits = omega arith;
+        alive = λ q h. by-cases (ℕ-discrete q end)
+            (λ e. ap (λ (z : ℕ). m .state (place N s′ (size + z))) e ∙ ap (m .state) here ∙ l .alive)
+            (λ ne. let o : q < end = omega arith in ap (m .state) (old q o) ∙ O .alive q o);
+        first = λ h. by-cases (ℕ-discrete end 0)
+            (λ e. ap (λ (z : ℕ). place N s′ (size + z)) (sym e) ∙ here ∙ start e)
+            (λ ne. let o : 1 ≤ end = omega arith in old 0 (omega arith) ∙ O .first o);
+        images = λ e q h.
+            let same : place N s′ q ≡ place N s q = longer .places q (omega arith) in
+            by-cases (ℕ-discrete q end)
+            (λ z. ap (λ (k : ℕ). place N s′ (size + k)) z ∙ here ∙ is e ∙ ap (λ (x : ℕ). image E x (S .second)) (ap (place N s) (sym z) ∙ sym same))
+            (λ ne. let o : q < end = omega arith in old q o ∙ O .images e q o ∙ ap (λ (x : ℕ). image E x (S .second)) (sym same));
+        links = λ r p b h.
+            let o = O .links r p b h in
+            let same : next N s′ r p ≡ next N s r p = next-longer N s s′ (size + end) longer r p in
+            record {
+              from = omega (arith, o .from);
+              to = omega (arith, o .to, same);
+              is = ap (m .link (orbitDim S p)) (old r (o .from)) ∙ o .is ∙ sym (old _ (o .to)) ∙ ap (λ (z : ℕ). place N s′ (size + z)) (sym same);
+            };
+      }
 
-    -- the dart for place r takes its place
-    pub hanging-more : (s′ : List ℕ) (r y : ℕ) → Hanging E s s′ size r → Turn E s′ size r y → LiveDart m y
-        → (s″ : List ℕ) → Pushed N s′ (size + r) y s″ → Hanging E s s″ size (r + 1)
-    hanging-more s′ r y H T l s″ p =
-        let longer : Longer N s′ s″ (size + r) = pushed-longer N s′ s″ (size + r) y (l .slot) p in
-        let here : place N s″ (size + r) ≡ y = ap (λ (z : List ℕ). place N z (size + r)) (p .is) ∙ pushed-place N s′ (size + r) y (H .taken) (l .slot) in
-        let old : (q : ℕ) → q < r → place N s″ (size + q) ≡ place N s′ (size + q) = λ q h. longer .places (size + q) (omega arith) in
-        record {
-          taken = let same : size + (r + 1) ≡ size + r + 1 = omega arith in rw same (p .taken);
-          longer = longer-trans N s s′ size (H .longer) s″ (longer-less N s′ s″ (size + r) longer size (omega arith));
-          opposed = record {
-            alive = λ q h. by-cases (ℕ-discrete q r)
-                (λ e. ap (λ (z : ℕ). m .state (place N s″ (size + z))) e ∙ ap (m .state) here ∙ l .alive)
-                (λ ne. let b : q < r = omega arith in ap (m .state) (old q b) ∙ H .opposed .alive q b);
-            turn = λ q h. by-cases (ℕ-discrete q r)
-                (λ e. subst (λ (z : ℕ). Turn E s″ size z (place N s″ (size + z))) (sym e)
-                (subst (Turn E s″ size r) (sym here) (turn-kept s′ s″ size (size + r) r y few longer (omega arith) T)))
-                (λ ne. let b : q < r = omega arith in subst (Turn E s″ size q) (sym (old q b))
-                (turn-kept s′ s″ size (size + r) q _ few longer (omega arith) (H .opposed .turn q b)));
-          };
-        }
+  -- the link at position p of the dart for place `head` was followed
+  pub opposed-step : (s : List ℕ) (size head p end : ℕ) → S .places ≤ 4 → p < 4 → Opposed E s size (4 * head + p) end → Follows E s size end head p
+      → Opposed E s size (4 * head + (p + 1)) end
+  opposed-step s size head p end few l O f = record {
+    taken = O .taken;
+    fits = O .fits;
+    alive = O .alive;
+    first = O .first;
+    images = O .images;
+    links = λ r q k h. by-cases (decLt (4 * r + q) (4 * head + p))
+        (λ old. O .links r q k old)
+        (λ new.
+        let row : r ≡ head = omega arith in
+        let position : q ≡ p = omega arith in
+        subst (λ (u : ℕ). Follows E s size end u q) (sym row) (subst (Follows E s size end head) (sym position) f));
+  }
 
--- ---- where there is a match
+  -- the links at all positions were followed
+  pub opposed-row : (s : List ℕ) (size head p end : ℕ) → S .places ≤ p → p ≤ 4 → Opposed E s size (4 * head + p) end → Opposed E s size (4 * (head + 1)) end
+  opposed-row s size head p end few l O = record {
+    taken = O .taken;
+    fits = O .fits;
+    alive = O .alive;
+    first = O .first;
+    images = O .images;
+    links = λ r q k h. O .links r q k (omega arith);
+  }
 
 module _ {N : ℕ} {t : List ℕ} (A : At N t) {s : List ℕ} {size : ℕ} (W : WalkedAt (site A) s size) where
   abbrev E₁ : Site
   E₁ = site A
 
-  open Site E₁ using (map as m, scheme as S, orbit as O)
+  open Site E₁ using (map as m, scheme as S)
   open Sound (A .sound) using (accepted, well)
 
   abbrev h : ℕ
@@ -124,16 +154,35 @@ module _ {N : ℕ} {t : List ℕ} (A : At N t) {s : List ℕ} {size : ℕ} (W : 
   abbrev place₁ : ℕ → ℕ
   place₁ r = place N s r
 
-  -- the dart for a place is live
-  pub turn-live : (r y : ℕ) → r < size → Opposed E₁ s size r → Taken N s (size + r) → Turn E₁ s size r y → LiveDart m y
-  turn-live r y b o T (inl e) = subst (LiveDart m) (sym (e .1)) (A .sound .other)
-  turn-live r y b o T (inr f) =
-      let q = next N s r (f .1 .position) in
-      let x = place₁ (size + q) in
-      let slot : x < N = T .slot (size + q) (omega (arith, f .1 .back)) in
-      let live = o .alive q (f .1 .back) in
-      let low = accepted .shaped .orbitDims (f .1 .position) (f .1 .below) in
-      subst (LiveDart m) (sym (f .1 .is)) (record { slot = well .below x slot live _ low; alive = well .alive x slot live _ low })
+  -- ---- the places come in turn
+
+  module _ {c end : ℕ} (O : Opposed E₁ s size c end) (some : 1 ≤ end) where
+    -- a place stands in the column before its links are followed
+    pub stands : (head : ℕ) → head < size → 4 * head ≤ c → head < end
+    stands head b l = by-cases (ℕ-discrete head 0)
+        (λ z. omega arith)
+        (λ ne.
+        let w = W .reached head (omega arith) b in
+        let o = O .links (w .from) (w .position) (w .below) (omega (arith, w .before, w .below, places-few A)) in
+        omega (arith, o .to, w .leads))
+
+    -- the next link leads to a place that stands in the column, or to the next one
+    pub in-turn : (head p : ℕ) → head < size → p < S .places → c ≡ 4 * head + p → next N s head p ≤ end
+    in-turn head p b l e = by-cases (decLt end (next N s head p))
+        (λ late.
+        let w = W .reached end some (omega (arith, W .links head p b l .0)) in
+        let o = O .links (w .from) (w .position) (w .below) (omega (arith, w .first head b p l late)) in
+        absurd (omega (arith, o .to, w .leads)))
+        (λ near. omega arith)
+
+    -- the link of a dart of the column leads to a live dart
+    pub link-live : (q p : ℕ) → q < end → p < S .places → LiveDart m (m .link (orbitDim S p) (place₁ (size + q)))
+    link-live q p b l =
+        let slot : place₁ (size + q) < N = O .taken .slot (size + q) (omega arith) in
+        let low = accepted .shaped .orbitDims p l in
+        record { slot = well .below _ slot (O .alive q b) _ low; alive = well .alive _ slot (O .alive q b) _ low }
+
+  -- ---- where there is a match
 
   module _ (q : matches E₁ ≡ true) where
     good₁ : GoodOrbit E₁
@@ -142,31 +191,15 @@ module _ {N : ℕ} {t : List ℕ} (A : At N t) {s : List ℕ} {size : ℕ} (W : 
     assignment₁ : Assignment E₁ (image E₁)
     assignment₁ = match-assigns E₁ accepted good₁ well q
 
-    -- where the darts for the earlier places are the images of the second hook, so is that for place r
-    turn-image : (r y : ℕ) → r < size → ((p : ℕ) → p < r → place₁ (size + p) ≡ image E₁ (place₁ p) h) → Turn E₁ s size r y
-        → y ≡ image E₁ (place₁ r) h
-    turn-image r y b each (inl e) =
-        e .1 ∙ sym (assignment₁ .second) ∙ ap (λ (x : ℕ). image E₁ x h) (sym (W .start) ∙ ap place₁ (sym (e .0)))
-    turn-image r y b each (inr f) =
-        let p = f .1 .position in
-        let n = next N s r p in
-        let dim = orbitDim S p in
-        let led = W .links r p b (f .1 .below) in
-        let low = accepted .shaped .orbitDims p (f .1 .below) in
-        let home : m .link dim (place₁ n) ≡ place₁ r =
-        ap (m .link dim) (led .1) ∙ well .back (place₁ r) (W .slot r b) (good₁ .alive (place₁ r) (place-in W r b)) dim low in
-        f .1 .is ∙ ap (m .link dim) (each n (f .1 .back))
-        ∙ second-link E₁ accepted good₁ (image E₁) assignment₁ (place₁ n) p (place-in W n (led .0)) (f .1 .below)
-        ∙ ap (λ (x : ℕ). image E₁ x h) home
+    -- the dart that the call names is the image for the first place
+    pub first-image : A .other ≡ image E₁ (place₁ 0) h
+    first-image = sym (assignment₁ .second) ∙ ap (λ (x : ℕ). image E₁ x h) (sym (W .start))
 
-    images-below : (b r : ℕ) → r ≤ size → Opposed E₁ s size r → (p : ℕ) → p < b → p < r → place₁ (size + p) ≡ image E₁ (place₁ p) h
-    images-below zero r few o p l k = absurd (not-suc-le-zero l)
-    images-below (suc b) r few o p l k =
-        turn-image p (place₁ (size + p)) (omega arith) (λ i c. images-below b r few o i (omega arith) (omega arith)) (o .turn p k)
-
-    -- what stands in the column of the second hook is its image
-    pub opposed-image : (r : ℕ) → r ≤ size → Opposed E₁ s size r → (p : ℕ) → p < r → place₁ (size + p) ≡ image E₁ (place₁ p) h
-    opposed-image r few o p k = images-below (suc p) r few o p (omega arith) k
+    -- the link of the image for place r leads to the image for the place to which the link leads within the orbit
+    pub link-image : (r p x : ℕ) → r < size → p < S .places → x ≡ image E₁ (place₁ r) h → m .link (orbitDim S p) x ≡ image E₁ (place₁ (next N s r p)) h
+    link-image r p x b l e =
+        ap (m .link (orbitDim S p)) e ∙ second-link E₁ accepted good₁ (image E₁) assignment₁ (place₁ r) p (place-in W r b) l
+        ∙ ap (λ (x : ℕ). image E₁ x h) (sym (W .links r p b l .1))
 
     -- a pair with the image of the second hook at place r is that pair
     pair-once : (r u v : ℕ) → r < size → u < size → v < S .nodes → has S left v ≡ true → image E₁ (place₁ u) v ≡ image E₁ (place₁ r) h
@@ -176,108 +209,271 @@ module _ {N : ℕ} {t : List ℕ} (A : At N t) {s : List ℕ} {size : ℕ} (W : 
         (place₁ r) (W .slot r b) (place-in W r b) h (accepted .shaped .secondBelow) (accepted .hooks h (second-hook S) .kind) e in
         (place-once W u r l b (w .0), w .1)
 
-    -- a dart for place r that has a place already is the image of two pairs
-    pub turn-twice : (r y : ℕ) → r < size → 1 ≤ h → Taken N s (size + r) → Opposed E₁ s size r → Turn E₁ s size r y → 1 ≤ mark s y → ⊥
-    turn-twice r y b some T o f a =
+    -- the image for the next place has no place yet
+    image-new : (c end y : ℕ) → Opposed E₁ s size c end → end < size → 1 ≤ h → y < N → y ≡ image E₁ (place₁ end) h → 1 ≤ mark s y → ⊥
+    image-new c end y O b some low is a =
         let e = mark s y - 1 in
-        let there = T .found y (turn-live r y b o T f .slot) a in
-        let is = turn-image r y b (opposed-image r (omega arith) o) f in
+        let there = O .taken .found y low a in
         by-cases (decLt e size)
         (λ old.
-        let w = pair-once r e firstHook b old (accepted .shaped .nodesSome) (accepted .hooks firstHook (first-hook S) .kind)
+        let w = pair-once end e firstHook b old (accepted .shaped .nodesSome) (accepted .hooks firstHook (first-hook S) .kind)
         (assignment₁ .hook (place₁ e) (W .slot e old) (place-in W e old) ∙ there .1 ∙ is) in
         absurd (omega (arith, w .1)))
         (λ new.
         let u = e - size in
-        let l : u < r = omega (arith, there .0) in
+        let l : u < end = omega (arith, there .0) in
         let at : e ≡ size + u = omega arith in
-        let w = pair-once r u h b (omega arith) (accepted .shaped .secondBelow) (accepted .hooks h (second-hook S) .kind)
-        (sym (opposed-image r (omega arith) o u l) ∙ ap place₁ (sym at) ∙ there .1 ∙ is) in
+        let w = pair-once end u h b (omega arith) (accepted .shaped .secondBelow) (accepted .hooks h (second-hook S) .kind)
+        (sym (O .images q u l) ∙ ap place₁ (sym at) ∙ there .1 ∙ is) in
         absurd (omega (arith, w .0)))
 
--- ---- `turn`
+  -- where y, which would be the image for place r, cannot stand for it, there is no match
+  pub unmet : (c end r y : ℕ) → Opposed E₁ s size c end → r < size → 1 ≤ h → y < N → (matches E₁ ≡ true → y ≡ image E₁ (place₁ r) h)
+      → ((r < end) × (place₁ (size + r) ≢ y)) ⊎ ((r ≡ end) × (1 ≤ mark s y)) → matches E₁ ≡ false
+  unmet c end r y O b some low is u = ⊎-elim
+      (λ q. absurd (⊎-elim
+      (λ v. v .1 (O .images q r (v .0) ∙ sym (is q)))
+      (λ v. image-new q c end y O (omega (arith, v .0)) some low (is q ∙ ap (λ (z : ℕ). image E₁ (place₁ z) h) (v .0)) (v .1))
+      u))
+      (λ q. q)
+      (true-or-false (matches E₁))
 
-module _ {N : ℕ} {t s : List ℕ} {size : ℕ} {dims : List ℕ} {k other r : ℕ} (T : Turning N t s size dims k other r) where
-  pub few-places : k ≤ 4
-  few-places = omega (arith, T .placesAre, places-few (T .at))
+-- ---- the loop of `expand`
 
-  -- a link leads back from each place but the first
-  pub leads-back : (r ≡ 0 → ⊥) → (p : ℕ) × (p < k) × (next N s r p < r)
-  leads-back ne =
-      let some : 1 ≤ r = by-cases (ℕ-discrete r 0) (λ z. absurd (ne z)) (λ z. omega arith) in
-      let o = T .walked .earlier r some (T .low) in
-      (o .0, omega (arith, o .1, T .placesAre), o .2)
-
-  pub turn-first : r ≡ 0 → Turn (site (T .at)) s size r other
-  turn-first e = inl (e, T .otherIs)
-
-  -- p, q, i, x and y are what is found and read at place r
-  module _ (ne : r ≡ 0 → ⊥) (p q : ℕ) (b : p < k) (back : next N s r p < r) (a : q ≡ getD s (4 * N + 4 * r + p) 0) where
-    pub earlier-place : q < r
-    unfolding next
-    earlier-place = rw a back
-
-    pub dim-low : (i : ℕ) → i ≡ getD dims p 0 → i ≤ 3
-    dim-low i c =
-        let n3 = small (T .at .scheme) (T .at .sound .accepted .shaped) in
-        let low = T .at .sound .accepted .shaped .orbitDims p (omega (arith, T .placesAre)) in
-        let same : i ≡ orbitDim (T .at .scheme) p = c ∙ ap (λ (l : List ℕ). getD l p 0) (T .dimsAre) in
-        omega arith
-
-    module _ (x : ℕ) (e : x ≡ getD s (N + size + q) 0) where
-      x-is : x ≡ place N s (size + next N s r p)
-      unfolding next place
-      x-is =
-          let same : N + size + getD s (4 * N + 4 * r + p) 0 ≡ N + (size + getD s (4 * N + 4 * r + p) 0) = omega arith in
-          e ∙ ap (λ (z : ℕ). getD s (N + size + z) 0) a ∙ ap (λ (z : ℕ). getD s z 0) same
-
-      pub x-slot : x < N
-      x-slot = rw x-is (T .taken .slot (size + next N s r p) (omega arith))
-
-      pub turn-read : (i y : ℕ) → i ≡ getD dims p 0 → y ≡ site (T .at) .map .link i x → Turn (site (T .at)) s size r y
-      turn-read i y c f = inr (
-        by-cases (ℕ-discrete r 0) (λ z. absurd (ne z)) (λ z. omega arith),
-        record {
-          position = p;
-          below = omega (arith, T .placesAre);
-          back = back;
-          is = f ∙ ap₂ (site (T .at) .map .link) (c ∙ ap (λ (l : List ℕ). getD l p 0) (T .dimsAre)) x-is;
-        },
-      )
-
--- ---- the loop of `opposite`
-
-module _ {N : ℕ} {t s : List ℕ} {size : ℕ} {dims : List ℕ} {k other roots : ℕ} (R : BeforeHanging N t s size dims k other roots) where
+module _ {N : ℕ} {t s : List ℕ} {size : ℕ} {dims : List ℕ} {k head tail : ℕ} (T : Retracing N t s size dims k head tail) where
   abbrev E₂ : Site
-  E₂ = site (R .at)
+  E₂ = site (T .at)
 
-  -- the orbit stands where it stood, in a store with further places
-  pub still-walked : {s′ : List ℕ} {end : ℕ} → Taken N s′ end → size ≤ end → Longer N s s′ size → WalkedAt E₂ s′ size
-  still-walked {s′} {end} t′ more l = walked-kept (E₂ .map) (E₂ .scheme .places) (orbitDim (E₂ .scheme)) (E₂ .dart) s s′ size (places-few (R .at))
-      (R .walked) (longer-kept N s s′ size l end (R .taken) t′ more)
+  open Site E₂ using (map as m₂, scheme as S₂)
 
-  pub hanging-walked : {s′ : List ℕ} {r : ℕ} → Hanging E₂ s s′ size r → WalkedAt E₂ s′ size
-  hanging-walked H = still-walked (H .taken) (omega arith) (H .longer)
+  pub few-positions : k ≤ 4
+  few-positions = omega (arith, T .placesAre, places-few (T .at))
 
-  pub hung-walked : {s′ : List ℕ} → Hung E₂ s′ size roots → Longer N s s′ size → WalkedAt E₂ s′ size
-  hung-walked H l =
-      let some : 1 ≤ roots = omega (arith, R .rootsAre, roots-few (R .at .scheme .second) .0) in
-      still-walked (H .taken) (let e = row-end size 0 roots some in omega arith) l
+  pub head-stands : head < tail
+  head-stands = stands (T .at) (T .walked) (T .opposed) (T .some) head (T .low) (omega arith)
 
-  abbrev pub turning : {s′ : List ℕ} {r : ℕ} → Hanging E₂ s s′ size r → r < size → Turning N t s′ size dims k other r
-  turning H h = record {
-    at = R .at;
-    walked = hanging-walked H;
-    taken = H .taken;
-    opposed = H .opposed;
-    low = h;
-    dimsAre = R .dimsAre;
-    placesAre = R .placesAre;
-    otherIs = R .otherIs;
+  pub expand-first : Opposed E₂ s size (4 * head + 0) tail × Longer N s s (size + tail)
+  expand-first =
+      let same : 4 * head + 0 ≡ 4 * head = omega arith in
+      (rw same (T .opposed), record { places = λ e h. refl; rest = λ i h. refl })
+
+  -- x is the dart for place `head`
+  module _ (x : ℕ) (a : x ≡ getD s (N + size + head) 0) where
+    x-is : x ≡ place N s (size + head)
+    x-is = column-read N s size head x a
+
+    pub x-slot : x < N
+    x-slot = rw x-is (T .opposed .taken .slot (size + head) (let b = head-stands in omega arith))
+
+    -- i is the dimension at position p
+    module _ (p i : ℕ) (b : p < k) (c : i ≡ getD dims p 0) where
+      inside : p < S₂ .places
+      inside = omega (arith, T .placesAre)
+
+      i-is : i ≡ orbitDim S₂ p
+      i-is = c ∙ ap (λ (l : List ℕ). getD l p 0) (T .dimsAre)
+
+      pub dim-low : i ≤ 3
+      dim-low = omega (arith, i-is, small S₂ (T .at .sound .accepted .shaped), T .at .sound .accepted .shaped .orbitDims p inside)
+
+      -- y and q are the dart and the place to which the link leads
+      module _ {s′ : List ℕ} {end : ℕ} (O : Opposed E₂ s′ size (4 * head + p) end) (L : Longer N s s′ (size + tail)) (grown : tail ≤ end)
+          (y q : ℕ) (d : y ≡ m₂ .link i x) (e : q ≡ getD s′ (4 * N + 4 * head + p) 0) where
+        walked′ : WalkedAt E₂ s′ size
+        walked′ = still-walked (T .at) (T .walked) (T .opposed .taken) (omega arith) L (O .taken) (omega arith)
+
+        some′ : 1 ≤ end
+        some′ = omega (arith, T .some)
+
+        q-is : q ≡ next N s′ head p
+        unfolding next
+        q-is = e
+
+        y-is : y ≡ m₂ .link (orbitDim S₂ p) (place N s′ (size + head))
+        y-is = let low = head-stands in d ∙ ap₂ (m₂ .link) i-is (x-is ∙ sym (L .places (size + head) (omega arith)))
+
+        y-live : LiveDart m₂ y
+        y-live = let low = head-stands in subst (LiveDart m₂) (sym y-is) (link-live (T .at) walked′ O some′ head p (omega arith) inside)
+
+        pub y-slot : y < N
+        y-slot = y-live .slot
+
+        pub q-next : q ≤ end
+        q-next = let l = in-turn (T .at) walked′ O some′ head p (T .low) inside refl in omega (arith, q-is)
+
+        q-low : q < size
+        q-low = omega (arith, q-is, walked′ .links head p (T .low) inside .0)
+
+        y-image : matches E₂ ≡ true → y ≡ image E₂ (place N s′ q) (S₂ .second)
+        y-image z =
+            let low = head-stands in
+            y-is ∙ link-image (T .at) walked′ z head p _ (T .low) inside (O .images z head (omega arith))
+            ∙ ap (λ (r : ℕ). image E₂ (place N s′ r) (S₂ .second)) (sym q-is)
+
+        -- y stands for place q already
+        step-old : q < end → place N s′ (size + q) ≡ y → Opposed E₂ s′ size (4 * head + (p + 1)) end
+        step-old below here =
+            let low = head-stands in
+            opposed-step E₂ s′ size head p end (places-few (T .at)) (omega (arith, few-positions)) O record {
+              from = omega arith;
+              to = omega (arith, q-is);
+              is = sym y-is ∙ sym here ∙ ap (λ (r : ℕ). place N s′ (size + r)) q-is;
+            }
+
+        -- y takes the next place, which is q
+        step-new : {s″ : List ℕ} → q ≡ end → Pushed N s′ (size + end) y s″ → Longer N s′ s″ (size + end) → Opposed E₂ s″ size (4 * head + (p + 1)) (end + 1)
+        step-new {s″} last pushed more =
+            let low = head-stands in
+            let grows : Opposed E₂ s″ size (4 * head + p) (end + 1) =
+            opposed-push E₂ s′ size (4 * head + p) end y O (omega (arith, q-low)) y-live (λ z. absurd (omega (arith, some′)))
+            (λ z. y-image z ∙ ap (λ (r : ℕ). image E₂ (place N s′ r) (S₂ .second)) last) s″ pushed in
+            let here : place N s″ (size + end) ≡ y =
+            ap (λ (z : List ℕ). place N z (size + end)) (pushed .is) ∙ pushed-place N s′ (size + end) y (O .taken) (y-live .slot) in
+            let same : next N s″ head p ≡ end = next-longer N s′ s″ (size + end) more head p ∙ sym q-is ∙ last in
+            opposed-step E₂ s″ size head p (end + 1) (places-few (T .at)) (omega (arith, few-positions)) grows record {
+              from = omega arith;
+              to = omega (arith, same);
+              is = ap (m₂ .link (orbitDim S₂ p)) (more .places (size + head) (omega arith)) ∙ sym y-is ∙ sym here
+                  ∙ ap (λ (r : ℕ). place N s″ (size + r)) (sym same);
+            }
+
+        pub expand-more : {s″ : List ℕ} {end′ : ℕ} → Met N s′ size end q y s″ end′ → (end′ ≡ 0 → ⊥)
+            → (tail ≤ end′) × (Opposed E₂ s″ size (4 * head + (p + 1)) end′ × Longer N s s″ (size + tail))
+        expand-more (inl v) ne = (omega (arith, v .0), rw (v .0, v .1) (step-old (v .2) (v .3), L))
+        expand-more {s″} (inr (inl v)) ne =
+            let more = pushed-longer N s′ s″ (size + end) y (y-live .slot) (v .2) in
+            let longer = longer-trans N s s′ (size + tail) L s″ (longer-less N s′ s″ (size + end) more (size + tail) (omega arith)) in
+            (omega (arith, v .0), rw (v .0) (step-new (v .1) (v .2) more, longer))
+        expand-more (inr (inr v)) ne = absurd (ne (v .0))
+
+        pub expand-none : {s″ : List ℕ} {end′ : ℕ} → Met N s′ size end q y s″ end′ → end′ ≡ 0 → matches E₂ ≡ false
+        expand-none (inl v) z = absurd (omega (arith, v .0, some′))
+        expand-none (inr (inl v)) z = absurd (omega (arith, v .0))
+        expand-none (inr (inr v)) z = unmet (T .at) walked′ (4 * head + p) end q y O q-low (T .named) y-slot y-image (v .2)
+
+  pub expand-done : {s′ : List ℕ} {p end : ℕ} → Opposed E₂ s′ size (4 * head + p) end → Longer N s s′ (size + tail) → tail ≤ end → p ≡ k
+      → Retraced E₂ s s′ size tail (head + 1) end
+  expand-done {s′} {p} {end} O L grown e = record {
+    done = λ some. (grown, opposed-row E₂ s′ size head p end (omega (arith, T .placesAre)) (omega (arith, few-positions)) O, L);
+    none = λ z. absurd (omega (arith, T .some));
   }
 
-  pub hanging-live : (s′ : List ℕ) (r y : ℕ) → r < size → Hanging E₂ s s′ size r → Turn E₂ s′ size r y → LiveDart (E₂ .map) y
-  hanging-live s′ r y b H f = turn-live (R .at) (hanging-walked H) r y b (H .opposed) (H .taken) f
+-- ---- the loop of `retrace`
+
+module _ {N : ℕ} {t s : List ℕ} {size : ℕ} {dims : List ℕ} {k tail : ℕ} (T : Retracing N t s size dims k 0 tail) where
+  abbrev E₃ : Site
+  E₃ = site (T .at)
+
+  pub retrace-first : Retraced E₃ s s size tail 0 tail
+  retrace-first = record {
+    done = λ some. (omega arith, T .opposed, record { places = λ e h. refl; rest = λ i h. refl });
+    none = λ z. absurd (omega (arith, T .some));
+  }
+
+  module _ {s′ : List ℕ} {head end : ℕ} (D : Retraced E₃ s s′ size tail head end) (some : 1 ≤ end) where
+    abbrev O₃ : Opposed E₃ s′ size (4 * head) end
+    O₃ = D .done some .1
+
+    abbrev walked₃ : WalkedAt E₃ s′ size
+    walked₃ = still-walked (T .at) (T .walked) (T .opposed .taken) (omega arith) (D .done some .2) (O₃ .taken) (omega (arith, D .done some .0))
+
+    abbrev pub retracing : head < size → Retracing N t s′ size dims k head end
+    retracing b = record {
+      at = T .at;
+      walked = walked₃;
+      named = T .named;
+      opposed = O₃;
+      some = some;
+      low = b;
+      dimsAre = T .dimsAre;
+      placesAre = T .placesAre;
+    }
+
+    pub retrace-more : {s″ : List ℕ} {end′ : ℕ} → Retraced E₃ s′ s″ size end (head + 1) end′ → Retraced E₃ s s″ size tail (head + 1) end′
+    retrace-more {s″} F = record {
+      done = λ l.
+          let d = D .done some in
+          let f = F .done l in
+          (omega (arith, d .0, f .0), f .1, longer-trans N s s′ (size + tail) (d .2) s″ (longer-less N s′ s″ (size + end) (f .2) (size + tail) (omega (arith, d .0))));
+      none = F .none;
+    }
+
+    -- at the end every place has its dart
+    pub retrace-done : head ≡ size → RetracedAll E₃ s s′ size true
+    retrace-done e = record {
+      done = λ q.
+          let last = stands (T .at) walked₃ O₃ some (size - 1) (omega (arith, T .low)) (omega arith) in
+          let full : end ≡ size = omega (arith, O₃ .fits) in
+          (rw (e, full) at O₃, longer-less N s s′ (size + tail) (D .done some .2) size (omega arith));
+      none = λ q. absurd (true≢false q);
+    }
+
+  pub retrace-none : {s′ : List ℕ} {head end : ℕ} → Retraced E₃ s s′ size tail head end → end ≡ 0 → RetracedAll E₃ s s′ size false
+  retrace-none D z = record { done = λ q. absurd (true≢false (sym q)); none = λ q. D .none z }
+
+-- ---- `opposite`
+
+module _ {N : ℕ} {t s : List ℕ} {size : ℕ} {dims : List ℕ} {k other roots : ℕ} (R : BeforeHanging N t s size dims k other roots) where
+  abbrev E₄ : Site
+  E₄ = site (R .at)
+
+  pub other-slot : other < N
+  other-slot = rw (R .otherIs) (R .at .sound .other .slot)
+
+  pub hung-walked : {s′ : List ℕ} → Hung E₄ s′ size roots → Longer N s s′ size → WalkedAt E₄ s′ size
+  hung-walked H l =
+      let some : 1 ≤ roots = omega (arith, R .rootsAre, roots-few (R .at .scheme .second) .0) in
+      still-walked (R .at) (R .walked) (R .taken) (omega arith) l (H .taken) (let e = row-end size 0 roots some in omega arith)
+
+  -- the dart that the call names takes the first place, if it has none yet
+  module _ (two : roots ≡ 1 → ⊥) {s′ : List ℕ} {tail : ℕ} (M : Met N s size 0 0 other s′ tail) where
+    pub named : 1 ≤ R .at .scheme .second
+    named = second-named _ (λ z. two (R .rootsAre ∙ z)) .1
+
+    other-image : matches E₄ ≡ true → other ≡ image E₄ (place N s 0) (R .at .scheme .second)
+    other-image q = R .otherIs ∙ first-image (R .at) (R .walked) q
+
+    pub first-met : (tail ≡ 0 → ⊥) → (1 ≤ tail) × (Opposed E₄ s′ size (4 * 0) tail × Longer N s s′ size)
+    first-met ne = ⊎-elim
+        (λ v. absurd (omega (arith, v .2)))
+        (λ w. ⊎-elim
+        (λ v.
+        let live : LiveDart (E₄ .map) other = subst (LiveDart (E₄ .map)) (sym (R .otherIs)) (R .at .sound .other) in
+        let P = opposed-push E₄ s size (4 * 0) 0 other (opposed-none E₄ s size (R .taken)) (R .walked .some) live (λ z. R .otherIs) other-image s′ (v .2) in
+        let more = pushed-longer N s s′ (size + 0) other (live .slot) (v .2) in
+        (omega (arith, v .0), (rw (v .0) P, longer-less N s s′ (size + 0) more size (omega arith))))
+        (λ v. absurd (ne (v .0)))
+        w)
+        M
+
+    pub first-unmet : tail ≡ 0 → matches E₄ ≡ false
+    first-unmet z = ⊎-elim
+        (λ v. absurd (omega (arith, v .2)))
+        (λ w. ⊎-elim
+        (λ v. absurd (omega (arith, v .0)))
+        (λ v. unmet (R .at) (R .walked) (4 * 0) 0 0 other (opposed-none E₄ s size (R .taken)) (R .walked .some) named other-slot other-image (v .2))
+        w)
+        M
+
+    abbrev pub ready : (tail ≡ 0 → ⊥) → Retracing N t s′ size dims k 0 tail
+    ready ne = record {
+      at = R .at;
+      walked = let f = first-met ne .1 in
+          still-walked (R .at) (R .walked) (R .taken) (omega arith) (f .1) (f .0 .taken) (omega arith);
+      named = named;
+      opposed = first-met ne .1 .0;
+      some = first-met ne .0;
+      low = R .walked .some;
+      dimsAre = R .dimsAre;
+      placesAre = R .placesAre;
+    }
+
+    -- both hooks have their columns
+    pub hung-both : {s″ : List ℕ} → (tail ≡ 0 → ⊥) → Opposed E₄ s″ size (4 * size) size × Longer N s′ s″ size → Hung E₄ s″ size roots × Longer N s s″ size
+    hung-both {s″} ne D =
+        let both : roots ≡ 2 = R .rootsAre ∙ second-named (R .at .scheme .second) (λ z. two (R .rootsAre ∙ z)) .0 in
+        let rows : roots * size ≡ size + size = ap (λ (z : ℕ). z * size) both ∙ omega arith in
+        (record { taken = rw rows (D .0 .taken); second = λ z. D .0 }, longer-trans N s s′ size (first-met ne .1 .1) s″ (D .1))
 
 module _ {N : ℕ} {t s : List ℕ} {size : ℕ} {dims : List ℕ} {k other roots : ℕ} where
   -- no second hook
@@ -293,32 +489,14 @@ module _ {N : ℕ} {t s : List ℕ} {size : ℕ} {dims : List ℕ} {k other root
     none = λ q. absurd (true≢false q);
   }
 
-  module _ (two : roots ≡ 1 → ⊥) {s′ : List ℕ} {r : ℕ}
-      (H : (R : BeforeHanging N t s size dims k other roots) → Hanging (site (R .at)) s s′ size r) where
-    -- w is the mark of the dart for place r
-    pub hung-clash : r < size → (y w : ℕ) → ((R : BeforeHanging N t s size dims k other roots) → Turn (site (R .at)) s′ size r y)
-        → w ≡ getD s′ y 0 → (w ≡ 0 → ⊥) → HungAll N t s s′ size dims k other roots false
-    unfolding mark
-    hung-clash b y w f e ne = record {
-      done = λ q. absurd (true≢false (sym q));
-      none = λ q R. ⊎-elim
-          (λ m.
-          let some : 1 ≤ R .at .scheme .second = second-named _ (λ z. two (R .rootsAre ∙ z)) .1 in
-          let marked : 1 ≤ getD s′ y 0 = by-cases (ℕ-discrete w 0) (λ z. absurd (ne z)) (λ z. omega arith) in
-          absurd (turn-twice (R .at) (hanging-walked R (H R)) m r y b some (H R .taken) (H R .opposed) (f R) marked))
-          (λ m. m)
-          (true-or-false (matches (site (R .at))));
-    }
+  module _ (two : roots ≡ 1 → ⊥) {s′ : List ℕ} {tail : ℕ} (M : Met N s size 0 0 other s′ tail) where
+    -- the dart that the call names has a place in the orbit
+    pub hung-none : tail ≡ 0 → HungAll N t s s′ size dims k other roots false
+    hung-none z = record { done = λ q. absurd (true≢false (sym q)); none = λ q R. first-unmet R two M z }
 
-    pub hung-done : r ≤ size → size ≤ r → HungAll N t s s′ size dims k other roots true
-    hung-done h l = record {
-      done = λ q R.
-          let same : r ≡ size = omega arith in
-          let G : Hanging (site (R .at)) s s′ size size = subst (Hanging (site (R .at)) s s′ size) same (H R) in
-          let both : roots ≡ 2 = R .rootsAre ∙ second-named (R .at .scheme .second) (λ z. two (R .rootsAre ∙ z)) .0 in
-          let rows : roots * size ≡ size + size = ap (λ (z : ℕ). z * size) both ∙ omega arith in (
-            record { taken = rw rows (G .taken); second = λ z. G .opposed },
-            G .longer,
-          );
-      none = λ q. absurd (true≢false q);
+    pub hung-all : {s″ : List ℕ} {w : Bool} (ne : tail ≡ 0 → ⊥) → ((T : Retracing N t s′ size dims k 0 tail) → RetracedAll (site (T .at)) s′ s″ size w)
+        → HungAll N t s s″ size dims k other roots w
+    hung-all ne D = record {
+      done = λ q R. hung-both R two M ne (D (ready R two M ne) .done q);
+      none = λ q R. D (ready R two M ne) .none q;
     }

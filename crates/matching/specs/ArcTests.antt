@@ -39,18 +39,20 @@ module _ (m : Map) (s : List ℕ) (size : ℕ) (dims cols : List ℕ) (j i from 
   unfoldable pub explicitTest : ℕ → Bool
   explicitTest t = ltb from (getD cols t 0) or eqb (getD dims j 0) i or follows m s size i from (getD cols t 0) (λ r. r)
 
-  -- the implicit arc of entry j at dimension i, at a position; those of node 0 hold in any orbit
-  unfoldable pub implicitTest : ℕ → Bool
-  implicitTest p = eqb j 0 or follows m s size i from from (λ r. next (m .slots) s r p)
+  -- the first `roots` entries are hooks
+  module _ (roots : ℕ) where
+    -- the implicit arc of entry j at dimension i, at a position; those of the hooks hold since their columns were walked along the links
+    unfoldable pub implicitTest : ℕ → Bool
+    implicitTest p = ltb j roots or follows m s size i from from (λ r. next (m .slots) s r p)
 
-  -- the arc with this code
-  unfoldable pub codeTest : ℕ → Bool
-  codeTest code = cond (eqb code 255) true (cond (ltb code 16) (explicitTest code) (implicitTest (code - 16)))
+    -- the arc with this code
+    unfoldable pub codeTest : ℕ → Bool
+    codeTest code = cond (eqb code 255) true (cond (ltb code 16) (explicitTest code) (implicitTest (code - 16)))
 
-module _ (m : Map) (s : List ℕ) (size : ℕ) (nodes dims codes cols : List ℕ) where
+module _ (m : Map) (s : List ℕ) (size : ℕ) (nodes dims : List ℕ) (roots : ℕ) (codes cols : List ℕ) where
   -- the arc of entry j at dimension i, if it has one
   unfoldable pub arcTest : ℕ → ℕ → Bool
-  arcTest j i = codeTest m s size dims cols j i (getD cols (getD nodes j 0) 0) (getD codes (4 * getD nodes j 0 + i) 0)
+  arcTest j i = codeTest m s size dims cols j i (getD cols (getD nodes j 0) 0) roots (getD codes (4 * getD nodes j 0 + i) 0)
 
   -- every arc below a bound, where k stands for entry k / 4 at dimension k % 4
   unfoldable pub arcsTest : ℕ → Bool

@@ -1,16 +1,17 @@
--- The column of the second hook: its first dart is the one that the call names, and any other follows from an earlier one as the orbit dart at its
--- place does. `opposite` of Match.antt is the same over a path from the dart.
+-- The column of the second hook. It is made along the links in the walk's order: step 4 × r + p follows the link at position p of the dart for place r.
+-- `opposite` of Match.antt is the same over a path from the dart.
 -- Assumes nothing.
 use Prim.Native.Nat.{ℕ, _+_, _*_, _≤_, _<_}
 use mathlib.Core.Path.{_≡_}
-use mathlib.Core.Logic.{_⊎_}
+use mathlib.Core.Logic.{_⊎_, _≢_}
 use mathlib.Core.Bool.{Bool, true, false}
 use mathlib.Core.List.{List}
 use lib.ListN.{getD}
 use Rattle.model.specs.Scheme.{orbitDim}
 use Rattle.model.specs.Site.{Site}
-use Rattle.model.specs.Match.{matches}
-use Rattle.orbit.specs.Store.{place, next, Taken}
+use Rattle.model.specs.Match.{image, matches}
+use Rattle.orbit.specs.Store.{mark, place, next, Taken}
+use Rattle.orbit.specs.Places.{Pushed}
 use Rattle.orbit.specs.At.{At, site, WalkedAt}
 use Rattle.conditions.specs.Tree.{rootsOf}
 
@@ -19,26 +20,34 @@ pub record Longer (N : ℕ) (s s′ : List ℕ) (end : ℕ) : Type 0 where
   pub places : (e : ℕ) → e < end → place N s′ e ≡ place N s e
   pub rest : (i : ℕ) → 2 * N ≤ i → getD s′ i 0 ≡ getD s i 0
 
--- y follows at place r of the orbit, where the column has its darts for the earlier places: over the link of a position that leads back to one of them
-pub record Follows (E : Site) (s : List ℕ) (size r y : ℕ) : Type 0 where
-  pub position : ℕ
-  pub below : position < E .scheme .places
-  pub back : next (E .map .slots) s r position < r
-  pub is : y ≡ E .map .link (orbitDim (E .scheme) position) (place (E .map .slots) s (size + next (E .map .slots) s r position))
+-- a column of `end` darts from the places `size` on has y for place q, or has no dart for it yet and y took the place, or neither can be, and the
+-- store stays: another dart stands for q, or y has a place already
+abbrev pub Met : ℕ → List ℕ → ℕ → ℕ → ℕ → ℕ → List ℕ → ℕ → Type 0
+Met N s size end q y s′ end′ =
+    ((end′ ≡ end) × (s′ ≡ s) × (q < end) × (place N s (size + q) ≡ y))
+    ⊎ (((end′ ≡ end + 1) × (q ≡ end) × Pushed N s (size + end) y s′)
+    ⊎ ((end′ ≡ 0) × (s′ ≡ s) × (((q < end) × (place N s (size + q) ≢ y)) ⊎ ((q ≡ end) × (1 ≤ mark s y)))))
 
--- y is the dart for place r
-abbrev pub Turn : Site → List ℕ → ℕ → ℕ → ℕ → Type 0
-Turn E s size r y = ((r ≡ 0) × (y ≡ E .other)) ⊎ ((1 ≤ r) × Follows E s size r y)
+-- the link at position p leads from the dart for place r as it leads within the orbit, both places being below `end`
+pub record Follows (E : Site) (s : List ℕ) (size end r p : ℕ) : Type 0 where
+  pub from : r < end
+  pub to : next (E .map .slots) s r p < end
+  pub is : E .map .link (orbitDim (E .scheme) p) (place (E .map .slots) s (size + r)) ≡ place (E .map .slots) s (size + next (E .map .slots) s r p)
 
--- from the places `size` on stand the first r darts of the column
-pub record Opposed (E : Site) (s : List ℕ) (size r : ℕ) : Type 0 where
-  pub alive : (q : ℕ) → q < r → E .map .state (place (E .map .slots) s (size + q)) ≡ 1
-  pub turn : (q : ℕ) → q < r → Turn E s size q (place (E .map .slots) s (size + q))
+-- after the steps below c the first `end` darts of the column stand from the places `size` on: live, the first the one that the call names, and where
+-- there is a match, each the image of its pair; the links of those steps lead within the column as they lead within the orbit
+pub record Opposed (E : Site) (s : List ℕ) (size c end : ℕ) : Type 0 where
+  pub taken : Taken (E .map .slots) s (size + end)
+  pub fits : end ≤ size
+  pub alive : (q : ℕ) → q < end → E .map .state (place (E .map .slots) s (size + q)) ≡ 1
+  pub first : 1 ≤ end → place (E .map .slots) s (size + 0) ≡ E .other
+  pub images : matches E ≡ true → (q : ℕ) → q < end → place (E .map .slots) s (size + q) ≡ image E (place (E .map .slots) s q) (E .scheme .second)
+  pub links : (r p : ℕ) → p < E .scheme .places → 4 * r + p < c → Follows E s size end r p
 
 -- the columns of the hooks: that of the first is the orbit, that of the second stands behind it, where there is one
 pub record Hung (E : Site) (s : List ℕ) (size roots : ℕ) : Type 0 where
   pub taken : Taken (E .map .slots) s (roots * size)
-  pub second : roots ≡ 2 → Opposed E s size size
+  pub second : roots ≡ 2 → Opposed E s size (4 * size) size
 
 -- what the column of the second hook starts from: the orbit in the store, the orbit type, the other dart, and how many hooks there are
 pub record BeforeHanging (N : ℕ) (t s : List ℕ) (size : ℕ) (dims : List ℕ) (k other roots : ℕ) : Type 0 where
@@ -50,22 +59,27 @@ pub record BeforeHanging (N : ℕ) (t s : List ℕ) (size : ℕ) (dims : List �
   pub otherIs : other ≡ at .other
   pub rootsAre : roots ≡ rootsOf (at .scheme .second)
 
--- what the dart for place r starts from: the orbit and the darts for the earlier places in the store, the orbit type and the other dart
-pub record Turning (N : ℕ) (t s : List ℕ) (size : ℕ) (dims : List ℕ) (k other r : ℕ) : Type 0 where
+-- what following the links of the dart for place `head` starts from: the orbit, and the column of a second hook with the darts met so far
+pub record Retracing (N : ℕ) (t s : List ℕ) (size : ℕ) (dims : List ℕ) (k head tail : ℕ) : Type 0 where
   pub at : At N t
   pub walked : WalkedAt (site at) s size
-  pub taken : Taken N s (size + r)
-  pub opposed : Opposed (site at) s size r
-  pub low : r < size
+  pub named : 1 ≤ at .scheme .second
+  pub opposed : Opposed (site at) s size (4 * head) tail
+  pub some : 1 ≤ tail
+  pub low : head < size
   pub dimsAre : dims ≡ at .scheme .orbit
   pub placesAre : k ≡ at .scheme .places
-  pub otherIs : other ≡ at .other
 
--- while the column is made: s is the store before it
-pub record Hanging (E : Site) (s s′ : List ℕ) (size r : ℕ) : Type 0 where
-  pub taken : Taken (E .map .slots) s′ (size + r)
-  pub longer : Longer (E .map .slots) s s′ size
-  pub opposed : Opposed E s′ size r
+-- the links of the darts for the places below `head` were followed, and the column, which had `tail` darts, has `end`; or else there is no match, and
+-- `end` is 0
+pub record Retraced (E : Site) (s s′ : List ℕ) (size tail head end : ℕ) : Type 0 where
+  pub done : 1 ≤ end → (tail ≤ end) × Opposed E s′ size (4 * head) end × Longer (E .map .slots) s s′ (size + tail)
+  pub none : end ≡ 0 → matches E ≡ false
+
+-- the column has its dart for every place, and all links were followed; or else there is no match
+pub record RetracedAll (E : Site) (s s′ : List ℕ) (size : ℕ) (whole : Bool) : Type 0 where
+  pub done : whole ≡ true → Opposed E s′ size (4 * size) size × Longer (E .map .slots) s s′ size
+  pub none : whole ≡ false → matches E ≡ false
 
 -- the hooks have their columns, or else there is no match
 pub record HungAll (N : ℕ) (t s s′ : List ℕ) (size : ℕ) (dims : List ℕ) (k other roots : ℕ) (whole : Bool) : Type 0 where

@@ -92,6 +92,7 @@ fn arc(
     size: usize,
     nodes: &[u8; 16],
     dims: &[u8; 16],
+    roots: usize,
     count: usize,
     codes: &[u8; 64],
     cols: &[usize; 16],
@@ -100,7 +101,7 @@ fn arc(
 ) -> bool
     requires { ⌜ Firm slots (now table) (now store) size (now nodes) (now codes) (now cols) count ⌝ }
     requires { ⌜ (j < count) × (i < 4) ⌝ }
-    ensures { λ r. ⌜ r ≡ arcTest (view slots (now (table .entry))) (now (store .entry)) size (now (nodes .entry)) (now (dims .entry)) (now (codes .entry)) (now (cols .entry)) j i ⌝ }
+    ensures { λ r. ⌜ r ≡ arcTest (view slots (now (table .entry))) (now (store .entry)) size (now (nodes .entry)) (now (dims .entry)) roots (now (codes .entry)) (now (cols .entry)) j i ⌝ }
 {
     let v = wide(nodes[j]);
     let code = wide(codes[4 * v + i]);
@@ -111,7 +112,7 @@ fn arc(
     if code < 16 {
         return explicit(slots, table, store, size, dims, cols, j, i, from, code);
     }
-    if j == 0 {
+    if j < roots {
         return true;
     }
     turned(slots, table, store, size, i, from, code - 16)
@@ -125,12 +126,13 @@ pub(crate) fn arcs(
     size: usize,
     nodes: &[u8; 16],
     dims: &[u8; 16],
+    roots: usize,
     count: usize,
     codes: &[u8; 64],
     cols: &[usize; 16],
 ) -> bool
     requires { ⌜ Firm slots (now table) (now store) size (now nodes) (now codes) (now cols) count ⌝ }
-    ensures { λ r. ⌜ r ≡ arcsTest (view slots (now (table .entry))) (now (store .entry)) size (now (nodes .entry)) (now (dims .entry)) (now (codes .entry)) (now (cols .entry)) (4 * count) ⌝ }
+    ensures { λ r. ⌜ r ≡ arcsTest (view slots (now (table .entry))) (now (store .entry)) size (now (nodes .entry)) (now (dims .entry)) roots (now (codes .entry)) (now (cols .entry)) (4 * count) ⌝ }
 {
     let mut k = 0;
     while k < 4 * count {
@@ -141,6 +143,7 @@ pub(crate) fn arcs(
             size,
             nodes,
             dims,
+            roots,
             count,
             codes,
             cols,

@@ -43,5 +43,16 @@ pub fn assign<'a>(
     ) {
         return false;
     }
-    arcs::arcs(slots, table, store, size, nodes, dims, count, codes, cols)
+    arcs::arcs(
+        slots,
+        table,
+        store,
+        size,
+        nodes,
+        dims,
+        roots,
+        count,
+        codes,
+        cols,
+    )
 }

@@ -1,57 +1,98 @@
-// The darts of the second hook: one that the call names for the first place of the orbit, and for each later place the dart to which the link
-// leads that leads there within the orbit.
+// The darts of the second hook: the one that the call names for the first place of the orbit, and for every other place the dart to which
+// the links lead as they lead there within the orbit. The links are followed in the walk's order, which gives the places in turn.
 use conditions::arcs::wide;
 use orbit::store::push;
 use orbit::store::word;
 use table::words::link;
-ghost use mathlib.Core.Path.{_≡_};
-ghost use Prim.Native.Nat.{ℕ, _*_, _<_, _≤_};
-ghost use lib.ListN.{length};
+ghost use Prim.Native.Nat.{_+_, _<_, _≤_};
 ghost use Rattle.model.specs.Map.{maxSlots};
-ghost use Rattle.orbit.specs.Store.{next};
+ghost use Rattle.orbit.specs.Store.{Taken};
 ghost use Rattle.orbit.specs.At.{site};
-ghost use Rattle.matching.specs.Opposite.{Turn, Turning, BeforeHanging, HungAll};
+ghost use Rattle.matching.specs.Opposite.{Met, Retracing, Retraced, RetracedAll, BeforeHanging, HungAll};
 
-// A position whose link leads from place q of the orbit to an earlier place.
-fn backward(slots: usize, store: &[u32], k: usize, q: usize) -> usize
-    requires { ⌜ (slots ≤ maxSlots) × (length (now store) ≡ 16 * slots) × (k ≤ 4) × (q < slots) ⌝ }
-    requires { ⌜ ((p : ℕ) × (p < k) × (next slots (now store) q p < q)) ⌝ }
-    ensures { λ r. ⌜ (r < k) × (next slots (now (store .entry)) q r < q) ⌝ }
+// Dart y is to stand for place q of the orbit. It takes the place `end` of the column if that is q, and stands there already if q is an
+// earlier one. It returns the new end, and 0 where another dart stands for q or y has a place already.
+fn meet(slots: usize, store: &mut [u32], size: usize, end: usize, q: usize, y: usize) -> usize
+    requires { ⌜ slots ≤ maxSlots ⌝ }
+    requires { ⌜ Taken slots (now store) (size + end) ⌝ }
+    requires { ⌜ (y < slots) × (q ≤ end) ⌝ }
+    ensures { λ r. ⌜ Met slots (now (store .entry)) size end q y (now (store .exit)) r ⌝ }
 {
-    let mut p = 0;
-    while p < k {
-        if word(store, 4 * slots + 4 * q + p) < q {
-            return p;
+    if q < end {
+        if word(store, slots + size + q) != y {
+            return 0;
         }
-        p += 1;
+        return end;
     }
-    0
+    if word(store, y) != 0 {
+        return 0;
+    }
+    push(slots, store, size + end, y);
+    end + 1
 }
 
-// The dart for place q, where those for the earlier places stand in the column: `other` for the first, else over a link that leads back.
-fn turn(
+// Follows the links of the dart that stands for place `head`. It returns the new end of the column, and 0 where there is no match.
+fn expand(
     slots: usize,
     table: &[u32],
-    store: &[u32],
+    store: &mut [u32],
     size: usize,
     dims: &[u8; 4],
     k: usize,
-    other: usize,
-    q: usize,
+    head: usize,
+    tail: usize,
 ) -> usize
-    requires { ⌜ Turning slots (now table) (now store) size (now dims) k other q ⌝ }
-    ensures { λ r. ⌜ ((T : Turning slots (now (table .entry)) (now (store .entry)) size (now (dims .entry)) k other q)
-        → Turn (site (T .at)) (now (store .entry)) size q r) ⌝ }
+    requires { ⌜ Retracing slots (now table) (now store) size (now dims) k head tail ⌝ }
+    ensures { λ r. ⌜ ((T : Retracing slots (now (table .entry)) (now (store .entry)) size (now (dims .entry)) k head tail)
+        → Retraced (site (T .at)) (now (store .entry)) (now (store .exit)) size tail (head + 1) r) ⌝ }
 {
-    if q == 0 {
-        return other;
+    let x = word(store, slots + size + head);
+    let at = 4 * slots + 4 * head;
+    let mut end = tail;
+    let mut p = 0;
+    // four turns, which the compiler writes out, left at the end of the orbit type
+    while p < 4 {
+        if p == k {
+            return end;
+        }
+        let y = link(slots, table, wide(dims[p]), x);
+        let q = word(store, at + p);
+        end = meet(slots, store, size, end, q, y);
+        if end == 0 {
+            return 0;
+        }
+        p += 1;
     }
-    let p = backward(slots, store, k, q);
-    let r = word(store, 4 * slots + 4 * q + p);
-    link(slots, table, wide(dims[p]), word(store, slots + size + r))
+    end
 }
 
-// The column of the second hook, where there is one, from the place `size` on; false where a dart has a place already.
+// Follows the links of the darts for all places, where the column has the first of them. It returns false where there is no match.
+fn retrace(
+    slots: usize,
+    table: &[u32],
+    store: &mut [u32],
+    size: usize,
+    dims: &[u8; 4],
+    k: usize,
+    tail: usize,
+) -> bool
+    requires { ⌜ Retracing slots (now table) (now store) size (now dims) k 0 tail ⌝ }
+    ensures { λ r. ⌜ ((T : Retracing slots (now (table .entry)) (now (store .entry)) size (now (dims .entry)) k 0 tail)
+        → RetracedAll (site (T .at)) (now (store .entry)) (now (store .exit)) size r) ⌝ }
+{
+    let mut end = tail;
+    let mut head = 0;
+    while head < size {
+        end = expand(slots, table, store, size, dims, k, head, end);
+        if end == 0 {
+            return false;
+        }
+        head += 1;
+    }
+    true
+}
+
+// The column of the second hook, where there is one, from the place `size` on; false where there is no match.
 pub(crate) fn opposite(
     slots: usize,
     table: &[u32],
@@ -68,14 +109,9 @@ pub(crate) fn opposite(
     if roots == 1 {
         return true;
     }
-    let mut q = 0;
-    while q < size {
-        let y = turn(slots, table, store, size, dims, k, other, q);
-        if word(store, y) != 0 {
-            return false;
-        }
-        push(slots, store, size + q, y);
-        q += 1;
+    let tail = meet(slots, store, size, 0, 0, other);
+    if tail == 0 {
+        return false;
     }
-    true
+    retrace(slots, table, store, size, dims, k, tail)
 }

@@ -16,7 +16,7 @@ use Rattle.model.specs.Map.{Map}
 use Rattle.model.specs.WellFormed.{WellFormed}
 use Rattle.model.specs.Orbit.{orbit, InOrbit, itself, onward}
 use Rattle.model.proofs.OrbitLaws.{reached-dart, orbit-iff}
-use Rattle.orbit.specs.Store.{mark, place, next, marked, among, Taken, Walked, Kept}
+use Rattle.orbit.specs.Store.{mark, place, next, marked, among, Taken, Reached, Walked, Kept}
 use Rattle.orbit.specs.Places.{Pushed}
 use Rattle.orbit.specs.Walk.{MoreTaken, Followed, Expanded}
 use Rattle.orbit.proofs.StoreLaws.{place-set-behind, taken-set-behind, pushed-place, pushed-place-other, pushed-other, among-at, among-of, among-all}
@@ -25,7 +25,7 @@ use Rattle.orbit.proofs.StoreLaws.{place-set-behind, taken-set-behind, 
 
 module _ (N : ℕ) (s : List ℕ) (end at y : ℕ) (behind : 2 * N ≤ at) (inside : at < 16 * N) where
   -- the place v of y is kept in the word `at`
-  kept-place : (a : List ℕ) (e v : ℕ) → MoreTaken N s end a e → ((j : ℕ) → end ≤ j → j < e → place N a j ≡ y)
+  kept-place : (a : List ℕ) (e v : ℕ) → MoreTaken N s end a e → ((j : ℕ) → end ≤ j → j < e → v ≡ j)
       → ((i : ℕ) → 2 * N ≤ i → getD a i 0 ≡ getD s i 0) → v < e → place N a v ≡ y → Followed N s end at y (set a at v) e
   kept-place a e v g new others l q =
       let here : getD (set a at v) at 0 ≡ v = getD-set-same a at v 0 (omega (arith, g .taken .long)) in
@@ -36,7 +36,7 @@ module _ (N : ℕ) (s : List ℕ) (end at y : ℕ) (behind : 2 * N ≤ at) (insi
           longer = g .longer;
           places = λ j h. same j (omega (arith, g .longer)) ∙ g .places j h;
         };
-        new = λ j h k. same j k ∙ new j h k;
+        new = λ j h k. here ∙ new j h k;
         leads = (rw here l, ap (place N (set a at v)) here ∙ same v l ∙ q);
         others = λ i h ne. getD-set-other a at i v 0 ne ∙ others i h;
       }
@@ -58,7 +58,7 @@ module _ (N : ℕ) (s : List ℕ) (end at y : ℕ) (behind : 2 * N ≤ at) (insi
           longer = omega arith;
           places = λ j h. ap (λ (z : List ℕ). place N z j) (p .is) ∙ pushed-place-other N s end y j l (λ q. absurd (omega arith));
         })
-        (λ j h k. let w : j ≡ end = omega arith in rw w here)
+        (λ j h k. omega arith)
         (λ i h. ap (λ (z : List ℕ). getD z i 0) (p .is) ∙ pushed-other N s end y i (λ q. absurd (omega arith)) (λ q. absurd (omega (arith, p .taken .fits))))
         (omega arith) here)
 
@@ -82,17 +82,28 @@ module _ (m : Map) (dim : ℕ → ℕ) (head : ℕ) (s : List ℕ) (tail : ℕ) 
       let g = x .grown in
       let h = f .grown in
       let led : y ≡ m .link (dim p) (place (m .slots) s head) = ey ∙ ap (m .link (dim p)) ex in
+      let same : (q : ℕ) → q < p → next (m .slots) b head q ≡ next (m .slots) a head q = λ q l. f .others _ (omega arith) (λ z. absurd (omega arith)) in
       record {
         grown = record { taken = h .taken; longer = omega arith; places = λ j l. h .places j (omega arith) ∙ g .places j l };
         new = λ j l u. by-cases (decLt j e)
-            (λ v. let w = x .new j l v in (w .0, omega (arith, w .1), h .places j v ∙ w .2))
-            (λ v. (p, omega arith, f .new j (omega arith) u ∙ led));
+            (λ v.
+            let w = x .new j l v in (
+              w .0,
+              omega (arith, w .1),
+              same (w .0) (w .1) ∙ w .2,
+              below-more _ p (λ q b o. w .3 q b (rw (same q b) at o)) (λ o. w .1),
+            ))
+            (λ v.
+            let here = f .new j (omega arith) u in (
+              p,
+              omega arith,
+              here,
+              below-more _ p (λ q b o. absurd (omega (arith, same q b, x .links q b .0))) (λ o. absurd (omega arith)),
+            ));
         links = below-more _ p
             (λ q l.
             let w = x .links q l in
-            let same : getD b (4 * m .slots + 4 * head + q) 0 ≡ getD a (4 * m .slots + 4 * head + q) 0 =
-            f .others _ (omega arith) (λ z. absurd (omega arith)) in
-            (omega (arith, w .0), ap (place (m .slots) b) same ∙ h .places _ (w .0) ∙ w .1))
+            (omega (arith, w .0, same q l), ap (place (m .slots) b) (same q l) ∙ h .places _ (w .0) ∙ w .1))
             (f .leads .0, f .leads .1 ∙ led);
         earlier = λ r q l u. f .others _ (omega arith) (λ z. absurd (omega arith)) ∙ x .earlier r q l u;
       }
@@ -100,14 +111,14 @@ module _ (m : Map) (dim : ℕ → ℕ) (head : ℕ) (s : List ℕ) (tail : ℕ) 
 -- ---- `walk`
 
 module _ (m : Map) (k : ℕ) (dim : ℕ → ℕ) (d : ℕ) where
-  -- at the loop's head: what stands at a place is reached, over a link from an earlier place, and the links of the first `head` darts lead to places
+  -- at the loop's head: what stands at a place is in the orbit, reached over a link of one of the first `head` darts, and the links of those lead to places
   pub record Walking (s : List ℕ) (head tail : ℕ) : Type 0 where
     pub taken : Taken (m .slots) s tail
     pub some : 1 ≤ tail
     pub passed : head ≤ tail
     pub start : place (m .slots) s 0 ≡ d
     pub sound : (e : ℕ) → e < tail → InOrbit m k dim d (place (m .slots) s e)
-    pub after : (e : ℕ) → 1 ≤ e → e < tail → (r : ℕ) × (r < e) × (p : ℕ) × (p < k) × (place (m .slots) s e ≡ m .link (dim p) (place (m .slots) s r))
+    pub reached : (e : ℕ) → 1 ≤ e → e < tail → (w : Reached (m .slots) k s head e) × (w .from < head)
     pub links : (r : ℕ) → r < head → (p : ℕ) → p < k → (next (m .slots) s r p < tail)
         × (place (m .slots) s (next (m .slots) s r p) ≡ m .link (dim p) (place (m .slots) s r))
 
@@ -120,7 +131,7 @@ module _ (m : Map) (k : ℕ) (dim : ℕ → ℕ) (d : ℕ) where
         passed = omega arith;
         start = here;
         sound = λ e h. let w : e ≡ 0 = omega arith in rw (w, here) itself;
-        after = λ e h l. absurd (omega arith);
+        reached = λ e h l. absurd (omega arith);
         links = λ r h. absurd (omega arith);
       }
 
@@ -135,12 +146,41 @@ module _ (m : Map) (k : ℕ) (dim : ℕ → ℕ) (d : ℕ) where
         start = g .places 0 (omega arith) ∙ w .start;
         sound = λ e h. by-cases (decLt e tail)
             (λ v. rw (g .places e v) (w .sound e v))
-            (λ v. let n = x .new e (omega arith) h in rw (n .2) (onward (w .sound head l) (n .0) (n .1) refl));
-        after = λ e one h. by-cases (decLt e tail)
             (λ v.
-            let o = w .after e one v in
-            (o .0, o .1, o .2, o .3, g .places e v ∙ o .4 ∙ ap (m .link (dim (o .2))) (sym (g .places (o .0) (omega (arith, o .1))))))
-            (λ v. let n = x .new e (omega arith) h in (head, omega arith, n .0, n .1, n .2 ∙ ap (m .link (dim (n .0))) (sym (g .places head l))));
+            let n = x .new e (omega arith) h in
+            let there : place (m .slots) s′ e ≡ m .link (dim (n .0)) (place (m .slots) s head) =
+            ap (place (m .slots) s′) (sym (n .2)) ∙ x .links (n .0) (n .1) .1 in
+            rw there (onward (w .sound head l) (n .0) (n .1) refl));
+        reached = λ e one h. by-cases (decLt e tail)
+            (λ v.
+            let o = w .reached e one v in
+            let r = o .0 in (
+              record {
+                from = r .from;
+                position = r .position;
+                before = r .before;
+                below = r .below;
+                leads = x .earlier (r .from) (r .position) (o .1) (omega (arith, r .below)) ∙ r .leads;
+                first = below-more _ head
+                    (λ q b p c f. r .first q b p c (rw (x .earlier q p b (omega arith)) at f))
+                    (λ p c f. omega (arith, o .1, r .below));
+              },
+              omega (arith, o .1),
+            ))
+            (λ v.
+            let n = x .new e (omega arith) h in (
+              record {
+                from = head;
+                position = n .0;
+                before = omega arith;
+                below = n .1;
+                leads = n .2;
+                first = below-more _ head
+                    (λ q b p c f. absurd (omega (arith, f, x .earlier q p b (omega arith), w .links q b p c .0)))
+                    (λ p c f. omega (arith, n .3 p c f));
+              },
+              omega arith,
+            ));
         links = below-more _ head
             (λ r h p b.
             let same : next (m .slots) s′ r p ≡ next (m .slots) s r p = x .earlier r p h (omega arith) in
@@ -172,23 +212,6 @@ module _ (m : Map) (k : ℕ) (dim : ℕ → ℕ) (d : ℕ) where
           let mx : mark s x ≡ i .0 + 1 = ap (mark s) (sym (i .2)) ∙ v .taken .back (i .0) (i .1) in
           among-of s tail x (omega arith) (omega (arith, i .1)))
 
-      -- the link by which a dart was reached leads back to the earlier place
-      leads-back : (e : ℕ) → 1 ≤ e → e < tail → (p : ℕ) × (p < k) × (next (m .slots) s e p < e)
-      leads-back e one b =
-          let a = v .after e one b in
-          let r = a .0 in
-          let p = a .2 in
-          let o = v .links e (omega arith) p (a .3) in
-          let low : r < tail = omega (arith, a .1) in
-          let x = place (m .slots) s r in
-          let there : place (m .slots) s (next (m .slots) s e p) ≡ x =
-          o .1 ∙ ap (m .link (dim p)) (a .4)
-          ∙ w .back x (v .taken .slot r low) (walking-live s head tail r v low) (dim p) (dims p (a .3)) in
-          let near = v .taken .back (next (m .slots) s e p) (o .0) in
-          let far = v .taken .back r low in
-          let same : next (m .slots) s e p + 1 ≡ r + 1 = sym near ∙ ap (mark s) there ∙ far in
-          (p, a .3, omega (arith, a .1))
-
       pub walking-done : Walked m k dim d s tail
       walking-done = record {
         some = v .some;
@@ -199,7 +222,15 @@ module _ (m : Map) (k : ℕ) (dim : ℕ → ℕ) (d : ℕ) where
         found = λ x b a. v .taken .found x b (among-at s tail x a .0) .1;
         links = λ r p b. v .links r (omega arith) p;
         start = v .start;
-        earlier = leads-back;
+        reached = λ e one b. let o = v .reached e one b .0 in
+            record {
+              from = o .from;
+              position = o .position;
+              before = o .before;
+              below = o .below;
+              leads = o .leads;
+              first = λ r c. o .first r (omega arith);
+            };
         counted = count-same (m .slots) (orbit m k dim d) (marked s)
             (λ x b. sym (is-orbit x b) ∙ among-all (m .slots) s tail (v .taken) x b) ∙ v .taken .total;
       }
@@ -227,9 +258,16 @@ walked-kept m k dim d s s′ size few w c =
           let same : next N s′ r p ≡ next N s r p = c .nexts r p h (omega arith) in
           (omega (arith, o .0), ap (place N s′) same ∙ c .places (next N s r p) (o .0) ∙ o .1 ∙ ap (m .link (dim p)) (sym (c .places r h)));
       start = c .places 0 (omega (arith, w .some)) ∙ w .start;
-      earlier = λ r one h.
-          let o = w .earlier r one h in
-          let same : next N s′ r (o .0) ≡ next N s r (o .0) = c .nexts r (o .0) h (omega (arith, o .1)) in
-          (o .0, o .1, omega (arith, o .2));
+      reached = λ e one h.
+          let o = w .reached e one h in
+          let same : (r p : ℕ) → r < size → p < k → next N s′ r p ≡ next N s r p = λ r p b l. c .nexts r p b (omega arith) in
+          record {
+            from = o .from;
+            position = o .position;
+            before = o .before;
+            below = o .below;
+            leads = same (o .from) (o .position) (omega (arith, o .before)) (o .below) ∙ o .leads;
+            first = λ r b p l f. o .first r b p l (rw (same r p b l) at f);
+          };
       counted = w .counted;
     }

@@ -49,7 +49,17 @@ pub record Taken (N : ℕ) (s : List ℕ) (end : ℕ) : Type 0 where
   pub found : (x : ℕ) → x < N → 1 ≤ mark s x → (mark s x ≤ end) × (place N s (mark s x - 1) ≡ x)
   pub total : countBelow N (marked s) ≡ end
 
--- the first `size` places hold the orbit of d, each dart once, d first and any other after one to which a link leads, and `next` its links by place;
+-- place e was taken over the link at a position of the dart at an earlier place; of the links of the first `passed` places, taken in turn, those that
+-- lead to later places come after it
+pub record Reached (N k : ℕ) (s : List ℕ) (passed e : ℕ) : Type 0 where
+  pub from : ℕ
+  pub position : ℕ
+  pub before : from < e
+  pub below : position < k
+  pub leads : next N s from position ≡ e
+  pub first : (r : ℕ) → r < passed → (p : ℕ) → p < k → e < next N s r p → 4 * from + position < 4 * r + p
+
+-- the first `size` places hold the orbit of d, each dart once, in the order in which the links reach them from d, and `next` its links by place;
 -- k and dim are the orbit type
 pub record Walked (m : Map) (k : ℕ) (dim : ℕ → ℕ) (d : ℕ) (s : List ℕ) (size : ℕ) : Type 0 where
   pub some : 1 ≤ size
@@ -61,7 +71,7 @@ pub record Walked (m : Map) (k : ℕ) (dim : ℕ → ℕ) (d : ℕ) (s : List �
   pub links : (r p : ℕ) → r < size → p < k → (next (m .slots) s r p < size)
       × (place (m .slots) s (next (m .slots) s r p) ≡ m .link (dim p) (place (m .slots) s r))
   pub start : place (m .slots) s 0 ≡ d
-  pub earlier : (r : ℕ) → 1 ≤ r → r < size → (p : ℕ) × (p < k) × (next (m .slots) s r p < r)
+  pub reached : (e : ℕ) → 1 ≤ e → e < size → Reached (m .slots) k s size e
   pub counted : countBelow (m .slots) (orbit m k dim d) ≡ size
 
 -- what the later phases leave of the store: the orbit's places, their marks and links

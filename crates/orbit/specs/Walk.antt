@@ -25,17 +25,18 @@ pub record MoreTaken (N : ℕ) (s : List ℕ) (end : ℕ) (s′ : List ℕ) (end
   pub longer : end ≤ end′
   pub places : (e : ℕ) → e < end → place N s′ e ≡ place N s e
 
--- slot y has a place, which the word `at` names, and no other slot took one
+-- slot y has a place, which the word `at` names and which is the new one where there is one
 pub record Followed (N : ℕ) (s : List ℕ) (end at y : ℕ) (s′ : List ℕ) (end′ : ℕ) : Type 0 where
   pub grown : MoreTaken N s end s′ end′
-  pub new : (e : ℕ) → end ≤ e → e < end′ → place N s′ e ≡ y
+  pub new : (e : ℕ) → end ≤ e → e < end′ → getD s′ at 0 ≡ e
   pub leads : (getD s′ at 0 < end′) × (place N s′ (getD s′ at 0) ≡ y)
   pub others : (i : ℕ) → 2 * N ≤ i → i ≢ at → getD s′ i 0 ≡ getD s i 0
 
--- the first k links of the dart at place `head` were followed
+-- the first k links of the dart at place `head` were followed, and lead to the new places in turn
 pub record Expanded (m : Map) (k : ℕ) (dim : ℕ → ℕ) (head : ℕ) (s : List ℕ) (tail : ℕ) (s′ : List ℕ) (tail′ : ℕ) : Type 0 where
   pub grown : MoreTaken (m .slots) s tail s′ tail′
-  pub new : (e : ℕ) → tail ≤ e → e < tail′ → (p : ℕ) × (p < k) × (place (m .slots) s′ e ≡ m .link (dim p) (place (m .slots) s head))
+  pub new : (e : ℕ) → tail ≤ e → e < tail′ → (p : ℕ) × (p < k) × (next (m .slots) s′ head p ≡ e)
+      × ((q : ℕ) → q < k → e < next (m .slots) s′ head q → p < q)
   pub links : (p : ℕ) → p < k → (next (m .slots) s′ head p < tail′)
       × (place (m .slots) s′ (next (m .slots) s′ head p) ≡ m .link (dim p) (place (m .slots) s head))
   pub earlier : (r p : ℕ) → r < head → p < 4 → next (m .slots) s′ r p ≡ next (m .slots) s r p

@@ -50,7 +50,11 @@ fn expand(
     let at = 4 * slots + 4 * head;
     let mut end = tail;
     let mut p = 0;
-    while p < k {
+    // four turns, which the compiler writes out, left at the end of the orbit type
+    while p < 4 {
+        if p == k {
+            return end;
+        }
         let i = dims[p] as usize;
         let y = link(slots, table, i, x);
         end = follow(slots, store, end, at + p, y);

@@ -2,6 +2,8 @@
 -- Assumes nothing.
 use Prim.Native.Nat.{_-_, _≤_, _<_}
 use mathlib.Core.Path.{_≡_, ap, _∙_}
+use mathlib.Core.Logic.{by-cases}
+use native.Mathlib.Decide.{decLt}
 use native.Mathlib.Omega.{arith}
 use lib.ListN.{getD}
 use denote.Ref.{now}
@@ -30,18 +32,21 @@ x-is c = c .word .ensures
 x-slot : (c : tie.After-word Inv-loop μ-loop) → c .word .result < start c .args .slots
 x-slot c = let b = start c in let a = b .args in omega (arith, x-is c, b .pre .1 .0 .slot (a .head) (b .pre .1 .1 .0))
 
--- in the loop: the dimension at position p, and the dart to which that link leads
-dim-le : (c : tie.In-loop Inv-loop μ-loop) → getD (now (start (c .before .before) .args .dims)) (c .before .loop .p) 0 ≤ 3
-dim-le c = let r = start (c .before .before) .pre .0 in omega (arith, r .dim (c .before .loop .p) (c .loop-test .taken), r .small)
+-- in the loop: the position is one of the orbit type; its dimension, and the dart to which that link leads
+position : (c : tie.Else1 Inv-loop μ-loop) → c .before .before .loop .p < start (c .before .before .before) .args .k
+position c = let less = c .before .before .loop .inv .1 in by-cases (decLt _ _) (λ l. l) (λ l. absurd (c .if1 .left (omega arith)))
 
-y-slot : (c : tie.In-loop Inv-loop μ-loop) → let a = start (c .before .before) .args in
-    view (a .slots) (now (a .table)) .link (getD (now (a .dims)) (c .before .loop .p) 0) (c .before .before .word .result) < a .slots
+dim-le : (c : tie.Else1 Inv-loop μ-loop) → getD (now (start (c .before .before .before) .args .dims)) (c .before .before .loop .p) 0 ≤ 3
+dim-le c = let r = start (c .before .before .before) .pre .0 in omega (arith, r .dim (c .before .before .loop .p) (position c), r .small)
+
+y-slot : (c : tie.Else1 Inv-loop μ-loop) → let a = start (c .before .before .before) .args in
+    view (a .slots) (now (a .table)) .link (getD (now (a .dims)) (c .before .before .loop .p) 0) (c .before .before .before .word .result) < a .slots
 y-slot c =
-    let w = c .before .before in
+    let w = c .before .before .before in
     let b = start w in
     let a = b .args in
     b .pre .0 .well .below (w .word .result) (x-slot w) (ap (view (a .slots) (now (a .table)) .state) (x-is w) ∙ b .pre .1 .1 .1) _
-    (b .pre .0 .dim (c .before .loop .p) (c .loop-test .taken))
+    (b .pre .0 .dim (c .before .before .loop .p) (position c))
 
 add-word : tie.Need-add-word Inv-loop μ-loop
 add-word c = omega arith
@@ -61,6 +66,12 @@ add-at c = omega arith
 loop-holds : tie.Need-loop-holds Inv-loop μ-loop
 loop-holds c = (expanded-none _ _ _ _ _ (start c .pre .1 .0), omega arith)
 
+same-length : tie.Need-same-length Inv-loop μ-loop
+same-length c = omega arith
+
+returns : tie.Need-returns Inv-loop μ-loop
+returns c = rw (← c .if1 .taken) (c .before .before .loop .inv .0)
+
 element-copy-out-i : tie.Need-element-copy-out-i Inv-loop μ-loop
 element-copy-out-i c = omega arith
 
@@ -70,7 +81,7 @@ cast-i c = omega (arith, dim-le (c .before))
 link-requires : tie.Need-link-requires Inv-loop μ-loop
 link-requires c κs =
     let l = c .before in
-    (start (l .before .before) .pre .0 .sized, (x-slot (l .before .before), dim-le l))
+    (start (l .before .before .before) .pre .0 .sized, (x-slot (l .before .before .before), dim-le l))
 
 add-follow : tie.Need-add-follow Inv-loop μ-loop
 add-follow c = omega arith
@@ -78,8 +89,8 @@ add-follow c = omega arith
 follow-requires : tie.Need-follow-requires Inv-loop μ-loop
 follow-requires c κs =
     let l = c .before .before .before in
-    let b = start (l .before .before) in
-    (b .pre .0 .sized .few, (l .before .loop .inv .0 .grown .taken, (omega (arith, y-slot l, c .before .link .ensures), omega arith, omega arith)))
+    let b = start (l .before .before .before) in
+    (b .pre .0 .sized .few, (l .before .before .loop .inv .0 .grown .taken, (omega (arith, y-slot l, c .before .link .ensures), omega arith, omega arith)))
 
 add-p : tie.Need-add-p Inv-loop μ-loop
 add-p c = omega arith
@@ -91,18 +102,21 @@ loop-again : tie.Need-loop-again Inv-loop μ-loop
 loop-again c =
     let k = c .before .before .before .before in
     let l = k .before .before in (
-      expanded-more _ _ _ _ _ _ _ _ _ _ _ _ (omega arith) (x-is (l .before .before)) (k .link .ensures) (l .before .loop .inv .0)
-          (c .before .before .follow .ensures),
-      omega arith,
+      expanded-more _ _ _ _ _ _ _ _ _ _ _ _ (omega arith) (x-is (l .before .before .before)) (k .link .ensures)
+          (l .before .before .loop .inv .0) (c .before .before .follow .ensures),
+      omega (arith, position l),
     )
 
-same-length : tie.Need-same-length Inv-loop μ-loop
-same-length c = omega arith
+same-length-2 : tie.Need-same-length-2 Inv-loop μ-loop
+same-length-2 c = omega arith
 
-returns : tie.Need-returns Inv-loop μ-loop
-returns c = let e : c .before .loop .p ≡ start (c .before .before) .args .k = omega arith in rw (← e) (c .before .loop .inv .0)
+returns-2 : tie.Need-returns-2 Inv-loop μ-loop
+returns-2 c =
+    let a = start (c .before .before) in
+    let e : c .before .loop .p ≡ a .args .k = omega (arith, c .before .loop .inv .1, c .loop-test .left, a .pre .0 .few) in
+    rw (← e) (c .before .loop .inv .0)
 
 pub expand-spec : {M : Type 1} → statement M
 expand-spec =
-    tie.close (tie.spec Inv-loop μ-loop add-word word-requires mul-at mul-at-2 add-at loop-holds element-copy-out-i cast-i link-requires
-    add-follow follow-requires add-p loop-less loop-again same-length returns)
+    tie.close (tie.spec Inv-loop μ-loop add-word word-requires mul-at mul-at-2 add-at loop-holds same-length returns element-copy-out-i cast-i
+    link-requires add-follow follow-requires add-p loop-less loop-again same-length-2 returns-2)

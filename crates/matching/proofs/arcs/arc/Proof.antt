@@ -35,7 +35,7 @@ wide-requires-2 c κs = search needs
 returns : tie.Need-returns
 returns c =
     let w = c .before .before .before in
-    arc-read _ _ _ _ _ _ _ _ _ _ _ _ _ (w .wide .ensures .0) (c .before .wide2 .ensures .0) refl (code-none _ _ _ _ _ _ _ _ _ (c .if1 .taken))
+    arc-read _ _ _ _ _ _ _ _ _ _ _ _ _ _ (w .wide .ensures .0) (c .before .wide2 .ensures .0) refl (code-none _ _ _ _ _ _ _ _ _ _ (c .if1 .taken))
 
 mul-from : tie.Need-mul-from
 mul-from c = omega (arith, node (c .before .before .before))
@@ -58,16 +58,16 @@ returns-2 c =
     let e = c .before .before .before in
     let k = e .before in
     let w = k .before .before in
-    arc-read _ _ _ _ _ _ _ _ _ _ _ _ _ (w .wide .ensures .0) (k .wide2 .ensures .0) refl
-    (code-explicit _ _ _ _ _ _ _ _ _ (e .if1 .left) _ (c .before .if2 .taken) (c .explicit .ensures))
+    arc-read _ _ _ _ _ _ _ _ _ _ _ _ _ _ (w .wide .ensures .0) (k .wide2 .ensures .0) refl
+    (code-explicit _ _ _ _ _ _ _ _ _ _ (e .if1 .left) _ (c .before .if2 .taken) (c .explicit .ensures))
 
 returns-3 : tie.Need-returns-3
 returns-3 c =
     let e = c .before .before .before in
     let k = e .before in
     let w = k .before .before in
-    arc-read _ _ _ _ _ _ _ _ _ _ _ _ _ (w .wide .ensures .0) (k .wide2 .ensures .0) refl
-    (code-hook _ _ _ _ _ _ _ _ _ (e .if1 .left) (c .before .if2 .left) (c .if3 .taken))
+    arc-read _ _ _ _ _ _ _ _ _ _ _ _ _ _ (w .wide .ensures .0) (k .wide2 .ensures .0) refl
+    (code-hook _ _ _ _ _ _ _ _ _ _ (e .if1 .left) (c .before .if2 .left) (c .if3 .taken))
 
 turned-requires : tie.Need-turned-requires
 turned-requires c κs =
@@ -84,8 +84,8 @@ returns-4 c =
     let e = f .before .before in
     let k = e .before in
     let w = k .before .before in
-    arc-read _ _ _ _ _ _ _ _ _ _ _ _ _ (w .wide .ensures .0) (k .wide2 .ensures .0) refl
-    (code-implicit _ _ _ _ _ _ _ _ _ (e .if1 .left) _ (f .if2 .left) (c .before .if3 .left) (c .turned .ensures))
+    arc-read _ _ _ _ _ _ _ _ _ _ _ _ _ _ (w .wide .ensures .0) (k .wide2 .ensures .0) refl
+    (code-implicit _ _ _ _ _ _ _ _ _ _ (e .if1 .left) _ (f .if2 .left) (c .before .if3 .left) (c .turned .ensures))
 
 pub arc-spec : {M : Type 1} → statement M
 arc-spec =
