@@ -90,7 +90,7 @@ module _ {slots : ℕ} {t : List ℕ} (A : At slots t) where
 
     abbrev pub settle-ready : {store′ cols′ : List ℕ} {answer : Bool} → C.Matched (site A) store store′ cols′ size answer → answer ≡ true
         → {c : ℕ} → c ≡ A .scheme .nodes → {room : ℕ} → room ≡ countBelow slots (unused (view slots t))
-        → Settling slots t store′ c (A .scheme .kinds) (A .scheme .rtargets) size room cols′
+        → Settling slots t store′ c (A .scheme .kinds) (A .scheme .ltargets) (A .scheme .rtargets) size room cols′
     settle-ready {store′} m e n free = record {
       at = A;
       fitting = record {
@@ -102,14 +102,15 @@ module _ {slots : ℕ} {t : List ℕ} (A : At slots t) where
       };
       nodes = n;
       kinded = refl;
-      coded = coded (A .scheme) (A .sound .accepted .shaped) right;
+      leftCoded = coded (A .scheme) (A .sound .accepted .shaped) left;
+      rightCoded = coded (A .scheme) (A .sound .accepted .shaped) right;
       free = free;
     }
 
 -- ---- the end of an edit
 
-module _ {slots : ℕ} {t store : List ℕ} {c : ℕ} {kinds codes : List ℕ} {size room : ℕ} {cols : List ℕ}
-    (P : Settling slots t store c kinds codes size room cols) where
+module _ {slots : ℕ} {t store : List ℕ} {c : ℕ} {kinds lefts rights : List ℕ} {size room : ℕ} {cols : List ℕ}
+    (P : Settling slots t store c kinds lefts rights size room cols) where
   open Settling P using (at as A, fitting as F)
 
   abbrev E : Site
@@ -160,7 +161,7 @@ module _ {slots : ℕ} {t store : List ℕ} {c : ℕ} {kinds codes : List ℕ} {
 
       -- and with them the links can be rewritten
       abbrev pub link-ready : {t′ store′ cols′ : List ℕ} → G.Granted E t store t′ store′ cols′ size
-          → L.BeforeRewriting slots t′ store′ size kinds codes c cols′
+          → L.BeforeRewriting slots t′ store′ size kinds lefts rights c cols′
       link-ready {t′} {store′} g = record {
         before = t;
         at = A;
@@ -173,7 +174,8 @@ module _ {slots : ℕ} {t store : List ℕ} {c : ℕ} {kinds codes : List ℕ} {
         given = g .given;
         nodes = P .nodes;
         kinded = P .kinded;
-        coded = P .coded;
+        leftCoded = P .leftCoded;
+        rightCoded = P .rightCoded;
       }
 
       pub done : {other : List ℕ} {gone : ℕ} → Listed c kinds 1 other gone → {t′ : List ℕ} → t′ ≡ tableOf (edited E)

@@ -9,7 +9,7 @@ use lib.ListN.{length}
 use Rattle.base.specs.Below.{countBelow}
 use Rattle.base.specs.First.{there}
 use Rattle.model.specs.Map.{view, tableOf, unused}
-use Rattle.model.specs.Scheme.{right}
+use Rattle.model.specs.Scheme.{left, right}
 use Rattle.model.specs.Site.{Site}
 use Rattle.model.specs.Match.{matches}
 use Rattle.model.specs.Edit.{edited}
@@ -33,13 +33,14 @@ module _ {slots : ℕ} {t : List ℕ} (A : At slots t) where
     pub assigned : Assigned (site A) store cols size
     pub wide : length cols ≡ 16
 
--- what the end of an edit is handed: a match, the scheme's nodes, kinds and right arcs, and the number of unused slots
-pub record Settling (slots : ℕ) (t store : List ℕ) (c : ℕ) (kinds codes : List ℕ) (size room : ℕ) (cols : List ℕ) : Type 0 where
+-- what the end of an edit is handed: a match, the scheme's nodes, kinds and arcs, and the number of unused slots
+pub record Settling (slots : ℕ) (t store : List ℕ) (c : ℕ) (kinds lefts rights : List ℕ) (size room : ℕ) (cols : List ℕ) : Type 0 where
   pub at : At slots t
   pub fitting : Fitting at store size cols
   pub nodes : c ≡ at .scheme .nodes
   pub kinded : kinds ≡ at .scheme .kinds
-  pub coded : Coded (at .scheme) right codes
+  pub leftCoded : Coded (at .scheme) left lefts
+  pub rightCoded : Coded (at .scheme) right rights
   pub free : room ≡ countBelow slots (unused (view slots t))
 
 -- the answer r and the table t′ of an edit of the table t at a site, whose faults are `fault`

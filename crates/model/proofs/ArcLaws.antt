@@ -3,7 +3,7 @@
 use Prim.Native.Nat.{ℕ, _+_, _≤_, _<_}
 use mathlib.Core.Path.{_≡_, refl, sym, ap, ap₂, _∙_, subst}
 use mathlib.Core.Logic.{⊎-elim}
-use mathlib.Core.Bool.{Bool, true}
+use mathlib.Core.Bool.{Bool, true, false, true≢false}
 use mathlib.Core.Option.{Option, none, some}
 use native.Mathlib.Omega.{arith}
 use lib.Dec.{eqb}
@@ -121,6 +121,15 @@ module _ (S : Scheme) (side : Side) where
         (λ q. back _ _ (eqb-true _ _ q) (far-from a) (far-to a) (touches-to a) (g .shaped .to a (f .1)))
         (λ q. back _ _ (eqb-true _ _ q) (far-to a) (far-from a) (touches-from a) (g .shaped .from a (f .1)))
         (or-cases _ _ (and-right _ _ (f .2)))
+
+    -- a node that is not on the side has no arc there
+    pub off-side : (s i : ℕ) → s < S .nodes → i < 255 → has S side s ≡ false → arcAt S side s i ≡ absent
+    off-side s i h l off = go (arcAt S side s i) refl
+      where
+        go : (c : Arc) → arcAt S side s i ≡ c → arcAt S side s i ≡ absent
+        go absent a = a
+        go (explicit t) a = absurd (true≢false (sym (explicit-end t i s (explicit-end s i t a .3) .1) ∙ off))
+        go (implicit p) a = let x = implicit-from s i p a in absurd (omega (arith, x .1, g .shaped .empty s p h (x .0) off))
 
     -- no node has an arc of a dimension above n
     pub no-arc : (s i : ℕ) → s < S .nodes → S .n < i → i < 255 → arcAt S side s i ≡ absent

@@ -1,7 +1,7 @@
--- The codes of a scheme's arcs: its targets are the codes of its nodes, which are small.
+-- The codes of a scheme's arcs: its targets are the codes of its nodes, which are small, and arcs with one code are one.
 -- Assumes nothing.
 use Prim.Native.Nat.{ℕ, _≤_, _<_}
-use mathlib.Core.Path.{_≡_, refl, subst}
+use mathlib.Core.Path.{_≡_, refl, ap, subst}
 use mathlib.Core.Bool.{Bool, true, false, cond}
 use mathlib.Core.Option.{Option, none, some}
 use native.Mathlib.Omega.{arith}
@@ -9,7 +9,7 @@ use lib.Dec.{eqb}
 use Rattle.base.specs.First.{least}
 use Rattle.base.proofs.FirstLaws.{first-at, when-at, least-at}
 use Rattle.model.specs.Arc.{farEnd, arcOf}
-use Rattle.model.specs.Codes.{targets}
+use Rattle.model.specs.Codes.{arcCode, targets}
 use Rattle.model.specs.Scheme.{Side, arcs, arcPart}
 use Rattle.model.specs.Conditions.{Arc, absent, explicit, implicit, arcAt, reads}
 use Rattle.model.specs.Shaped.{Shaped, Coded}
@@ -46,6 +46,18 @@ module _ (S : Scheme) (f : Shaped S) (side : Side) where
       go (some t) e r g = end-below s i t e
       go none e (some p) g = let l = least-at (S .places) _ p g in let k = places-few in omega (arith, l .0)
       go none e none g = omega arith
+
+-- arcs with one code are one arc
+pub one-arc : (nodes : ℕ) → nodes ≤ 16 → (a c : Arc) → Small nodes a → Small nodes c → arcCode a ≡ arcCode c → a ≡ c
+one-arc nodes few absent absent h l e = refl
+one-arc nodes few absent (explicit t) h l e = absurd (omega arith)
+one-arc nodes few absent (implicit p) h l e = absurd (omega arith)
+one-arc nodes few (explicit t) absent h l e = absurd (omega arith)
+one-arc nodes few (explicit t) (explicit w) h l e = ap explicit e
+one-arc nodes few (explicit t) (implicit p) h l e = absurd (omega arith)
+one-arc nodes few (implicit p) absent h l e = absurd (omega arith)
+one-arc nodes few (implicit p) (explicit t) h l e = absurd (omega arith)
+one-arc nodes few (implicit p) (implicit q) h l e = let same : p ≡ q = omega arith in ap implicit same
 
 -- the targets of a scheme are the codes of its nodes
 pub coded : (S : Scheme) (f : Shaped S) (side : Side) → Coded S side (targets S side)

@@ -14,16 +14,17 @@ use Rattle.base.specs.Below.{countBelow}
 use Rattle.base.specs.First.{first, someIf}
 use Rattle.model.specs.Map.{Field, State, Link, Tag, fieldOf, unused}
 use Rattle.model.specs.Scheme.{left, right, orbitDim, has, added, deleted}
-use Rattle.model.specs.Conditions.{absent, explicit, implicit, arcAt}
+use Rattle.model.specs.Conditions.{Arc, absent, explicit, implicit, arcAt}
 use Rattle.model.specs.Site.{Site}
 use Rattle.model.specs.Accepted.{Accepted}
-use Rattle.model.specs.Match.{image, Assignment}
+use Rattle.model.specs.Match.{image, arcHolds, Assignment}
 use Rattle.model.specs.Edit.{Pair, addedDarts, rank, freeSlot, dartOf, pairOf, newLink, unnamedLink, newWord, edited}
 use Rattle.base.proofs.TestLaws.{and-left, and-right, and-of, true-or-false}
 use Rattle.base.proofs.FirstLaws.{when-at, first-at, first-only, first-none-of, nth-at, nth-found}
 use Rattle.model.proofs.AcceptedLaws.{left-or-added}
-use Rattle.model.proofs.MatchLaws.{GoodOrbit}
-use Rattle.model.proofs.RankLaws.{rank-low, rank-once, dart-left, dart-added}
+use Rattle.model.proofs.ArcLaws.{explicit-end, implicit-from}
+use Rattle.model.proofs.MatchLaws.{GoodOrbit, arc-of}
+use Rattle.model.proofs.RankLaws.{left-not-added, rank-low, rank-once, dart-left, dart-added}
 
 abbrev pair : ℕ → ℕ → Pair
 pair u s = record { dart = u; node = s }
@@ -162,6 +163,26 @@ module _ {E : Site} (r : Ready E) where
       pub link-kept : (i : ℕ) → added S s ≡ false → arcAt S right s i ≡ absent → edited E .link i (dartOf E u s) ≡ m .link i (dartOf E u s)
       unfolding newLink
       link-kept i n a = link-pair i ∙ rw (a, n) refl
+
+      -- where both sides have the same arc
+      pub link-same : (i : ℕ) → i ≤ 3 → has S left s ≡ true → arcAt S left s i ≡ arcAt S right s i → edited E .link i (dartOf E u s) ≡ m .link i (dartOf E u s)
+      unfolding arcHolds
+      link-same i low l same = go (arcAt S right s i) refl
+        where
+          holds : (c : Arc) → arcAt S left s i ≡ c → i ≤ S .n → arcHolds E u s i c ≡ true
+          holds c z k = arc-of E (r .accepted) (r .good) (image E) A u e s h l i k c z
+
+          go : (c : Arc) → arcAt S right s i ≡ c → edited E .link i (dartOf E u s) ≡ m .link i (dartOf E u s)
+          go absent a = link-kept i (left-not-added S s l) a
+          go (explicit t) a =
+              let end = explicit-end S left (r .accepted .sides left) s i t (same ∙ a) in
+              link-explicit i t a ∙ dart-left E u t (end .1) ∙ sym (eqb-true _ _ (holds (explicit t) (same ∙ a) (end .2)))
+              ∙ ap (m .link i) (sym (dart-left E u s l))
+          go (implicit p) a =
+              let f = implicit-from S left s i p (same ∙ a) in
+              let dim : i ≤ S .n = ⊎-elim (λ w. absurd (omega (arith, f .1))) (λ w. omega (arith, f .1)) (r .accepted .sides left .shaped .words s p h (f .0)) in
+              link-implicit i p a ∙ dart-left E (m .link (orbitDim S p) u) s l ∙ sym (eqb-true _ _ (holds (implicit p) (same ∙ a) dim))
+              ∙ ap (m .link i) (sym (dart-left E u s l))
 
       pub link-own : (i : ℕ) → added S s ≡ true → arcAt S right s i ≡ absent → edited E .link i (dartOf E u s) ≡ dartOf E u s
       unfolding newLink

@@ -1,9 +1,9 @@
 -- The ranks of the added pairs: each below the number of added darts, and no two the same. What the dart of a pair is by the kind of its node.
 -- Assumes nothing.
 use Prim.Native.Nat.{ℕ, _<_}
-use mathlib.Core.Path.{_≡_, ap}
+use mathlib.Core.Path.{_≡_, sym, ap, _∙_}
 use mathlib.Core.Logic.{⊎-elim}
-use mathlib.Core.Bool.{Bool, true, false, cond}
+use mathlib.Core.Bool.{Bool, true, false, cond, true≢false}
 use native.Mathlib.Nat.{suc-mul, mul-le-mul-right}
 use native.Mathlib.Omega.{arith}
 use borrow.Author.Tests.{eqb-true, ne-eqb}
@@ -13,7 +13,7 @@ use Rattle.model.specs.Site.{Site}
 use Rattle.model.specs.Match.{image}
 use Rattle.model.specs.Edit.{orbitSize, addedDarts, rank, freeSlot, dartOf}
 use Rattle.model.specs.declared.Scheme.{Scheme}
-use Rattle.base.proofs.TestLaws.{or-cases}
+use Rattle.base.proofs.TestLaws.{or-cases, true-or-false}
 use Rattle.base.proofs.BelowLaws.{count-lt, count-injective}
 use Rattle.base.proofs.RowLaws.{digits}
 
@@ -22,6 +22,9 @@ left-not-added S s e = ⊎-elim
     (λ q. let k = eqb-true (kind S s) 1 q in ne-eqb (kind S s) 3 (λ z. omega arith))
     (λ q. let k = eqb-true (kind S s) 2 q in ne-eqb (kind S s) 3 (λ z. omega arith))
     (or-cases _ _ e)
+
+pub added-not-left : (S : Scheme) (s : ℕ) → added S s ≡ true → has S left s ≡ false
+added-not-left S s e = ⊎-elim (λ q. absurd (true≢false (sym e ∙ left-not-added S s q))) (λ q. q) (true-or-false (has S left s))
 
 module _ (E : Site) where
   open Site E using (map as m, scheme as S, orbit as O)

@@ -3,7 +3,7 @@
 use Prim.Native.Nat.{ℕ, _+_, _*_, _/_, _%_, _≤_, _<_}
 use mathlib.Core.Path.{_≡_, refl, sym, ap, ap₂, _∙_, subst}
 use mathlib.Core.Logic.{_⊎_, inl, inr, ⊎-elim}
-use mathlib.Core.Bool.{Bool, true, false, cond}
+use mathlib.Core.Bool.{Bool, true, false, cond, true≢false}
 use mathlib.Core.Option.{Option, none, some, Option·getD}
 use mathlib.Core.List.{List}
 use native.Mathlib.Nat.{mul-le-mul-right}
@@ -20,7 +20,7 @@ use Rattle.base.proofs.ListLaws.{getD-list}
 use Rattle.model.specs.Bytes.{onSide, byte, namesSecond, dimensionOf, placesOf, nodesOf, kindAt, wordAt, hookBytes, secondOf, arcCount, arcByte, upTo}
 use Rattle.model.specs.Arc.{farEnd, arcOf}
 use Rattle.model.specs.Codes.{placeCode, placed, placedAt, targetsOf, targets, arcCode}
-use Rattle.model.specs.Scheme.{Side, left, right, orbitForm, wordForm, nodeForm, arcsForm, inForm, wordsOf, arcsOf, schemeOf, kind, orbitDim}
+use Rattle.model.specs.Scheme.{Side, left, right, orbitForm, wordForm, wordEmpty, nodeForm, arcsForm, inForm, wordsOf, arcsOf, schemeOf, kind, orbitDim}
 use Rattle.model.specs.Scheme.{word, arcs, arcPart, has}
 use Rattle.model.specs.Conditions.{arcAt, reads}
 use Rattle.model.specs.Shaped.{Shaped, ShapedSide}
@@ -75,6 +75,11 @@ module _ (b : List ℕ) (q : inForm b ≡ true) where
   unfolding nodeForm
   form-word left s h = and-right _ _ (and-left _ _ (and-left _ _ (and-left _ _ (form-node s h))))
   form-word right s h = and-right _ _ (and-left _ _ (and-left _ _ (form-node s h)))
+
+  form-empty : (side : Side) (s : ℕ) → s < nodesOf b → wordEmpty b side s ≡ true
+  unfolding nodeForm
+  form-empty left s h = and-right _ _ (and-left _ _ (form-node s h))
+  form-empty right s h = and-right _ _ (form-node s h)
 
   -- ---- the value has what the bytes say
 
@@ -196,6 +201,13 @@ module _ (b : List ℕ) (q : inForm b ≡ true) where
   word-dim side s p h l = rw (value-word side s p h l) (⊎-elim (λ e. inl (eqb-true _ _ e)) (λ e. inr (leb-true _ _ (and-left _ _ e)))
       (or-cases _ _ (all-at _ _ (form-word side s h) p l)))
 
+  word-empty : (side : Side) (s p : ℕ) → s < nodesOf b → p < placesOf b → has (schemeOf b) side s ≡ false → word (schemeOf b) side s p ≡ 255
+  unfolding wordEmpty
+  word-empty side s p h l off = value-word side s p h l ∙ ⊎-elim
+      (λ on. absurd (true≢false (sym on ∙ sym (ap (onSide side) (value-kind s h)) ∙ off)))
+      (λ e. eqb-true _ _ (all-at _ _ e p l))
+      (or-cases _ _ (form-empty side s h))
+
   arc-dim : (side : Side) (a : ℕ) → a < arcCount b side → arcPart (schemeOf b) side a 0 ≤ dimensionOf b
   arc-dim side a h = rw (value-arc side a 0 h (omega arith)) (form-arc side a h .dim)
 
@@ -231,6 +243,7 @@ module _ (b : List ℕ) (q : inForm b ≡ true) where
   unfolding schemeOf End
   shaped-side side same = record {
     words = word-dim side;
+    empty = word-empty side;
     few = rw same (arcs-few side);
     dims = λ a h. arc-dim side a (rw same at h);
     from = λ a h. let k = rw same at h in let f = form-arc side a k in arc-end side a 1 k (omega arith) (omega arith) (f .from);

@@ -5,14 +5,16 @@ use mathlib.Core.Path.{_≡_, refl, ap, ap₂, _∙_}
 use mathlib.Core.Logic.{⊎-elim}
 use mathlib.Core.List.{List}
 use native.Mathlib.Omega.{arith}
-use lib.ListN.{getD}
+use lib.ListN.{length, getD, set}
+use lib.Seq.{getD-set-same, getD-set-other}
 use lib.Dec.{ltb}
+use borrow.Author.Count.{below-more}
 use borrow.Author.Tests.{lt-ltb, le-ltb, ltb-false, eq-eqb, ne-eqb}
 use Rattle.base.proofs.TestLaws.{true-or-false}
 use Rattle.model.specs.Map.{Link, put}
 use Rattle.table.specs.Words.{blanked}
 use Rattle.orbit.specs.Store.{next, dartAt}
-use Rattle.rewriting.specs.Links.{placeBy, overwritten, erased, followed, clearedBy, HoldsSlots, Turnable}
+use Rattle.rewriting.specs.Links.{placeBy, overwritten, erased, followed, changed, clearedBy, HoldsSlots, Turnable}
 
 -- a link put by other names of its slot and its value, and a record of zeros by another name of its slot
 pub put-at : (t t′ : List ℕ) (i v w x y : ℕ) → t′ ≡ put t (Link i) x v → x ≡ y → v ≡ w → t′ ≡ put t (Link i) y w
@@ -70,6 +72,25 @@ module _ (N : ℕ) (store : List ℕ) (size : ℕ) (cols : List ℕ) (i base cod
   pub by-none : 255 ≤ code → t′ ≡ t → t′ ≡ followed N store size cols i base code t
   unfolding followed
   by-none h e = rw (le-ltb code 16 (omega arith), le-ltb code 255 h) e
+
+-- ---- what is left of the codes
+
+module _ (before after : ℕ) where
+  pub changed-same : before ≡ after → changed before after ≡ 255
+  unfolding changed
+  changed-same e = rw (eq-eqb before after e) refl
+
+  pub changed-other : (before ≡ after → ⊥) → changed before after ≡ after
+  unfolding changed
+  changed-other ne = rw (ne-eqb before after ne) refl
+
+-- one code more
+pub changes-more : (lefts rights codes : List ℕ) (k v : ℕ) → k < length codes → v ≡ changed (getD lefts k 0) (getD rights k 0)
+    → ((j : ℕ) → j < k → getD codes j 0 ≡ changed (getD lefts j 0) (getD rights j 0))
+    → (j : ℕ) → j < k + 1 → getD (set codes k v) j 0 ≡ changed (getD lefts j 0) (getD rights j 0)
+changes-more lefts rights codes k v h e old = below-more _ k
+    (λ j l. getD-set-other codes k j v 0 (λ q. absurd (omega arith)) ∙ old j l)
+    (getD-set-same codes k v 0 h ∙ e)
 
 -- ---- a node by its kind
 

@@ -2,11 +2,12 @@
 -- there is the model's. The darts of all pairs are different slots, so each word is written once.
 -- Assumes nothing.
 use Prim.Native.Nat.{ℕ, _+_, _*_, _-_, _/_, _%_, _≤_, _<_}
-use mathlib.Core.Path.{_≡_, refl, sym, ap, _∙_, subst}
-use mathlib.Core.Logic.{⊎-elim}
+use mathlib.Core.Path.{_≡_, refl, sym, ap, ap₂, _∙_, subst}
+use mathlib.Core.Logic.{_⊎_, inl, inr, ⊎-elim, by-cases}
 use mathlib.Core.Bool.{true, false, true≢false}
 use mathlib.Core.Option.{Option, none, some}
 use mathlib.Core.List.{List}
+use native.Mathlib.Decide.{ℕ-discrete}
 use native.Mathlib.Omega.{arith}
 use lib.ListN.{length, getD}
 use lib.Dec.{leb}
@@ -14,14 +15,15 @@ use borrow.Author.Tests.{eqb-true, eq-eqb, leb-true, leb-false}
 use Rattle.base.proofs.TestLaws.{true-or-false}
 use Rattle.base.proofs.FirstLaws.{some-not-none}
 use Rattle.model.specs.Map.{Map, Field, State, Link, Tag, fieldOf, dimension, tableSize, fieldAt, tableOf}
-use Rattle.model.specs.Scheme.{right, deleted, added}
+use Rattle.model.specs.Scheme.{left, right, deleted, added}
 use Rattle.model.specs.Conditions.{Arc, absent, explicit, implicit, arcAt}
 use Rattle.model.specs.Site.{Site, Sound}
 use Rattle.model.specs.Edit.{Pair, dartOf, pairOf, edited}
 use Rattle.model.proofs.MapLaws.{state-not-link, tag-not-link, field-view, words-are}
 use Rattle.model.proofs.AcceptedLaws.{small}
-use Rattle.model.proofs.ArcLaws.{explicit-end, implicit-from, absent-from}
-use Rattle.model.proofs.RankLaws.{left-not-added}
+use Rattle.model.proofs.ArcLaws.{explicit-end, implicit-from, absent-from, off-side}
+use Rattle.model.proofs.CodeLaws.{small-arc, one-arc}
+use Rattle.model.proofs.RankLaws.{left-not-added, added-not-left}
 use Rattle.model.proofs.EditLaws as L
 use Rattle.model.proofs.EditLaws.{Ready}
 use Rattle.model.proofs.MatchIff.{match-ready}
@@ -29,12 +31,13 @@ use Rattle.orbit.specs.Store.{place, next}
 use Rattle.orbit.specs.At.{site}
 use Rattle.model.specs.Codes.{arcCode}
 use Rattle.orbit.proofs.PlaceLaws.{place-in, place-of, place-once}
-use Rattle.rewriting.specs.Links.{relinked, cleared, Turnable, Legible, Columns, Codes, BeforeRewriting}
+use Rattle.rewriting.specs.Links.{relinked, cleared, changed, Changed, Turnable, Legible, Columns, Codes, BeforeRewriting}
+use Rattle.rewriting.proofs.LinkLaws.{changed-same, changed-other}
 use Rattle.rewriting.proofs.LinkWriteLaws.{pairDart, Different, relinked-long, relinked-leaves, relinked-node, relinked-position, relinked-none}
 use Rattle.rewriting.proofs.LinkWriteLaws.{cleared-long, cleared-leaves, cleared-sets}
 
-module _ {slots : ℕ} {table store : List ℕ} {size : ℕ} {kinds codes : List ℕ} {c : ℕ} {cols : List ℕ}
-    (R : BeforeRewriting slots table store size kinds codes c cols) where
+module _ {slots : ℕ} {table store : List ℕ} {size : ℕ} {kinds lefts rights : List ℕ} {c : ℕ} {cols : List ℕ}
+    (R : BeforeRewriting slots table store size kinds lefts rights c cols) {codes : List ℕ} (C : Changed lefts rights codes) where
   abbrev E : Site
   E = site (R .at)
 
@@ -89,8 +92,11 @@ module _ {slots : ℕ} {table store : List ℕ} {size : ℕ} {kinds codes : List
     };
   }
 
+  none-legible : Legible slots store size cols 255
+  none-legible = record { node = λ l. absurd (omega arith); position = λ l k. absurd (omega arith) }
+
   legible : (v i : ℕ) → v < S .nodes → (a : Arc) → arcAt S right v i ≡ a → Legible slots store size cols (arcCode a)
-  legible v i h absent e = record { node = λ l. absurd (omega arith); position = λ l k. absurd (omega arith) }
+  legible v i h absent e = none-legible
   legible v i h (explicit t) e =
       let b = explicit-end S right (accepted .sides right) v i t e .0 in
       let few = accepted .shaped .nodesFew in
@@ -109,18 +115,30 @@ module _ {slots : ℕ} {table store : List ℕ} {size : ℕ} {kinds codes : List
         };
       }
 
-  code-is : (v i : ℕ) → v < S .nodes → i < 4 → getD codes (4 * v + i) 0 ≡ arcCode (arcAt S right v i)
+  code-is : (v i : ℕ) → v < S .nodes → i < 4 → getD codes (4 * v + i) 0 ≡ changed (arcCode (arcAt S left v i)) (arcCode (arcAt S right v i))
   code-is v i h l =
       let few = accepted .shaped .nodesFew in
-      R .coded .at v i h l
+      C .at (4 * v + i) (omega arith) ∙ ap₂ changed (R .leftCoded .at v i h l) (R .rightCoded .at v i h l)
+
+  -- an arc that both sides have is not followed, and another by its code
+  code-cases : (v i : ℕ) → v < S .nodes → i < 4
+      → ((getD codes (4 * v + i) 0 ≡ 255) × (arcAt S left v i ≡ arcAt S right v i)) ⊎ (getD codes (4 * v + i) 0 ≡ arcCode (arcAt S right v i))
+  code-cases v i h l = by-cases (ℕ-discrete (arcCode (arcAt S left v i)) (arcCode (arcAt S right v i)))
+      (λ e. inl (
+        code-is v i h l ∙ changed-same _ _ e,
+        one-arc (S .nodes) (accepted .shaped .nodesFew) _ _ (small-arc S (accepted .shaped) left v i) (small-arc S (accepted .shaped) right v i) e,
+      ))
+      (λ ne. inr (code-is v i h l ∙ changed-other _ _ ne))
 
   pub coding : Codes slots store size codes c cols
   coding = record {
     at = λ k h.
         let v : k / 4 < S .nodes = node (omega arith) in
         let same : 4 * (k / 4) + k % 4 ≡ k = omega arith in
-        subst (Legible slots store size cols) (sym (code-is (k / 4) (k % 4) v (omega arith)) ∙ ap (λ (j : ℕ). getD codes j 0) same)
-        (legible (k / 4) (k % 4) v (arcAt S right (k / 4) (k % 4)) refl);
+        subst (λ (j : ℕ). Legible slots store size cols (getD codes j 0)) same (⊎-elim
+        (λ e. subst (Legible slots store size cols) (sym (e .0)) none-legible)
+        (λ e. subst (Legible slots store size cols) (sym e) (legible (k / 4) (k % 4) v (arcAt S right (k / 4) (k % 4)) refl))
+        (code-cases (k / 4) (k % 4) v (omega arith)));
   }
 
   -- ---- the table after the loops
@@ -221,31 +239,47 @@ module _ {slots : ℕ} {table store : List ℕ} {size : ℕ} {kinds codes : List
           third-is : (i : ℕ) → i ≤ 3 → S .n < i → i ≡ 3
           third-is i l g = ⊎-elim (λ e. omega arith) (λ e. omega arith) (accepted .shaped .dimension)
 
-      link-linked : (i : ℕ) → i ≤ 3 → (a : Arc) → arcAt S right v i ≡ a → fieldAt linked (Link i) (dart v r) ≡ new .link i (D (P r) v)
-      link-linked i l absent a =
-          relinked-none slots store size cols codes c different v i r (counted hv) (omega arith) hr 255
-          (code-is v i hv (omega arith) ∙ ap arcCode a) table (R .sized .long) (omega arith)
-          ∙ ap (fieldAt table (Link i)) (dart-is v r hv hr) ∙ link-absent i l a
-      link-linked i l (explicit t) a =
+      -- where both sides have the same i-arc: a preserved dart has the link by the match
+      link-stands : (i : ℕ) → i ≤ 3 → arcAt S left v i ≡ arcAt S right v i → fieldAt table (Link i) (D (P r) v) ≡ new .link i (D (P r) v)
+      link-stands i l same = ⊎-elim
+          (λ z. old (left-not-added S v z) (Link i) ∙ sym (L.link-same ready (P r) v (place-in (R .walked) r hr) hv k i l z same))
+          (λ z. link-absent i l (sym same ∙ off-side S left (accepted .sides left) v i hv (omega arith) (added-not-left S v z)))
+          (L.kinds ready v hv)
+
+      -- a link that is not written
+      link-left : (i : ℕ) → i ≤ 3 → getD codes (4 * v + i) 0 ≡ 255 → fieldAt linked (Link i) (dart v r) ≡ fieldAt table (Link i) (D (P r) v)
+      link-left i l e =
+          relinked-none slots store size cols codes c different v i r (counted hv) (omega arith) hr 255 e table (R .sized .long) (omega arith)
+          ∙ ap (fieldAt table (Link i)) (dart-is v r hv hr)
+
+      link-written : (i : ℕ) → i ≤ 3 → (a : Arc) → arcAt S right v i ≡ a → getD codes (4 * v + i) 0 ≡ arcCode a
+          → fieldAt linked (Link i) (dart v r) ≡ new .link i (D (P r) v)
+      link-written i l absent a is = link-left i l is ∙ link-absent i l a
+      link-written i l (explicit t) a is =
           let b = explicit-end S right (accepted .sides right) v i t a .0 in
           let few = accepted .shaped .nodesFew in
-          relinked-node slots store size cols codes c different v i r (counted hv) (omega arith) hr t
-          (code-is v i hv (omega arith) ∙ ap arcCode a) table (R .sized .long) (omega arith)
+          relinked-node slots store size cols codes c different v i r (counted hv) (omega arith) hr t is table (R .sized .long) (omega arith)
           ∙ dart-is t r b hr ∙ sym (L.link-explicit ready (P r) v (place-in (R .walked) r hr) hv k i t a)
-      link-linked i l (implicit p) a =
+      link-written i l (implicit p) a is =
           let b = implicit-from S right v i p a .0 in
           let few = accepted .shaped .placesFew in
           let n3 = small S (accepted .shaped) in
           let same : 16 + p - 16 ≡ p = omega arith in
           let w = R .walked .links r p hr b in
-          relinked-position slots store size cols codes c different v i r (counted hv) (omega arith) hr (16 + p)
-          (code-is v i hv (omega arith) ∙ ap arcCode a) table (R .sized .long) (omega arith) (omega arith)
+          relinked-position slots store size cols codes c different v i r (counted hv) (omega arith) hr (16 + p) is
+          table (R .sized .long) (omega arith) (omega arith)
           ∙ ap (λ (q : ℕ). dart v (next slots store r q)) same ∙ dart-is v (next slots store r p) hv (w .0) ∙ ap (λ (u : ℕ). D u v) (w .1)
           ∙ sym (L.link-implicit ready (P r) v (place-in (R .walked) r hr) hv k i p a)
 
+      link-linked : (i : ℕ) → i ≤ 3 → fieldAt linked (Link i) (dart v r) ≡ new .link i (D (P r) v)
+      link-linked i l = ⊎-elim
+          (λ e. link-left i l (e .0) ∙ link-stands i l (e .1))
+          (λ e. link-written i l (arcAt S right v i) refl e)
+          (code-cases v i hv (omega arith))
+
       field-stays : (f : Field) → dimension f ≤ 3 → fieldAt after f (D (P r) v) ≡ fieldOf new f (D (P r) v)
       field-stays State l = state-stays
-      field-stays (Link i) l = ap (fieldAt after (Link i)) (sym (dart-is v r hv hr)) ∙ spared (Link i) ∙ link-linked i l (arcAt S right v i) refl
+      field-stays (Link i) l = ap (fieldAt after (Link i)) (sym (dart-is v r hv hr)) ∙ spared (Link i) ∙ link-linked i l
       field-stays Tag l = tag-stays
 
   -- ---- every slot

@@ -9,7 +9,7 @@ use lib.Dec.{eqb, ltb}
 use Rattle.base.specs.Below.{countBelow}
 use Rattle.base.specs.Steps.{steps}
 use Rattle.model.specs.Map.{Link, put, view, unused}
-use Rattle.model.specs.Scheme.{right}
+use Rattle.model.specs.Scheme.{left, right}
 use Rattle.model.specs.Match.{matches}
 use Rattle.model.specs.Edit.{addedDarts}
 use Rattle.table.specs.Words.{Sized, blanked}
@@ -52,6 +52,14 @@ module _ (N : ℕ) (store : List ℕ) (size : ℕ) (cols : List ℕ) where
   unfoldable pub relinked : List ℕ → ℕ → List ℕ → List ℕ
   relinked codes n = steps n (λ k. followed (k % 4) (getD cols (k / 4) 0) (getD codes k 0))
 
+-- the code of an arc of the right side, and that of no arc where the left side has the same: its links stand already
+unfoldable pub changed : ℕ → ℕ → ℕ
+changed before after = cond (eqb before after) 255 after
+
+-- the codes are those of a right side where they differ from a left side's
+pub record Changed (lefts rights codes : List ℕ) : Type 0 where
+  pub at : (k : ℕ) → k < 64 → getD codes k 0 ≡ changed (getD lefts k 0) (getD rights k 0)
+
 -- ---- what makes it safe
 
 -- from `base` on, the store holds `size` slots
@@ -83,7 +91,7 @@ pub record Codes (N : ℕ) (store : List ℕ) (size : ℕ) (codes : List ℕ) (c
 -- ---- what the phase is handed
 
 -- the site of the edit in the table before it, with what the earlier phases found and left
-pub record BeforeRewriting (slots : ℕ) (table store : List ℕ) (size : ℕ) (kinds codes : List ℕ) (c : ℕ) (cols : List ℕ) : Type 0 where
+pub record BeforeRewriting (slots : ℕ) (table store : List ℕ) (size : ℕ) (kinds lefts rights : List ℕ) (c : ℕ) (cols : List ℕ) : Type 0 where
   pub before : List ℕ
   pub at : At slots before
   pub sized : Sized slots table
@@ -95,4 +103,5 @@ pub record BeforeRewriting (slots : ℕ) (table store : List ℕ) (size : ℕ) (
   pub given : Given (site at) before table
   pub nodes : c ≡ at .scheme .nodes
   pub kinded : kinds ≡ at .scheme .kinds
-  pub coded : Coded (at .scheme) right codes
+  pub leftCoded : Coded (at .scheme) left lefts
+  pub rightCoded : Coded (at .scheme) right rights

@@ -1,5 +1,5 @@
 // The new links of preserved and added pairs, and zeros in deleted records. Every link from before the edit that is needed stands
-// in the store by place, so nothing is read from the table.
+// in the store by place, so nothing is read from the table; a link whose arc is on the left side too stands already.
 use conditions::arcs::wide;
 use orbit::store::word;
 use table::words::blank;
@@ -12,7 +12,7 @@ ghost use Rattle.model.specs.Edit.{edited};
 ghost use Rattle.table.specs.Words.{Sized};
 ghost use Rattle.orbit.specs.Store.{dartAt};
 ghost use Rattle.orbit.specs.At.{site};
-ghost use Rattle.rewriting.specs.Links.{placeBy, overwritten, erased, followed, relinked, cleared, HoldsSlots, Turnable, Legible, Columns, Codes, BeforeRewriting};
+ghost use Rattle.rewriting.specs.Links.{placeBy, overwritten, erased, followed, relinked, cleared, changed, Changed, HoldsSlots, Turnable, Legible, Columns, Codes, BeforeRewriting};
 
 // The place of which an arc takes the dart at place r: r itself where its code is a node, and by a position, that to which the link leads.
 fn place(slots: usize, store: &[u32], code: usize, r: usize) -> usize
@@ -147,6 +147,28 @@ fn clear(
     }
 }
 
+// The code of an arc of the right side, and that of no arc where the left side has the same.
+fn change(before: u8, after: u8) -> u8
+    ensures { λ r. ⌜ r ≡ changed before after ⌝ }
+{
+    if before == after {
+        return 255;
+    }
+    after
+}
+
+// The codes of the right arcs whose links do not stand already.
+fn changes(lefts: &[u8; 64], rights: &[u8; 64], codes: &mut [u8; 64])
+    requires { ⌜ length (now codes) ≡ 64 ⌝ }
+    ensures { λ _. ⌜ Changed (now (lefts .entry)) (now (rights .entry)) (now (codes .exit)) ⌝ }
+{
+    let mut k = 0;
+    while k < 64 {
+        codes[k] = change(lefts[k], rights[k]);
+        k += 1;
+    }
+}
+
 // The table after the edit, from the table with the darts of the added pairs.
 pub fn rewrite(
     slots: usize,
@@ -154,14 +176,18 @@ pub fn rewrite(
     store: &[u32],
     size: usize,
     kinds: &[u8; 16],
-    codes: &[u8; 64],
+    lefts: &[u8; 64],
+    rights: &[u8; 64],
     c: usize,
     cols: &[usize; 16],
 )
-    requires { ⌜ BeforeRewriting slots (now table) (now store) size (now kinds) (now codes) c (now cols) ⌝ }
-    ensures { λ _. ⌜ ((R : BeforeRewriting slots (now (table .entry)) (now (store .entry)) size (now (kinds .entry)) (now (codes .entry)) c (now (cols .entry)))
+    requires { ⌜ BeforeRewriting slots (now table) (now store) size (now kinds) (now lefts) (now rights) c (now cols) ⌝ }
+    ensures { λ _. ⌜ ((R : BeforeRewriting slots (now (table .entry)) (now (store .entry)) size (now (kinds .entry)) (now (lefts .entry))
+        (now (rights .entry)) c (now (cols .entry)))
         → now (table .exit) ≡ tableOf (edited (site (R .at)))) ⌝ }
 {
-    relink(slots, table, store, size, codes, c, cols);
+    let mut codes = [255u8; 64];
+    changes(lefts, rights, &mut codes);
+    relink(slots, table, store, size, &codes, c, cols);
     clear(slots, table, store, size, kinds, c, cols);
 }

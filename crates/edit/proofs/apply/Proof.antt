@@ -60,7 +60,7 @@ wide-requires-2 c κs = search needs
 
 settle-requires : tie.Need-settle-requires
 settle-requires c κs =
-    let n = c .before .before .before .before .before .before in
+    let n = c .before .before .before .before .before .before .before in
     let e = n .before in
     let a = e .before .before .before in
     let l = walk-done (a .before) in
@@ -73,7 +73,7 @@ settle-requires c κs =
 same-length-4 : tie.Need-same-length-4
 same-length-4 c =
     let r = c .before .before .before .before in
-    let a = r .before .before .before .before .before .before .before .before .before .before .before in
+    let a = r .before .before .before .before .before .before .before .before .before .before .before .before in
     let l = walk-done (a .before) in
     let u = l .before .before .before .before .before .before .before .before in
     r .settle .kept .1 .1 .0 ∙ (a .assign .kept .1 .1 .0 ∙ (l .walk .kept .1 .1 .1 .1 .0 ∙ u .unmark .kept .1 .0))
@@ -81,7 +81,7 @@ same-length-4 c =
 returns-2 : tie.Need-returns-2
 returns-2 c =
     let r = c .before .before .before .before in
-    let n = r .before .before .before .before .before .before .before in
+    let n = r .before .before .before .before .before .before .before .before in
     let e = n .before in
     let a = e .before .before .before in
     let l = walk-done (a .before) in
