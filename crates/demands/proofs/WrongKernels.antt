@@ -1,5 +1,6 @@
 -- Kernels that demand 2 shuts out: one that refuses everything, one that gives a fixed answer, one that changes nothing, one that rewrites only the
 -- first orbit dart, and one that invents its counts. Each is refuted on P8, V on E at 0, or on P10, W on E at 0.
+-- One more takes the first of two darts for both hooks, and is refuted where two flanges are sewn, on F at 0 and 3.
 -- Kernels that demand 1 shuts out: one whose load refuses a broken map, and one whose load leaves a word of an unused record.
 -- Assumes nothing.
 use Prim.Native.Nat.{ℕ, zero, suc, _<_}
@@ -20,11 +21,11 @@ use Rattle.model.specs.File.{darts, slotAt}
 use Rattle.model.specs.Calls.{checkTable, firstDart, editFault, editAnswer, editTable, editStore, loadAnswer, loadTable}
 use Rattle.model.specs.Sequence.{Request, tableCheck, schemeCheck, edit, load, write, Outcome, fileOf, knownAfter}
 use Rattle.model.specs.declared.Darts.{Darts}
-use Rattle.model.specs.declared.Darts.the-variants.{One}
+use Rattle.model.specs.declared.Darts.the-variants.{One, Two}
 use Rattle.model.specs.declared.Answer.{Answer}
-use Rattle.model.specs.declared.Answer.the-variants.{Done, Edited, BadCall, BadTable}
+use Rattle.model.specs.declared.Answer.the-variants.{Done, Edited, BadCall, BadTable, NoMatch}
 use Rattle.model.proofs.Computes.{computes}
-use Rattle.model.proofs.Samples.{e8, unusedSlots, vBytes, wBytes, store8, vDarts, eFile, brokenFile}
+use Rattle.model.proofs.Samples.{e8, unusedSlots, vBytes, wBytes, store8, vDarts, eFile, brokenFile, fDarts, sewBytes, store4}
 use Rattle.demands.specs.Kernel.{Kernel}
 use Rattle.demands.specs.Ours.{ours}
 use Rattle.demands.specs.Runs.{Allowed, AlikeRuns}
@@ -91,6 +92,15 @@ first-only = editing editAnswer (λ n N t store b d. cond (there (editFault n N 
 abbrev pub inventing : Kernel
 inventing = editing (λ n N t store b d. cond (eqb (number (editAnswer n N t store b d)) 0) (Edited 1 1 1) (editAnswer n N t store b d)) editTable
 
+-- the first dart for both
+abbrev pub twice : Darts → Darts
+twice (One d) = One d
+twice (Two d e) = Two d d
+
+-- an edit takes the first of two darts for both hooks
+abbrev pub first-twice : Kernel
+first-twice = editing (λ n N t store b d. editAnswer n N t store b (twice d)) (λ n N t store b d. editTable n N t store b (twice d))
+
 -- a load checks the map too, and answers 7 where it is broken
 abbrev pub strict : Kernel
 strict = loading (λ n N t b. cond (eqb (number (loadAnswer n N t b)) 0) (checkTable n N (loadTable n N t b)) (loadAnswer n N t b)) loadTable
@@ -113,12 +123,24 @@ p10-answer : editAnswer 2 8 e8 store8 wBytes (One 0) ≡ Edited 1 0 0
 unfolding computes
 p10-answer = refl
 
--- no refusal applies to either
+-- two flanges are sewn at 0 and 3, and at 0 and 0 there is no match
+sew-answer : editAnswer 2 4 fDarts store4 (sewBytes 0 1) (Two 0 3) ≡ Edited 2 0 0
+unfolding computes
+sew-answer = refl
+
+twice-answer : editAnswer 2 4 fDarts store4 (sewBytes 0 1) (Two 0 0) ≡ NoMatch
+unfolding computes
+twice-answer = refl
+
+-- no refusal applies to P8, P10 or the sewing
 p8-applies : Applicable 2 8 e8 store8 vBytes (One 0)
 p8-applies = free-applicable 2 8 e8 store8 vBytes (One 0) (ap number p8-answer)
 
 p10-applies : Applicable 2 8 e8 store8 wBytes (One 0)
 p10-applies = free-applicable 2 8 e8 store8 wBytes (One 0) (ap number p10-answer)
+
+sew-applies : Applicable 2 4 fDarts store4 (sewBytes 0 1) (Two 0 3)
+sew-applies = free-applicable 2 4 fDarts store4 (sewBytes 0 1) (Two 0 3) (ap number sew-answer)
 
 -- what demand 2 asks of an edit at P8 and at P10
 module _ (K : Kernel) (D : Demand2 K) where
@@ -165,6 +187,12 @@ not-inventing D =
     subst (λ (r : Answer). values (cond (eqb (number r) 0) (Edited 1 1 1) r) ≡ values (Edited 2 2 0)) p8-answer
     (p8-done inventing D _ _ _ (refl, refl, refl) .1) in
     let size : _≡_ {A = ℕ} 1 2 = ap (at 0) counted in omega arith
+
+pub not-first-twice : Demand2 first-twice → ⊥
+not-first-twice D =
+    let e = D .edits 2 4 fDarts store4 (sewBytes 0 1) (Two 0 3) _ _ _ (refl, refl, refl) sew-applies in
+    let nine : _≡_ {A = ℕ} 9 0 = sym (ap number twice-answer) ∙ e .done in
+    omega arith
 
 -- ---- none of the loads meets demand 1
 
