@@ -31,7 +31,8 @@ faultBy n places nodes orbit kinds words second out lefts rights leftTwice right
     hookElse (hookBy places orbit kinds words second out) (arcsAnswer n nodes orbit kinds lefts rights leftTwice rightTwice)
 
 -- the numbers and lists are parts of a scheme in the form, and its nodes with two arcs of a dimension
-pub record Judging (n places nodes second : ℕ) (orbit kinds lwords ltargets rtargets : List ℕ) (lcount : ℕ) (larcs : List ℕ) (ltwice rtwice : List Bool) : Type 0 where
+pub record Judging (n places nodes second : ℕ) (orbit kinds lwords ltargets rtargets : List ℕ) (lcount : ℕ) (larcs : List ℕ)
+    (ltwice rtwice : List Bool) : Type 0 where
   pub scheme : Scheme
   pub shaped : Shaped scheme
   pub nIs : n ≡ scheme .n

@@ -23,7 +23,8 @@ use Rattle.model.specs.Conditions.{schemeFault}
 use Rattle.model.specs.Twice.{twiceOf}
 use Rattle.model.specs.Accepted.{Accepted}
 use Rattle.model.specs.Site.{siteAt}
-use Rattle.model.specs.Calls.{zeros, sizesOk, bytesFault, firstDart, secondDart, asMany, takes, storedOk, editFaultAt, editFault, editAnswer, editTable, editStore}
+use Rattle.model.specs.Calls.{zeros, sizesOk, bytesFault, firstDart, secondDart, asMany, takes, storedOk}
+use Rattle.model.specs.Calls.{editFaultAt, editFault, editAnswer, editTable, editStore}
 use Rattle.model.specs.declared.Scheme.{Scheme}
 use Rattle.model.specs.declared.Darts.{Darts}
 use Rattle.model.specs.declared.Darts.the-variants.{One, Two}

@@ -80,7 +80,8 @@ module _ (m : Map) (s : List ℕ) (size : ℕ) (dims cols : List ℕ) (j i from 
   unfolding codeTest explicitTest
   explicit-holds t h f = rw (ne-eqb t 255 (λ q. absurd (omega arith)), lt-ltb t 16 h) (or-right _ f)
 
-  implicit-holds : (p : ℕ) → p < 4 → follows m s size i from from (λ r. next (m .slots) s r p) ≡ true → codeTest m s size dims cols j i from roots (16 + p) ≡ true
+  implicit-holds : (p : ℕ) → p < 4 → follows m s size i from from (λ r. next (m .slots) s r p) ≡ true
+      → codeTest m s size dims cols j i from roots (16 + p) ≡ true
   unfolding codeTest implicitTest
   implicit-holds p h f =
       let same : 16 + p - 16 ≡ p = omega arith in

@@ -394,7 +394,8 @@ module _ {N : ℕ} {t s : List ℕ} {size : ℕ} {dims : List ℕ} {k tail : ℕ
       done = λ l.
           let d = D .done some in
           let f = F .done l in
-          (omega (arith, d .0, f .0), f .1, longer-trans N s s′ (size + tail) (d .2) s″ (longer-less N s′ s″ (size + end) (f .2) (size + tail) (omega (arith, d .0))));
+          let more = longer-less N s′ s″ (size + end) (f .2) (size + tail) (omega (arith, d .0)) in
+          (omega (arith, d .0, f .0), f .1, longer-trans N s s′ (size + tail) (d .2) s″ more);
       none = F .none;
     }
 

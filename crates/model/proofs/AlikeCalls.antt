@@ -95,7 +95,8 @@ module _ (n N : ℕ) (t t′ : List ℕ) (a : AlikeTables n N t t′) where
       fit-same : fitFault E ≡ fitFault E′
       unfolding fitFault
       fit-same = or-else-same _ _
-          (ap (λ (b : Bool). someIf (not b) NoMatch) (same-matches E (g .accepted) m′ (a .alike) (g .well) well′ (good-orbit m S (firstDart d) (secondDart d) g)))
+          (ap (λ (b : Bool). someIf (not b) NoMatch)
+          (same-matches E (g .accepted) m′ (a .alike) (g .well) well′ (good-orbit m S (firstDart d) (secondDart d) g)))
           (λ q. ap₂ (λ (c k : ℕ). someIf (ltb c k) NoRoom) (same-room m m′ (a .alike) (S .n) (g .well) well′) (same-added E m′ (a .alike)))
           ∙ ap fitFault same-site
 

@@ -11,7 +11,8 @@ use Rattle.base.specs.First.{someIf, there, _orElse_}
 use Rattle.model.specs.Map.{view}
 use Rattle.model.specs.WellFormed.{wellFormed}
 use Rattle.model.specs.Scheme.{schemeOf}
-use Rattle.model.specs.Calls.{sizesOk, mapFault, tableFault, checkTable, bytesFault, takes, siteFault, storedOk, editFaultAt, editFault, editAnswer, editTable}
+use Rattle.model.specs.Calls.{sizesOk, mapFault, tableFault, checkTable, bytesFault, takes, siteFault, storedOk}
+use Rattle.model.specs.Calls.{editFaultAt, editFault, editAnswer, editTable}
 use Rattle.model.specs.Calls.{writeFaultAt, writeFault, writeAnswer, writeOut}
 use Rattle.model.specs.declared.Darts.{Darts}
 use Rattle.model.specs.declared.Answer.the-variants.{BadTable}

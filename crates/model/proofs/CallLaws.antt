@@ -16,7 +16,8 @@ use Rattle.model.specs.Conditions.{schemeFault}
 use Rattle.model.specs.Site.{LiveDart, Sound}
 use Rattle.model.specs.Match.{matches}
 use Rattle.model.specs.Edit.{addedDarts, edited}
-use Rattle.model.specs.Calls.{bytesFault, firstDart, secondDart, asMany, takes, isDart, fitFault, siteFault, sizesOk, editFaultAt, siteOf, editFault, editTable}
+use Rattle.model.specs.Calls.{bytesFault, firstDart, secondDart, asMany, takes, isDart, fitFault, siteFault, sizesOk}
+use Rattle.model.specs.Calls.{editFaultAt, siteOf, editFault, editTable}
 use Rattle.model.specs.declared.Scheme.{Scheme}
 use Rattle.model.specs.declared.Darts.{Darts}
 use Rattle.model.specs.declared.Darts.the-variants.{One, Two}

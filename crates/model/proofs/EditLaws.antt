@@ -180,7 +180,8 @@ module _ {E : Site} (r : Ready E) where
               ∙ ap (m .link i) (sym (dart-left E u s l))
           go (implicit p) a =
               let f = implicit-from S left s i p (same ∙ a) in
-              let dim : i ≤ S .n = ⊎-elim (λ w. absurd (omega (arith, f .1))) (λ w. omega (arith, f .1)) (r .accepted .sides left .shaped .words s p h (f .0)) in
+              let words = r .accepted .sides left .shaped .words s p h (f .0) in
+              let dim : i ≤ S .n = ⊎-elim (λ w. absurd (omega (arith, f .1))) (λ w. omega (arith, f .1)) words in
               link-implicit i p a ∙ dart-left E (m .link (orbitDim S p) u) s l ∙ sym (eqb-true _ _ (holds (implicit p) (same ∙ a) dim))
               ∙ ap (m .link i) (sym (dart-left E u s l))
 

@@ -13,7 +13,8 @@ use Rattle.base.specs.Test.{_and_, _or_}
 use Rattle.base.specs.First.{least, someIf, there, _orElse_}
 use Rattle.base.proofs.TestLaws.{and-left, and-right, and-of, not-both, or-cases, or-left, or-right}
 use Rattle.base.proofs.BelowLaws.{all-at, all-of}
-use Rattle.base.proofs.FirstLaws.{or-else-cases, when-at, there-at, there-of, there-first, there-second, first-at, first-of, least-only, least-none-of, least-hit}
+use Rattle.base.proofs.FirstLaws.{or-else-cases, when-at, there-at, there-of, there-first, there-second, first-at, first-of}
+use Rattle.base.proofs.FirstLaws.{least-only, least-none-of, least-hit}
 use Rattle.model.specs.Scheme.{left, arcs, arcPart, firstHook, isHook}
 use Rattle.model.specs.Shaped.{Shaped}
 use Rattle.model.specs.Reach.{Leads, here, step}

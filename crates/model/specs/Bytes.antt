@@ -1,4 +1,5 @@
--- 'The scheme's bytes': where each of the five sections and the second hook stand. Bytes past the end count as 0; `inForm` (Scheme.antt) tests the exact length.
+-- 'The scheme's bytes': where each of the five sections and the second hook stand. Bytes past the end count as 0; `inForm` (Scheme.antt) tests
+-- the exact length.
 -- Assumes nothing.
 use Prim.Native.Nat.{ℕ, _+_, _*_, _-_}
 use mathlib.Core.Bool.{Bool, cond}

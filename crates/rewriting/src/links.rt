@@ -12,7 +12,8 @@ ghost use Rattle.model.specs.Edit.{edited};
 ghost use Rattle.table.specs.Words.{Sized};
 ghost use Rattle.orbit.specs.Store.{dartAt};
 ghost use Rattle.orbit.specs.At.{site};
-ghost use Rattle.rewriting.specs.Links.{placeBy, overwritten, erased, followed, relinked, cleared, changed, Changed, HoldsSlots, Turnable, Legible, Columns, Codes, BeforeRewriting};
+ghost use Rattle.rewriting.specs.Links.{placeBy, overwritten, erased, followed, relinked, cleared, changed, Changed};
+ghost use Rattle.rewriting.specs.Links.{HoldsSlots, Turnable, Legible, Columns, Codes, BeforeRewriting};
 
 // The place of which an arc takes the dart at place r: r itself where its code is a node, and by a position, that to which the link leads.
 fn place(slots: usize, store: &[u32], code: usize, r: usize) -> usize

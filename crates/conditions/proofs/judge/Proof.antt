@@ -33,7 +33,8 @@ returns c =
     let t = p .before in
     let w = t .before .before in
     let r = t .reach-of .ensures in
-    λ J. judge-is J _ _ _ (p .wide4 .ensures .0) (w .before .wide .ensures .0) (w .wide2 .ensures .0) _ (t .before .wide3 .ensures .0) _ (r .0) (r .1 .0) _ (r .1 .1) _
+    λ J. judge-is J _ _ _ (p .wide4 .ensures .0) (w .before .wide .ensures .0) (w .wide2 .ensures .0) _ (t .before .wide3 .ensures .0) _
+    (r .0) (r .1 .0) _ (r .1 .1) _
     (c .before .fault .ensures)
 
 pub judge-spec : {M : Type 1} → statement M

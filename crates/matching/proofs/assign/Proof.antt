@@ -44,7 +44,8 @@ returns-3 c =
     let k = f .before .before .before in
     let e = k .before .before .before in
     let h = e .before .before .before in
-    record { at = λ p. matched-at p (h .opposite .ensures) (not-false _ (e .if1 .left)) (k .columns .ensures .done (not-false _ (f .if2 .left))) _ (c .arcs .ensures) }
+    let grown = k .columns .ensures .done (not-false _ (f .if2 .left)) in
+    record { at = λ p. matched-at p (h .opposite .ensures) (not-false _ (e .if1 .left)) grown _ (c .arcs .ensures) }
 
 pub assign-spec : {M : Type 1} → statement M
 assign-spec =

@@ -9,7 +9,8 @@ use Rattle.conditions.proofs.tree.pass.Statement.{statement}
 use Rattle.conditions.proofs.tree.pass.Tie as tie
 
 abbrev Inv-loop : tie.InvT-loop
-Inv-loop second count arcs node₀ parent₀ dim₀ reached₀ size k₀ last₀ node parent dim reached k last = Grown arcs count count second node parent dim reached last k
+Inv-loop second count arcs node₀ parent₀ dim₀ reached₀ size k₀ last₀ node parent dim reached k last =
+    Grown arcs count count second node parent dim reached last k
 
 abbrev μ-loop : tie.MeasureT-loop
 μ-loop second count arcs node₀ parent₀ dim₀ reached₀ size k₀ last₀ node parent dim reached k last = 16 - last

@@ -51,7 +51,8 @@ returns-2 c =
     let r = w .before .before .before .before .before in
     let p = r .before .pre in
     let spans = tree-aimed _ _ _ (p .1 .1 .0) _ _ _ _ _ _ (w .walk .ensures) in
-    (closed-walk _ _ _ _ _ _ _ _ _ _ spans (p .1 .1 .1) (sym (c .enum-told2 .given .1) ∙ u .unreached .ensures), (r .roots-of .ensures .0, u .unreached .ensures))
+    let closed = closed-walk _ _ _ _ _ _ _ _ _ _ spans (p .1 .1 .1) (sym (c .enum-told2 .given .1) ∙ u .unreached .ensures) in
+    (closed, (r .roots-of .ensures .0, u .unreached .ensures))
 
 pub reach-of-spec : {M : Type 1} → statement M
 reach-of-spec =

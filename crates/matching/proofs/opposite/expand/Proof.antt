@@ -16,7 +16,8 @@ use Rattle.matching.proofs.opposite.expand.Tie as tie
 abbrev Inv-loop : tie.InvT-loop
 Inv-loop slots table store₀ size dims k head tail x at end₀ p₀ store end p =
     (p ≤ k) × (tail ≤ end) × (length store ≡ 16 * slots)
-    × ((T : Retracing slots table store₀ size dims k head tail) → Opposed (site (T .at)) store size (4 * head + p) end × Longer slots store₀ store (size + tail))
+    × ((T : Retracing slots table store₀ size dims k head tail)
+    → Opposed (site (T .at)) store size (4 * head + p) end × Longer slots store₀ store (size + tail))
 
 abbrev μ-loop : tie.MeasureT-loop
 μ-loop slots table store₀ size dims k head tail x at end₀ p₀ store end p = k - p
