@@ -1,20 +1,21 @@
 -- Kernels that demand 2 shuts out: one that refuses everything, one that gives a fixed answer, one that changes nothing, one that rewrites only the
 -- first orbit dart, and one that invents its counts. Each is refuted on P8, V on E at 0, or on P10, W on E at 0.
--- One more takes the first of two darts for both hooks, and is refuted where two flanges are sewn, on F at 0 and 3.
+-- Two more take other darts than the call's two, and are refuted on F at 0 and 3: one takes the first for both hooks, and finds no match where two
+-- flanges are sewn; one takes them in the wrong order, and works on the other piece where the first is kept and the second dropped.
 -- Kernels that demand 1 shuts out: one whose load refuses a broken map, and one whose load leaves a word of an unused record.
 -- Assumes nothing.
 use Prim.Native.Nat.{ℕ, zero, suc, _<_}
 use mathlib.Core.Path.{_≡_, refl, sym, ap, _∙_, subst}
 use mathlib.Core.Logic.{inl, inr}
 use mathlib.Core.Bool.{Bool, true, cond, true≢false}
-use mathlib.Core.List.{List, [], _++_}
+use mathlib.Core.List.{List, [], _∷_, _++_}
 use native.Mathlib.Omega.{arith}
-use lib.ListN.{getD, take}
+use lib.ListN.{getD, take, replicate}
 use lib.Dec.{eqb}
 use Rattle.base.specs.Test.{_or_}
 use Rattle.base.specs.First.{there}
 use Rattle.base.proofs.TestLaws.{or-false}
-use Rattle.model.specs.Map.{Link, Tag, fieldAt, put, tableOf}
+use Rattle.model.specs.Map.{State, Link, Tag, fieldAt, put, tableOf, tableSize}
 use Rattle.model.specs.Edit.{edited}
 use Rattle.model.specs.Answer.{number, values}
 use Rattle.model.specs.File.{darts, slotAt}
@@ -25,12 +26,12 @@ use Rattle.model.specs.declared.Darts.the-variants.{One, Two}
 use Rattle.model.specs.declared.Answer.{Answer}
 use Rattle.model.specs.declared.Answer.the-variants.{Done, Edited, BadCall, BadTable, NoMatch}
 use Rattle.model.proofs.Computes.{computes}
-use Rattle.model.proofs.Samples.{e8, unusedSlots, vBytes, wBytes, store8, vDarts, eFile, brokenFile, fDarts, sewBytes, store4}
+use Rattle.model.proofs.Samples.{dart, e8, unusedSlots, vBytes, wBytes, store8, vDarts, eFile, brokenFile, fDarts, sewBytes, store4}
 use Rattle.demands.specs.Kernel.{Kernel}
 use Rattle.demands.specs.Ours.{ours}
 use Rattle.demands.specs.Runs.{Allowed, AlikeRuns}
 use Rattle.demands.specs.Refusals.{FirstOf, Nothing, loadRefusals, siteOver}
-use Rattle.demands.specs.Demands.{Demand1, Demand2, Demand3, Applicable}
+use Rattle.demands.specs.Demands.{Demand1, Demand2, Demand3}
 use Rattle.demands.proofs.AdmitLaws.{free-applicable, done-is}
 use Rattle.demands.proofs.RunLaws.{AlikeCall, alike-runs}
 
@@ -92,14 +93,27 @@ first-only = editing editAnswer (λ n N t store b d. cond (there (editFault n N 
 abbrev pub inventing : Kernel
 inventing = editing (λ n N t store b d. cond (eqb (number (editAnswer n N t store b d)) 0) (Edited 1 1 1) (editAnswer n N t store b d)) editTable
 
+-- an edit takes the darts that f makes of the call's
+abbrev pub taking : (f : Darts → Darts) → Kernel
+taking f = editing (λ n N t store b d. editAnswer n N t store b (f d)) (λ n N t store b d. editTable n N t store b (f d))
+
 -- the first dart for both
 abbrev pub twice : Darts → Darts
 twice (One d) = One d
 twice (Two d e) = Two d d
 
+-- two darts in the wrong order
+abbrev pub swap : Darts → Darts
+swap (One d) = One d
+swap (Two d e) = Two e d
+
 -- an edit takes the first of two darts for both hooks
 abbrev pub first-twice : Kernel
-first-twice = editing (λ n N t store b d. editAnswer n N t store b (twice d)) (λ n N t store b d. editTable n N t store b (twice d))
+first-twice = taking twice
+
+-- an edit takes each of two darts for the other's hook
+abbrev pub swapped : Kernel
+swapped = taking swap
 
 -- a load checks the map too, and answers 7 where it is broken
 abbrev pub strict : Kernel
@@ -132,28 +146,47 @@ twice-answer : editAnswer 2 4 fDarts store4 (sewBytes 0 1) (Two 0 0) ≡ NoMatch
 unfolding computes
 twice-answer = refl
 
--- no refusal applies to P8, P10 or the sewing
-p8-applies : Applicable 2 8 e8 store8 vBytes (One 0)
-p8-applies = free-applicable 2 8 e8 store8 vBytes (One 0) (ap number p8-answer)
+-- orbit type 0 1 2, node 0 preserved with its word, node 1, the second hook, deleted: the first piece is kept and the second dropped
+abbrev pub keepBytes : List ℕ
+keepBytes = 34 ∷ 3 ∷ 0 ∷ 1 ∷ 2 ∷ 2 ∷ 2 ∷ 0 ∷ 1 ∷ 2 ∷ 0 ∷ 1 ∷ 2 ∷ 1 ∷ 0 ∷ 1 ∷ 2 ∷ 255 ∷ 255 ∷ 255 ∷ 1 ∷ 0 ∷ 0 ∷ []
 
-p10-applies : Applicable 2 8 e8 store8 wBytes (One 0)
-p10-applies = free-applicable 2 8 e8 store8 wBytes (One 0) (ap number p10-answer)
+-- at 0 and 3 and at 3 and 0 the answer is the same, and the piece that is kept is not
+keep-answer : editAnswer 2 4 fDarts store4 keepBytes (Two 0 3) ≡ Edited 2 0 2
+unfolding computes
+keep-answer = refl
 
-sew-applies : Applicable 2 4 fDarts store4 (sewBytes 0 1) (Two 0 3)
-sew-applies = free-applicable 2 4 fDarts store4 (sewBytes 0 1) (Two 0 3) (ap number sew-answer)
+pub swap-answer : editAnswer 2 4 fDarts store4 keepBytes (Two 3 0) ≡ Edited 2 0 2
+unfolding computes
+swap-answer = refl
 
--- what demand 2 asks of an edit at P8 and at P10
+keep-table : editTable 2 4 fDarts store4 keepBytes (Two 0 3) ≡ dart 1 0 0 0 7 ++ dart 0 1 1 1 7 ++ replicate (tableSize 2) 0
+unfolding computes
+keep-table = refl
+
+swap-table : editTable 2 4 fDarts store4 keepBytes (Two 3 0) ≡ replicate (tableSize 2) 0 ++ dart 3 2 2 2 9 ++ dart 2 3 3 3 9
+unfolding computes
+swap-table = refl
+
+-- what demand 2 asks of an edit that ours does: the same answer and the same table
 module _ (K : Kernel) (D : Demand2 K) where
+  as-ours : (n N : ℕ) (t store b : List ℕ) (d : Darts) → number (editAnswer n N t store b d) ≡ 0
+      → (r : Answer) (t′ store′ : List ℕ) → K .Edit n N t store b d r t′ store′
+      → (number r ≡ 0) × (values r ≡ values (editAnswer n N t store b d)) × (t′ ≡ editTable n N t store b d)
+  as-ours n N t store b d done r t′ store′ p =
+      let applies = free-applicable n N t store b d done in
+      let e = D .edits n N t store b d r t′ store′ p applies in
+      let is = done-is n N t store b d applies r t′ e in
+      (e .done, is .0, is .1)
+
+  -- and so of an edit at P8 and at P10
   p8-done : (r : Answer) (t′ store′ : List ℕ) → K .Edit 2 8 e8 store8 vBytes (One 0) r t′ store′
       → (number r ≡ 0) × (values r ≡ values (Edited 2 2 0)) × (t′ ≡ vDarts ++ unusedSlots 4)
   p8-done r t′ store′ p =
-      let e = D .edits 2 8 e8 store8 vBytes (One 0) r t′ store′ p p8-applies in
-      let is = done-is 2 8 e8 store8 vBytes (One 0) p8-applies r t′ e in
-      (e .done, is .0 ∙ ap values p8-answer, is .1 ∙ p8-table)
+      let is = as-ours 2 8 e8 store8 vBytes (One 0) (ap number p8-answer) r t′ store′ p in
+      (is .0, is .1 ∙ ap values p8-answer, is .2 ∙ p8-table)
 
   p10-values : (r : Answer) (t′ store′ : List ℕ) → K .Edit 2 8 e8 store8 wBytes (One 0) r t′ store′ → values r ≡ values (Edited 1 0 0)
-  p10-values r t′ store′ p =
-      done-is 2 8 e8 store8 wBytes (One 0) p10-applies r t′ (D .edits 2 8 e8 store8 wBytes (One 0) r t′ store′ p p10-applies) .0 ∙ ap values p10-answer
+  p10-values r t′ store′ p = as-ours 2 8 e8 store8 wBytes (One 0) (ap number p10-answer) r t′ store′ p .1 ∙ ap values p10-answer
 
 -- ---- none of the kernels meets demand 2
 
@@ -190,8 +223,16 @@ not-inventing D =
 
 pub not-first-twice : Demand2 first-twice → ⊥
 not-first-twice D =
-    let e = D .edits 2 4 fDarts store4 (sewBytes 0 1) (Two 0 3) _ _ _ (refl, refl, refl) sew-applies in
-    let nine : _≡_ {A = ℕ} 9 0 = sym (ap number twice-answer) ∙ e .done in
+    let is = as-ours first-twice D 2 4 fDarts store4 (sewBytes 0 1) (Two 0 3) (ap number sew-answer) _ _ _ (refl, refl, refl) in
+    let nine : _≡_ {A = ℕ} 9 0 = sym (ap number twice-answer) ∙ is .0 in
+    omega arith
+
+-- dart 0, of the piece to be kept, is not live
+pub not-swapped : Demand2 swapped → ⊥
+unfolding fieldAt
+not-swapped D =
+    let is = as-ours swapped D 2 4 fDarts store4 keepBytes (Two 0 3) (ap number keep-answer) _ _ _ (refl, refl, refl) in
+    let state : _≡_ {A = ℕ} 0 1 = ap (λ (t : List ℕ). fieldAt t State 0) (sym swap-table ∙ is .2 ∙ keep-table) in
     omega arith
 
 -- ---- none of the loads meets demand 1
