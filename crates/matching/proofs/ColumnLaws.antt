@@ -1,7 +1,7 @@
 -- The laws of `columns::column`: a column while its darts take their places.
 -- Assumes nothing.
 use Prim.Native.Nat.{ℕ, _+_, _*_, _-_, _≤_, _<_}
-use mathlib.Core.Path.{_≡_, refl, sym, ap, _∙_, subst}
+use mathlib.Core.Path.{_≡_, refl, sym, ap, _∙_}
 use mathlib.Core.Logic.{by-cases}
 use mathlib.Core.Bool.{true, false, true≢false}
 use mathlib.Core.List.{List}
@@ -14,7 +14,7 @@ use Rattle.orbit.specs.Store.{mark, place, next, dartAt, Taken, Kept}
 use Rattle.orbit.specs.Places.{Pushed}
 use Rattle.matching.specs.Opposite.{Longer}
 use Rattle.matching.specs.Columns.{Linked, Column, Columned}
-use Rattle.orbit.proofs.StoreLaws.{pushed-other, pushed-place-other, pushed-place, among-at, among-of}
+use Rattle.orbit.proofs.StoreLaws.{pushed-other, pushed-place-other, pushed-here, among-at, among-of}
 
 -- ---- a store with further places
 
@@ -118,12 +118,9 @@ module _ (m : Map) (i from : ℕ) (s : List ℕ) (end : ℕ) where
           r,
           h,
           c,
-          (let z : w ≡ mark s′ (m .link i (dartAt s from r)) = e ∙ ap (λ (k : ℕ). getD s′ k 0) at in subst (λ (k : ℕ). 1 ≤ k) z (positive w ne)),
+          (let z : w ≡ mark s′ (m .link i (dartAt s from r)) = e ∙ ap (λ (k : ℕ). getD s′ k 0) at in omega (arith, z, ne)),
         );
       }
-        where
-          positive : (w : ℕ) → (w ≡ 0 → ⊥) → 1 ≤ w
-          positive w ne = by-cases (ℕ-discrete w 0) (λ q. absurd (ne q)) (λ q. omega arith)
 
       pub column-more : (s″ : List ℕ) → y < m .slots → Pushed (m .slots) s′ (end + r) y s″ → Column m i from s s″ end (r + 1)
       column-more s″ l p =
@@ -133,7 +130,7 @@ module _ (m : Map) (i from : ℕ) (s : List ℕ) (end : ℕ) where
             taken = let same : end + (r + 1) ≡ end + r + 1 = omega arith in rw same (p .taken);
             longer = longer-trans N s s′ end (c .longer) s″ (longer-less N s′ s″ (end + r) longer end (omega arith));
             darts = λ q h. by-cases (ℕ-discrete q r)
-                (λ e. rw e (ap (λ (z : List ℕ). place N z (end + r)) (p .is) ∙ pushed-place N s′ (end + r) y (c .taken) l ∙ at))
+                (λ e. rw e (pushed-here N s′ (end + r) y (c .taken) l s″ p ∙ at))
                 (λ ne. longer .places (end + q) (omega arith) ∙ c .darts q (omega arith));
           }
 

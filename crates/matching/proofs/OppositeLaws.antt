@@ -23,7 +23,7 @@ use Rattle.orbit.specs.Store.{mark, place, next, Taken}
 use Rattle.orbit.specs.Places.{Pushed}
 use Rattle.orbit.specs.At.{At, site, WalkedAt}
 use Rattle.orbit.proofs.PlaceLaws.{places-few, place-in, place-once}
-use Rattle.orbit.proofs.StoreLaws.{pushed-place}
+use Rattle.orbit.proofs.StoreLaws.{pushed-here}
 use Rattle.orbit.proofs.WalkLaws.{walked-kept}
 use Rattle.conditions.specs.Tree.{rootsOf}
 use Rattle.conditions.proofs.TreeLaws.{one-root, two-roots, roots-few}
@@ -51,7 +51,7 @@ column-read N s size q x e = let same : N + size + q ≡ N + (size + q) = omega 
 
 pub mark-some : (s : List ℕ) (y w : ℕ) → w ≡ getD s y 0 → (w ≡ 0 → ⊥) → 1 ≤ mark s y
 unfolding mark
-mark-some s y w e ne = by-cases (ℕ-discrete w 0) (λ z. absurd (ne z)) (λ z. omega arith)
+mark-some s y w e ne = omega (arith, ne)
 
 -- ---- one dart or one link more
 
@@ -86,7 +86,7 @@ module _ (E : Site) where
       → (matches E ≡ true → y ≡ image E (place N s end) (S .second)) → (s′ : List ℕ) → Pushed N s (size + end) y s′ → Opposed E s′ size c (end + 1)
   opposed-push s size c end y O b l start is s′ p =
       let longer : Longer N s s′ (size + end) = pushed-longer N s s′ (size + end) y (l .slot) p in
-      let here : place N s′ (size + end) ≡ y = ap (λ (z : List ℕ). place N z (size + end)) (p .is) ∙ pushed-place N s (size + end) y (O .taken) (l .slot) in
+      let here : place N s′ (size + end) ≡ y = pushed-here N s (size + end) y (O .taken) (l .slot) s′ p in
       let old : (q : ℕ) → q < end → place N s′ (size + q) ≡ place N s (size + q) = λ q h. longer .places (size + q) (omega arith) in
       let fits = p .taken .fits in
       record {
@@ -113,33 +113,25 @@ module _ (E : Site) where
             };
       }
 
+  -- other steps were done, with the same darts
+  opposed-links : (s : List ℕ) (size c c′ end : ℕ) → Opposed E s size c end → ((r p : ℕ) → p < S .places → 4 * r + p < c′ → Follows E s size end r p)
+      → Opposed E s size c′ end
+  opposed-links s size c c′ end O f = record { taken = O .taken; fits = O .fits; alive = O .alive; first = O .first; images = O .images; links = f }
+
   -- the link at position p of the dart for place `head` was followed
   pub opposed-step : (s : List ℕ) (size head p end : ℕ) → S .places ≤ 4 → p < 4 → Opposed E s size (4 * head + p) end → Follows E s size end head p
       → Opposed E s size (4 * head + (p + 1)) end
-  opposed-step s size head p end few l O f = record {
-    taken = O .taken;
-    fits = O .fits;
-    alive = O .alive;
-    first = O .first;
-    images = O .images;
-    links = λ r q k h. by-cases (decLt (4 * r + q) (4 * head + p))
-        (λ old. O .links r q k old)
-        (λ new.
-        let row : r ≡ head = omega arith in
-        let position : q ≡ p = omega arith in
-        subst (λ (u : ℕ). Follows E s size end u q) (sym row) (subst (Follows E s size end head) (sym position) f));
-  }
+  opposed-step s size head p end few l O f = opposed-links s size (4 * head + p) (4 * head + (p + 1)) end O
+      (λ r q k h. by-cases (decLt (4 * r + q) (4 * head + p))
+      (λ old. O .links r q k old)
+      (λ new.
+      let row : r ≡ head = omega arith in
+      let position : q ≡ p = omega arith in
+      subst (λ (u : ℕ). Follows E s size end u q) (sym row) (subst (Follows E s size end head) (sym position) f)))
 
   -- the links at all positions were followed
   pub opposed-row : (s : List ℕ) (size head p end : ℕ) → S .places ≤ p → p ≤ 4 → Opposed E s size (4 * head + p) end → Opposed E s size (4 * (head + 1)) end
-  opposed-row s size head p end few l O = record {
-    taken = O .taken;
-    fits = O .fits;
-    alive = O .alive;
-    first = O .first;
-    images = O .images;
-    links = λ r q k h. O .links r q k (omega arith);
-  }
+  opposed-row s size head p end few l O = opposed-links s size (4 * head + p) (4 * (head + 1)) end O (λ r q k h. O .links r q k (omega arith))
 
 module _ {N : ℕ} {t : List ℕ} (A : At N t) {s : List ℕ} {size : ℕ} (W : WalkedAt (site A) s size) where
   abbrev E₁ : Site
@@ -327,8 +319,7 @@ module _ {N : ℕ} {t s : List ℕ} {size : ℕ} {dims : List ℕ} {k head tail 
             let grows : Opposed E₂ s″ size (4 * head + p) (end + 1) =
             opposed-push E₂ s′ size (4 * head + p) end y O (omega (arith, q-low)) y-live (λ z. absurd (omega (arith, some′)))
             (λ z. y-image z ∙ ap (λ (r : ℕ). image E₂ (place N s′ r) (S₂ .second)) last) s″ pushed in
-            let here : place N s″ (size + end) ≡ y =
-            ap (λ (z : List ℕ). place N z (size + end)) (pushed .is) ∙ pushed-place N s′ (size + end) y (O .taken) (y-live .slot) in
+            let here : place N s″ (size + end) ≡ y = pushed-here N s′ (size + end) y (O .taken) (y-live .slot) s″ pushed in
             let same : next N s″ head p ≡ end = next-longer N s′ s″ (size + end) more head p ∙ sym q-is ∙ last in
             opposed-step E₂ s″ size head p (end + 1) (places-few (T .at)) (omega (arith, few-positions)) grows record {
               from = omega arith;

@@ -163,6 +163,10 @@ module _ (N : ℕ) (s : List ℕ) (end y : ℕ) where
       unfolding pushed
       push-done e f = let w : _ ≡ pushed N s end y = f ∙ ap (λ (z : List ℕ). set z (N + end) y) e in record { is = w; taken = rw w taken-pushed }
 
+-- the place that was taken holds the slot
+pub pushed-here : (N : ℕ) (s : List ℕ) (end y : ℕ) → Taken N s end → y < N → (s′ : List ℕ) → Pushed N s end y s′ → place N s′ end ≡ y
+pushed-here N s end y t l s′ p = ap (λ (z : List ℕ). place N z end) (p .is) ∙ pushed-place N s end y t l
+
 -- ---- no marks
 
 pub unmarked-blank : (N : ℕ) (s : List ℕ) → length s ≡ 16 * N → Blank N (unmarked N s)

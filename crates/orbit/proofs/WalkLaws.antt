@@ -19,7 +19,7 @@ use Rattle.model.proofs.OrbitLaws.{reached-dart, orbit-iff}
 use Rattle.orbit.specs.Store.{mark, place, next, marked, among, Taken, Reached, Walked, Kept}
 use Rattle.orbit.specs.Places.{Pushed}
 use Rattle.orbit.specs.Walk.{MoreTaken, Followed, Expanded}
-use Rattle.orbit.proofs.StoreLaws.{place-set-behind, taken-set-behind, pushed-place, pushed-place-other, pushed-other, among-at, among-of, among-all}
+use Rattle.orbit.proofs.StoreLaws.{place-set-behind, taken-set-behind, pushed-here, pushed-place-other, pushed-other, among-at, among-of, among-all}
 
 -- ---- `follow`
 
@@ -51,7 +51,7 @@ module _ (N : ℕ) (s : List ℕ) (end at y : ℕ) (behind : 2 * N ≤ at) (insi
 
     pub followed-new : {a b : List ℕ} → Pushed N s end y a → b ≡ set a at end → Followed N s end at y b (end + 1)
     followed-new {a} {b} p e =
-        let here : place N a end ≡ y = ap (λ (z : List ℕ). place N z end) (p .is) ∙ pushed-place N s end y t l in
+        let here : place N a end ≡ y = pushed-here N s end y t l a p in
         rw e (kept-place a (end + 1) end
         (record {
           taken = p .taken;
@@ -110,6 +110,18 @@ module _ (m : Map) (dim : ℕ → ℕ) (head : ℕ) (s : List ℕ) (tail : ℕ) 
 
 -- ---- `walk`
 
+-- where the links of the first places stay, a place is reached as it was
+reached-kept : {N k : ℕ} {s s′ : List ℕ} {passed passed′ e : ℕ} (w : Reached N k s passed e) → passed′ ≤ passed → w .from < passed′
+    → ((r p : ℕ) → r < passed′ → p < k → next N s′ r p ≡ next N s r p) → Reached N k s′ passed′ e
+reached-kept w few low same = record {
+  from = w .from;
+  position = w .position;
+  before = w .before;
+  below = w .below;
+  leads = same (w .from) (w .position) low (w .below) ∙ w .leads;
+  first = λ r b p l f. w .first r (omega arith) p l (rw (same r p b l) at f);
+}
+
 module _ (m : Map) (k : ℕ) (dim : ℕ → ℕ) (d : ℕ) where
   -- at the loop's head: what stands at a place is in the orbit, reached over a link of one of the first `head` darts, and the links of those lead to places
   pub record Walking (s : List ℕ) (head tail : ℕ) : Type 0 where
@@ -124,7 +136,7 @@ module _ (m : Map) (k : ℕ) (dim : ℕ → ℕ) (d : ℕ) where
 
   pub walking-first : (s s′ : List ℕ) → Taken (m .slots) s 0 → d < m .slots → Pushed (m .slots) s 0 d s′ → Walking s′ 0 1
   walking-first s s′ t l p =
-      let here : place (m .slots) s′ 0 ≡ d = ap (λ (z : List ℕ). place (m .slots) z 0) (p .is) ∙ pushed-place (m .slots) s 0 d t l in
+      let here : place (m .slots) s′ 0 ≡ d = pushed-here (m .slots) s 0 d t l s′ p in
       record {
         taken = p .taken;
         some = omega arith;
@@ -222,15 +234,7 @@ module _ (m : Map) (k : ℕ) (dim : ℕ → ℕ) (d : ℕ) where
         found = λ x b a. v .taken .found x b (among-at s tail x a .0) .1;
         links = λ r p b. v .links r (omega arith) p;
         start = v .start;
-        reached = λ e one b. let o = v .reached e one b .0 in
-            record {
-              from = o .from;
-              position = o .position;
-              before = o .before;
-              below = o .below;
-              leads = o .leads;
-              first = λ r c. o .first r (omega arith);
-            };
+        reached = λ e one b. let o = v .reached e one b in reached-kept (o .0) all (omega (arith, b, o .0 .before)) (λ r p c l. refl);
         counted = count-same (m .slots) (orbit m k dim d) (marked s)
             (λ x b. sym (is-orbit x b) ∙ among-all (m .slots) s tail (v .taken) x b) ∙ v .taken .total;
       }
@@ -260,14 +264,6 @@ walked-kept m k dim d s s′ size few w c =
       start = c .places 0 (omega (arith, w .some)) ∙ w .start;
       reached = λ e one h.
           let o = w .reached e one h in
-          let same : (r p : ℕ) → r < size → p < k → next N s′ r p ≡ next N s r p = λ r p b l. c .nexts r p b (omega arith) in
-          record {
-            from = o .from;
-            position = o .position;
-            before = o .before;
-            below = o .below;
-            leads = same (o .from) (o .position) (omega (arith, o .before)) (o .below) ∙ o .leads;
-            first = λ r b p l f. o .first r b p l (rw (same r p b l) at f);
-          };
+          reached-kept o (omega arith) (omega (arith, o .before)) (λ r p b l. c .nexts r p b (omega arith));
       counted = w .counted;
     }

@@ -2,8 +2,6 @@
 -- Assumes nothing.
 use Prim.Native.Nat.{_-_, _≤_, _<_}
 use mathlib.Core.Path.{_≡_, ap, _∙_}
-use mathlib.Core.Logic.{by-cases}
-use native.Mathlib.Decide.{decLt}
 use native.Mathlib.Omega.{arith}
 use lib.ListN.{getD}
 use denote.Ref.{now}
@@ -34,7 +32,7 @@ x-slot c = let b = start c in let a = b .args in omega (arith, x-is c, b .pre .1
 
 -- in the loop: the position is one of the orbit type; its dimension, and the dart to which that link leads
 position : (c : tie.Else1 Inv-loop μ-loop) → c .before .before .loop .p < start (c .before .before .before) .args .k
-position c = let less = c .before .before .loop .inv .1 in by-cases (decLt _ _) (λ l. l) (λ l. absurd (c .if1 .left (omega arith)))
+position c = omega (arith, c .before .before .loop .inv .1, c .if1 .left)
 
 dim-le : (c : tie.Else1 Inv-loop μ-loop) → getD (now (start (c .before .before .before) .args .dims)) (c .before .before .loop .p) 0 ≤ 3
 dim-le c = let r = start (c .before .before .before) .pre .0 in omega (arith, r .dim (c .before .before .loop .p) (position c), r .small)

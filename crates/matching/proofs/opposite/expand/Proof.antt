@@ -2,8 +2,6 @@
 -- Assumes nothing.
 use Prim.Native.Nat.{_+_, _*_, _-_, _≤_, _<_}
 use mathlib.Core.Path.{_≡_}
-use mathlib.Core.Logic.{by-cases}
-use native.Mathlib.Decide.{decLt}
 use native.Mathlib.Omega.{arith}
 use lib.ListN.{length}
 use borrow.Author.Needs.{needs}
@@ -30,7 +28,7 @@ loop c = c .before .before
 
 -- the position is one of the orbit type
 position : (c : tie.Else1 Inv-loop μ-loop) → loop c .loop .p < start (loop c .before) .args .k
-position c = let few = loop c .loop .inv .0 in by-cases (decLt _ _) (λ l. l) (λ l. absurd (c .if1 .left (omega arith)))
+position c = omega (arith, loop c .loop .inv .0, c .if1 .left)
 
 add-word : tie.Need-add-word Inv-loop μ-loop
 add-word c = let T = c .before .before .before .pre in omega (arith, T .walked .fits, T .at .sized .few)

@@ -15,7 +15,7 @@ meet-requires : tie.Need-meet-requires
 meet-requires c κs =
     let R = c .before .before .before .before .pre in
     let same : c .before .before .before .before .args .size + 0 ≡ c .before .before .before .before .args .size = omega arith in
-    (R .at .sized .few, (rw same (R .taken), (other-slot R, omega arith)))
+    (R .at .sized .few, (rw same (R .taken), (omega (arith, other-slot R), omega arith)))
 
 returns-2 : tie.Need-returns-2
 returns-2 c =

@@ -2,8 +2,6 @@
 -- Assumes nothing.
 use Prim.Native.Nat.{_*_, _-_, _≤_}
 use mathlib.Core.Path.{_≡_, _∙_}
-use mathlib.Core.Logic.{by-cases}
-use native.Mathlib.Decide.{ℕ-discrete}
 use native.Mathlib.Omega.{arith}
 use lib.ListN.{length}
 use borrow.Author.Needs.{needs}
@@ -44,7 +42,7 @@ loop-again c =
     let l = e .before .before in
     let v = l .before .loop .inv in (
       omega arith,
-      by-cases (ℕ-discrete (e .expand .result) 0) (λ z. absurd (c .if1 .left z)) (λ z. omega arith),
+      omega (arith, c .if1 .left),
       e .expand .kept .1 .1 .0 ∙ v .2,
       λ T. retrace-more T (v .3 T) (v .1) (e .expand .ensures (retracing T (v .3 T) (v .1) (l .loop-test .taken))),
     )
