@@ -32,10 +32,10 @@
 extern "C" {
 #endif
 
-/* The version of this interface, 100 times its first number and its second: 2.1.
+/* The version of this interface, 100 times its first number and its second: 2.2.
  * The second grows where something is added; the first where a program that was
  * written for the version before must be looked at again. */
-#define GMAP_VERSION 201
+#define GMAP_VERSION 202
 
 /* ---- limits and sizes */
 
@@ -43,7 +43,7 @@ enum {
     GMAP_MAX_SLOTS = 1024,   /* slots of a table: 1 to this */
     GMAP_RECORD = 6,         /* words of a table for each slot */
     GMAP_STORE = 16,         /* words of a working store for each slot */
-    GMAP_MAX_SCHEME = 538,   /* bytes of the longest scheme in the form */
+    GMAP_MAX_SCHEME = 548,   /* bytes of the longest scheme in the form */
     GMAP_MAX_FILE = 14345,   /* bytes of the longest map file */
     GMAP_STACK = 8192        /* bytes of stack that a call needs at most */
 };
@@ -87,15 +87,19 @@ uint64_t gmap_check_table(uint32_t n, uint32_t slots, const uint32_t *table, siz
 /* Is the scheme in the form and accepted?
  * Answers 0, 2, 3, 4, 5. Writes nothing.
  * A scheme has one hook, which is node 0, or names a second one. Its first byte
- * says which: n, for gmap_edit, or n + 32, for gmap_edit2. */
+ * says which: n, for gmap_edit, or n + 32, for gmap_edit2. The byte is 16 more
+ * where the scheme names a donor for each added node: the node of its left side
+ * whose dart gives the new dart its tag. */
 uint64_t gmap_check_scheme(const uint8_t *scheme, size_t scheme_len);
 
 /* Applies a scheme with one hook to the table at a dart.
  * Answers 0, 1, 2, 3, 4, 5, 6, 7, 8, 9, 10; 2 also for a scheme with two hooks.
  * Done carries gmap_orbit, gmap_added and gmap_deleted.
  * table: the edited map after 0, which is well-formed again; unchanged after any
- * refusal. New darts take the lowest unused slots; records of deleted darts
- * become six zeros.
+ * refusal. New darts take the lowest unused slots. Each has the tag that the dart
+ * of its donor had before the edit, also where that dart is deleted in it; the
+ * donor is node 0 where the scheme names none. Records of deleted darts become six
+ * zeros.
  * store: of any content on entry; all zero afterwards, save after 1.
  *
  * After 10 a part can be given more room. A link is a slot's number, whatever
@@ -119,9 +123,10 @@ uint64_t gmap_edit(uint32_t n, uint32_t slots, uint32_t *table, size_t table_len
  * one hook. 3 is also given with the second hook as gmap_node, 8 for either dart,
  * and 9 also where dart and other are the same dart, or their orbits share a dart
  * or are not of one shape.
- * Done carries gmap_orbit, gmap_added and gmap_deleted; the orbit is that of dart,
- * and new darts take their tags from it.
- * table, store: as gmap_edit leaves them. */
+ * Done carries gmap_orbit, gmap_added and gmap_deleted; the orbit is that of dart.
+ * table, store: as gmap_edit leaves them. A new dart has its tag from the orbit of
+ * dart where its donor is node 0 or is not named, and from the orbit of other where
+ * its donor is the second hook. */
 uint64_t gmap_edit2(uint32_t n, uint32_t slots, uint32_t *table, size_t table_len,
                     uint32_t *store, size_t store_len,
                     const uint8_t *scheme, size_t scheme_len, uint32_t dart, uint32_t other);

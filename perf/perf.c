@@ -133,8 +133,9 @@ static void shuffle(void)              /* slots in no order */
 static void text(const char *t)        /* as in the catalogue of tests/differential/fuzz.c */
 {
     u8 *b = scheme; u32 k = 0; u8 *count;
-    const char *hook = strstr(t, ";h");
-    *b++ = (u8)(*t++ - '0' + (hook ? 32 : 0)); t++;
+    const char *hook = strstr(t, ";h"), *donor = strstr(t, ";d");
+    *b++ = (u8)(*t++ - '0' + (hook ? 32 : 0) + (donor ? 16 : 0)); t++;
+    if (donor) donor += 2;
     count = b++;
     while (*t != ';') { *b++ = (u8)(*t++ - '0'); k++; }
     *count = (u8)k; t++;
@@ -146,6 +147,7 @@ static void text(const char *t)        /* as in the catalogue of tests/different
         for (u32 p = 0; p < k; p++) *b++ = kd == 'A' ? 255 : *t == '_' ? (t++, 255) : (u8)(*t++ - '0');
         if (kd == 'P') t++;
         for (u32 p = 0; p < k; p++) *b++ = kd == 'D' ? 255 : *t == '_' ? (t++, 255) : (u8)(*t++ - '0');
+        if (donor && kd == 'A') *b++ = (u8)(*donor++ - '0');
         while (*t == ' ') t++;
     }
     if (hook) *b++ = (u8)(hook[2] - '0');
@@ -198,6 +200,26 @@ static void longest_form(u32 second)   /* the second hook, 0 for none */
         *b++ = 64;
         for (u32 i = 0; i < 4; i++) for (u32 v = 0; v < 16; v++) { *b++ = (u8)i; *b++ = (u8)v; *b++ = (u8)(v < 15 ? v + 1 : v); }
     }
+    scheme_len = (u32)(b - scheme);
+}
+/* 548 bytes in the form, with a second hook and donors: 64 left arcs need six left nodes,
+ * so at most ten nodes are added; it is 4 at node 0 as above. */
+static void longest_form_with_donors(void)
+{
+    u8 *b = scheme;
+    static const u8 head[] = { 3 + 32 + 16, 4, 0, 1, 2, 3, 16 };
+    memcpy(b, head, 7); b += 7;
+    for (u32 v = 0; v < 16; v++) {
+        *b++ = v < 6 ? 2 : 3;
+        for (u32 p = 0; p < 8; p++) *b++ = v < 6 || p > 3 ? (u8)(p & 3) : 255;
+        if (v >= 6) *b++ = (u8)(v % 6);
+    }
+    *b++ = 5;
+    *b++ = 64;
+    for (u32 a = 0, i = 0; i < 4; i++)
+        for (u32 v = 0; v < 6; v++) for (u32 w = v; w < 6 && a < 64; w++, a++) { *b++ = (u8)i; *b++ = (u8)v; *b++ = (u8)w; }
+    *b++ = 64;
+    for (u32 i = 0; i < 4; i++) for (u32 v = 0; v < 16; v++) { *b++ = (u8)i; *b++ = (u8)v; *b++ = (u8)(v < 15 ? v + 1 : v); }
     scheme_len = (u32)(b - scheme);
 }
 
@@ -363,6 +385,11 @@ int main(int argc, char **argv)
                                               measure("check_scheme longest form, two hooks (538): 4", CS, 1, 4);
     text("2;0;P0>0 P0>0 A0 A_ A_ A0;200 211;034 123 145 202 215 233 244;h1");
                                               measure("check_scheme two hooks (bridge edges)", CS, 1, 0);
+    longest_form_with_donors();
+    if (scheme_len != 548) { printf("longest form, two hooks and donors: %u bytes\n", scheme_len); return 2; }
+                                              measure("check_scheme longest form, hooks, donors (548): 4", CS, 1, 4);
+    text("2;01;P01>01 P01>01 A0_ A_2 A_2 A0_;200 211;034 123 145 202 215;h1;d0011");
+                                              measure("check_scheme two hooks and donors (tube)", CS, 1, 0);
     /* edits, small orbits */
     dim = 2; zero(); torus(16, 7); dart = 5;
     text("2;;P> P>;001;001");                 edit("edit n=2 look at edge (orbit 1)", 0);
@@ -430,6 +457,19 @@ int main(int argc, char **argv)
     zero(); dart = torus(8, 8); other = torus(16, 4); edit2("edit2 refused 9 (orbit 512, other piece)", 9);
     other = N;                                edit2("edit2 refused 8 (the other dart)", 8);
     text("3;012;P012>012 P012>012;301;300 311"); edit2("edit2 refused 2 (one hook)", 2);
+    /* edits with donors */
+    dim = 2; zero(); polygon(170); dart = 0;
+    text("2;01;P01>0_ A_2 A12;;012 101;d00"); edit("edit n=2 star of a 170-gon, donors (orbit 340)", 0);
+    zero(); torus(8, 4);
+    text("2;012;D012 A012 A210;;;d00");       edit("edit n=2 piece to two, donor deleted (orbit 256)", 0);
+    scheme[20] = 2;                           edit("edit refused 2 (a donor that is added)", 2);
+    zero(); for (u32 e = 0; e < 112; e++) polygon(4);
+    other = 8;
+    text("2;0;P0>0 P0>0 A0 A_ A_ A0;200 211;034 123 145 202 215 233 244;h1;d0011");
+                                              edit2("edit2 n=2 bridge edges, donors (orbit 2)", 0);
+    zero(); polygon(85); other = polygon(85);
+    text("2;01;P01>01 P01>01 A0_ A_2 A_2 A0_;200 211;034 123 145 202 215;h1;d0011");
+                                              edit2("edit2 n=2 tube, donors (orbit 170, four added)", 0);
     /* files */
     for (dim = 2; dim <= 3; dim++) {
         zero(); if (dim == 2) torus(16, 8); else mirrored(8, 512);

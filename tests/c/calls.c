@@ -1,5 +1,5 @@
 /* Scheme check, edit at one dart and at two, load and write through the C interface: the samples P4 to P13, every answer of each
- * call, the order of refusals, and what each call leaves in each buffer. */
+ * call, the order of refusals, what each call leaves in each buffer, and whose tag a new dart takes. */
 #include "gmap.h"
 #include "check.h"
 #include <string.h>
@@ -29,6 +29,21 @@ static const uint8_t sew3[27] = { 35, 2, 0, 1, 2, 2, 0, 1, 0, 1, 2, 0, 1, 0, 1, 
 /* Refused: node 1 is reached from neither hook (3); two edges would be sewn with their 0-links apart (5): */
 static const uint8_t no_way[16] = { 34, 1, 0, 3, 2, 0, 0, 2, 255, 255, 2, 0, 0, 2, 0, 0 };
 static const uint8_t torn[25] = { 34, 1, 0, 2, 2, 0, 0, 2, 0, 255, 1, 2, 2, 0, 0, 2, 1, 1, 2, 0, 1, 1, 2, 0, 1 };
+
+/* Schemes with donors. V, whose added node has node 0 for a donor: */
+enum { V_DONOR = 15, GROW_DONOR = 5, RENEW_DONOR = 6, SEAM_DONOR = 13, SEAM_DONOR2 = 17 };
+static const uint8_t V_donor[21] = { 18, 2, 0, 2, 2, 2, 0, 2, 255, 2, 3, 255, 255, 1, 2, 0, 0, 1, 0, 0, 1 };
+/* A lone dart is added at an edge; its donor is the other dart of the edge, a later node: */
+static const uint8_t grow[24] = { 18, 0, 3, 2, 3, 2, 2, 1, 0, 0, 2, 4, 0, 0, 2, 0, 1, 1, 1, 1, 1, 2, 1, 1 };
+/* The other dart of an edge goes, and one that is added in its place has it for a donor: */
+static const uint8_t renew[33] = { 18, 0, 3, 2, 1, 3, 1, 4, 0, 0, 1, 1, 1, 1, 2, 0, 0, 2, 1, 1, 4, 0, 0, 2, 1, 2, 2, 2, 0, 0, 2, 2, 2 };
+/* A piece goes, and a copy of it is added: */
+static const uint8_t renew_piece[23] = { 18, 3, 0, 1, 2, 2, 1, 0, 1, 2, 255, 255, 255, 3, 255, 255, 255, 0, 1, 2, 0, 0, 0 };
+/* The seam, with the hook that each side grows on for a donor; the second has its other hook after the added nodes: */
+static const uint8_t seam_lots[36] = { 50, 1, 0, 4, 2, 0, 0, 2, 0, 0, 3, 255, 0, 0, 3, 255, 0, 1, 1, 2, 2, 0, 0, 2, 1, 1, 3, 1, 2, 3, 2, 0, 2, 2, 1, 3 };
+static const uint8_t seam_last[36] = { 50, 1, 0, 4, 2, 0, 0, 3, 255, 0, 0, 3, 255, 0, 3, 2, 0, 0, 3, 2, 2, 0, 0, 2, 3, 3, 3, 1, 1, 2, 2, 0, 1, 2, 2, 3 };
+/* With n = 3, a lone dart is added: */
+static const uint8_t grow3[20] = { 19, 0, 2, 2, 3, 0, 0, 4, 0, 1, 1, 1, 1, 1, 2, 1, 1, 3, 1, 1 };
 
 /* The file of the sample map E: n, N, then slots, tags and links, each after their count. */
 enum { SLOT = 5, TAG = 11, LINK = 21 };
@@ -170,7 +185,6 @@ static void schemes_with_two_hooks(void)
     static const uint8_t added_first[] = { 34, 0, 2, 3, 2, 1, 0, 0 };
     static const uint8_t no_way_one_hook[] = { 2, 0, 4, 2, 2, 2, 2, 2, 1, 0, 1, 1, 2, 3, 2, 1, 0, 2, 1, 1, 3 };
     static const uint8_t lacks[] = { 34, 1, 0, 2, 2, 0, 0, 2, 0, 0, 1, 2, 2, 0, 0, 2, 1, 1, 1, 2, 0, 0 };
-    uint8_t longest[GMAP_MAX_SCHEME + 1] = { 35, 4, 0, 1, 2, 3, 16 }, *b = longest + 7;
 
     expect("two hooks", gmap_check_scheme(sew, sizeof sew), 0);
     expect("two hooks, nodes are added", gmap_check_scheme(seam, sizeof seam), 0);
@@ -178,7 +192,7 @@ static void schemes_with_two_hooks(void)
     expect("two hooks, both deleted", gmap_check_scheme(drop, sizeof drop), 0);
     expect("two hooks, n = 3", gmap_check_scheme(sew3, sizeof sew3), 0);
     for (uint32_t first = 0; first < 256; first++)
-        expect("first byte", gmap_check_scheme(but(sew, sizeof sew, 0, (uint8_t)first), sizeof sew), first == 34 || first == 35 ? 0 : refusal(2));
+        expect("first byte", gmap_check_scheme(but(sew, sizeof sew, 0, (uint8_t)first), sizeof sew), (first & ~17u) == 34 ? 0 : refusal(2));
     expect("V with the mark", gmap_check_scheme(but(V, sizeof V, 0, 34), sizeof V), refusal(2));
     for (size_t length = 0; length < sizeof sew; length++) expect("two hooks, cut short", gmap_check_scheme(sew, length), refusal(2));
     expect("two hooks, a byte too many", gmap_check_scheme(but(sew, sizeof sew, sizeof sew, 0), sizeof sew + 1), refusal(2));
@@ -199,20 +213,84 @@ static void schemes_with_two_hooks(void)
     expect("3, reached from the second hook, which is not named", gmap_check_scheme(no_way_one_hook, sizeof no_way_one_hook), refused(3, 2, 0, 0));
     expect("4 at the second hook", gmap_check_scheme(lacks, sizeof lacks), refused(4, 1, 0, 0));
     expect("5 between the hooks", gmap_check_scheme(torn, sizeof torn), refused(5, 0, 0, 2));
+}
 
+static void schemes_with_donors(void)
+{
+    static const uint8_t no_left_node[] = { 1, 2, 3, 15, 16, 17, 18, 254, 255 };
+    static const uint8_t twice[] = { 18, 2, 0, 2, 2, 2, 0, 2, 255, 2, 0, 3, 255, 255, 1, 2, 0, 0, 1, 0, 0, 1 };
+    static const uint8_t misplaced[] = { 18, 2, 0, 2, 2, 2, 0, 2, 255, 2, 0, 3, 255, 255, 1, 2, 0, 1, 0, 0, 1 };
+    static const uint8_t added_first[] = { 18, 0, 2, 3, 1, 2, 0, 0 };
+
+    expect("donors", gmap_check_scheme(V_donor, sizeof V_donor), 0);
+    expect("donors, a later node", gmap_check_scheme(grow, sizeof grow), 0);
+    expect("donors, a deleted node", gmap_check_scheme(renew, sizeof renew), 0);
+    expect("donors, the hook is deleted", gmap_check_scheme(renew_piece, sizeof renew_piece), 0);
+    expect("donors, two hooks", gmap_check_scheme(seam_lots, sizeof seam_lots), 0);
+    expect("donors, two hooks, added nodes between", gmap_check_scheme(seam_last, sizeof seam_last), 0);
+    expect("donors, n = 3", gmap_check_scheme(grow3, sizeof grow3), 0);
+    expect("donors, no node is added", gmap_check_scheme(but(W, sizeof W, 0, 18), sizeof W), 0);
+    expect("donors, no node is added, all are deleted", gmap_check_scheme(but(X, sizeof X, 0, 18), sizeof X), 0);
+    for (uint32_t first = 0; first < 256; first++)
+        expect("donors, first byte", gmap_check_scheme(but(V_donor, sizeof V_donor, 0, (uint8_t)first), sizeof V_donor),
+               first == 18 ? 0 : first == 19 ? refused(4, 1, 0, 0) : refusal(2));
+    expect("donors, V has none", gmap_check_scheme(but(V, sizeof V, 0, 18), sizeof V), refusal(2));
+    expect("donors, seam has none", gmap_check_scheme(but(seam, sizeof seam, 0, 50), sizeof seam), refusal(2));
+    expect("donors, after a preserved node too", gmap_check_scheme(twice, sizeof twice), refusal(2));
+    expect("donors, after a preserved node alone", gmap_check_scheme(misplaced, sizeof misplaced), refusal(2));
+    for (size_t length = 0; length < sizeof V_donor; length++) expect("donors, cut short", gmap_check_scheme(V_donor, length), refusal(2));
+    for (size_t length = 0; length < sizeof seam_lots; length++) expect("donors, cut short", gmap_check_scheme(seam_lots, length), refusal(2));
+    expect("donors, a byte too many", gmap_check_scheme(but(V_donor, sizeof V_donor, sizeof V_donor, 0), sizeof V_donor + 1), refusal(2));
+    for (size_t e = 0; e < sizeof no_left_node; e++)
+        expect("no donor, or an added one", gmap_check_scheme(but(V_donor, sizeof V_donor, V_DONOR, no_left_node[e]), sizeof V_donor), refusal(2));
+    for (uint32_t donor = 0; donor < 256; donor++)
+        expect("each donor of grow", gmap_check_scheme(but(grow, sizeof grow, GROW_DONOR, (uint8_t)donor), sizeof grow),
+               donor == 0 || donor == 2 ? 0 : refusal(2));
+    for (uint32_t donor = 0; donor < 256; donor++)
+        expect("each second donor of seam", gmap_check_scheme(but(seam_lots, sizeof seam_lots, SEAM_DONOR2, (uint8_t)donor), sizeof seam_lots),
+               donor < 2 ? 0 : refusal(2));
+    expect("3, node 0 is added, with a donor", gmap_check_scheme(added_first, sizeof added_first), refused(3, 0, 0, 0));
+    expect("2 before 3, its own donor", gmap_check_scheme(but(added_first, sizeof added_first, 4, 0), sizeof added_first), refusal(2));
+    expect("3, the second hook's word, after donors", gmap_check_scheme(but(seam_last, sizeof seam_last, 16, 1), sizeof seam_last), refused(3, 3, 0, 0));
+    expect("4, donors", gmap_check_scheme(but(V_donor, sizeof V_donor, 13, 255), sizeof V_donor), refused(4, 1, 0, 0));
+}
+
+/* The longest scheme in the form with these marks in its first byte. Sixty-four left arcs need six left nodes, so with donors ten nodes
+ * are added, and without them none. */
+static size_t longest(uint8_t *scheme, uint32_t marks)
+{
+    uint32_t left = marks & 16 ? 6 : 16;
+    uint8_t *b = scheme;
+    *b++ = (uint8_t)(3 + marks), *b++ = 4;
+    for (uint8_t i = 0; i < 4; i++) *b++ = i;
+    *b++ = 16;
     for (uint32_t v = 0; v < 16; v++) {
-        *b++ = 2;
-        for (uint32_t p = 0; p < 8; p++) *b++ = (uint8_t)(p % 4);
+        *b++ = v < left ? 2 : 3;
+        for (uint32_t p = 0; p < 8; p++) *b++ = v >= left && p < 4 ? 255 : (uint8_t)(p % 4);
+        if (v >= left) *b++ = (uint8_t)(v % left);
     }
-    *b++ = 15;
-    for (uint32_t side = 0; side < 2; side++) {
-        *b++ = 64;
-        for (uint32_t a = 0; a < 64; a++) *b++ = (uint8_t)(a / 16), *b++ = (uint8_t)(a % 16), *b++ = (uint8_t)(a % 16);
+    if (marks & 32) *b++ = (uint8_t)(left - 1);
+    *b++ = 64;
+    for (uint32_t a = 0, i = 0; i < 4; i++)
+        for (uint32_t v = 0; v < left; v++)
+            for (uint32_t w = v; w < (left == 16 ? v + 1 : left) && a < 64; w++, a++) *b++ = (uint8_t)i, *b++ = (uint8_t)v, *b++ = (uint8_t)w;
+    *b++ = 64;
+    for (uint32_t a = 0; a < 64; a++) *b++ = (uint8_t)(a / 16), *b++ = (uint8_t)(a % 16), *b++ = (uint8_t)(a % 16);
+    return (size_t)(b - scheme);
+}
+
+static void longest_schemes(void)
+{
+    static const struct { uint32_t marks; size_t length; uint64_t number, node; } form[] = {
+        { 0, 537, 3, 1 }, { 32, 538, 3, 1 }, { 16, 547, 4, 0 }, { 48, GMAP_MAX_SCHEME, 4, 0 },
+    };
+    for (size_t e = 0; e < sizeof form / sizeof form[0]; e++) {
+        uint8_t scheme[GMAP_MAX_SCHEME + 1] = { 0 };
+        expect("the longest scheme in the form, length", longest(scheme, form[e].marks), form[e].length);
+        expect("the longest scheme in the form", gmap_check_scheme(scheme, form[e].length), refused(form[e].number, form[e].node, 0, 0));
+        expect("the longest scheme, cut short", gmap_check_scheme(scheme, form[e].length - 1), refusal(2));
+        expect("a longer scheme", gmap_check_scheme(scheme, form[e].length + 1), refusal(2));
     }
-    expect("the longest scheme in the form", (uint64_t)(b - longest), GMAP_MAX_SCHEME);
-    expect("the longest scheme in the form", gmap_check_scheme(longest, GMAP_MAX_SCHEME), refused(3, 1, 0, 0));
-    expect("the longest scheme, cut short", gmap_check_scheme(longest, GMAP_MAX_SCHEME - 1), refusal(2));
-    expect("a longer scheme", gmap_check_scheme(longest, GMAP_MAX_SCHEME + 1), refusal(2));
 }
 
 /* Two edges, 0-1 and 4-6, or with i = 1 two corners; all other links are loops. Unused words hold anything, and so does the store. */
@@ -307,6 +385,118 @@ static void edits_at_two_darts(void)
     record("n = 3, dart 4", 4, 6, 4, 4, 1, 11);
     record("n = 3, dart 6", 6, 4, 6, 6, 0, 13);
     others("n = 3, other records and store", EDGES);
+}
+
+static void edits_with_donors(void)
+{
+    sample();
+    expect("donor 0", edit(2, N, V_donor, sizeof V_donor, 0), edited(2, 2, 0));
+    uint32_t with_donor[GMAP_RECORD * N];
+    memcpy(with_donor, table, sizeof table);
+    sample();
+    expect("no donor", edit(2, N, V, sizeof V, 0), edited(2, 2, 0));
+    expect("donor 0 is as no donor", memcmp(table, with_donor, sizeof table), 0);
+    sample();
+    expect("no node is added", edit(2, N, but(W, sizeof W, 0, 18), sizeof W, 0), edited(1, 0, 0));
+    others("no node is added, nothing changed", 0);
+
+    sample();
+    expect("the other dart of the edge", edit(2, N, grow, sizeof grow, 0), edited(1, 1, 0));
+    record("the other dart, new dart 2", 2, 2, 2, 2, 2, 9);
+    others("the other dart, other records and store", 1 << 2);
+    sample();
+    expect("the other dart, from dart 1", edit(2, N, grow, sizeof grow, 1), edited(1, 1, 0));
+    record("from dart 1, new dart 2", 2, 2, 2, 2, 2, 7);
+    others("from dart 1, other records and store", 1 << 2);
+    sample();
+    expect("the dart itself", edit(2, N, but(grow, sizeof grow, GROW_DONOR, 0), sizeof grow, 0), edited(1, 1, 0));
+    record("the dart itself, new dart 2", 2, 2, 2, 2, 2, 7);
+
+    sample();
+    expect("the donor goes", edit(2, N, renew, sizeof renew, 0), edited(1, 1, 1));
+    record("the donor goes, dart 0", 0, 2, 0, 0, 0, 7);
+    record("the donor goes, new dart 2", 2, 0, 2, 2, 2, 9);
+    expect("the donor goes, its record", all(table + GMAP_RECORD, 4 * GMAP_RECORD, 0), 1);
+    others("the donor goes, other records and store", 7);
+    sample();
+    expect("another node goes", edit(2, N, but(renew, sizeof renew, RENEW_DONOR, 0), sizeof renew, 0), edited(1, 1, 1));
+    record("another node goes, new dart 2", 2, 0, 2, 2, 2, 7);
+    sample();
+    expect("the piece goes", edit(2, N, renew_piece, sizeof renew_piece, 1), edited(2, 2, 2));
+    record("the piece goes, new dart 2", 2, 3, 2, 2, 2, 7);
+    record("the piece goes, new dart 3", 3, 2, 3, 3, 3, 9);
+    expect("the piece goes, its records", all(table, 2 * 4 * GMAP_RECORD, 0), 1);
+    others("the piece goes, other records and store", 15);
+    two_edges(0);
+    expect("donors, n = 3", edit(3, N, grow3, sizeof grow3, 6), edited(1, 1, 0));
+    record("donors, n = 3, new dart 2", 2, 2, 2, 2, 2, 13);
+    others("donors, n = 3, other records and store", 1 << 2);
+
+    sample();
+    refuse("donors, 2, an added node", edit(2, N, but(V_donor, sizeof V_donor, V_DONOR, 1), sizeof V_donor, 0), refusal(2), N);
+    refuse("donors, 2, no node", edit(2, N, but(V_donor, sizeof V_donor, V_DONOR, 2), sizeof V_donor, 0), refusal(2), N);
+    refuse("donors, 2, none there", edit(2, N, but(V, sizeof V, 0, 18), sizeof V, 0), refusal(2), N);
+    refuse("donors, 2, two hooks", edit(2, N, seam_lots, sizeof seam_lots, 0), refusal(2), N);
+    refuse("donors, 2 before 6 and 8", edit(3, N, but(V_donor, sizeof V_donor, V_DONOR, 1), sizeof V_donor, 99), refusal(2), N);
+    refuse("donors, 6", edit(3, N, V_donor, sizeof V_donor, 0), refusal(6), N);
+    refuse("donors, 8", edit(2, N, V_donor, sizeof V_donor, UNUSED), refusal(8), N);
+    refuse("donors, 10", edit(2, 3, V_donor, sizeof V_donor, 0), refusal(10), 3);
+}
+
+/* A seam between 0 and 6: each of its darts has the tag of the dart that it is joined to. */
+static void seam_of_two_lots(const char *what, const uint8_t *scheme, size_t length)
+{
+    two_edges(0);
+    expect(what, edit2(2, N, scheme, length, 0, 6), edited(2, 4, 0));
+    record(what, 0, 1, 0, 2, 0, 7);
+    record(what, 1, 0, 1, 5, 1, 9);
+    record(what, 4, 6, 4, 7, 4, 11);
+    record(what, 6, 4, 6, 3, 6, 13);
+    record(what, 2, 5, 3, 0, 2, 7);
+    record(what, 3, 7, 2, 6, 3, 13);
+    record(what, 5, 2, 7, 1, 5, 9);
+    record(what, 7, 3, 5, 4, 7, 11);
+    others(what, 255);
+    expect(what, gmap_check_table(2, N, table, GMAP_RECORD * N), 0);
+}
+
+static void edits_with_donors_at_two_darts(void)
+{
+    static const uint32_t new_darts[4] = { 2, 3, 5, 7 };
+    uint8_t exchanged[sizeof seam_lots];
+    seam_of_two_lots("seam of two lots", seam_lots, sizeof seam_lots);
+    seam_of_two_lots("seam of two lots, the second hook last", seam_last, sizeof seam_last);
+
+    two_edges(0);
+    expect("two lots from the other side", edit2(2, N, seam_lots, sizeof seam_lots, 6, 0), edited(2, 4, 0));
+    record("two lots from the other side, new dart 2", 2, 5, 3, 4, 2, 11);
+    record("two lots from the other side, new dart 3", 3, 7, 2, 1, 3, 9);
+    record("two lots from the other side, new dart 5", 5, 2, 7, 6, 5, 13);
+    record("two lots from the other side, new dart 7", 7, 3, 5, 0, 7, 7);
+
+    memcpy(exchanged, but(seam_lots, sizeof seam_lots, SEAM_DONOR, 1), sizeof exchanged);
+    exchanged[SEAM_DONOR2] = 0;
+    two_edges(0);
+    expect("lots exchanged", edit2(2, N, exchanged, sizeof exchanged, 0, 6), edited(2, 4, 0));
+    static const uint32_t tags[4] = { 13, 7, 11, 9 };
+    for (uint32_t e = 0; e < 4; e++) expect("lots exchanged, tags", table[GMAP_RECORD * new_darts[e] + GMAP_TAG], tags[e]);
+
+    two_edges(0);
+    expect("both of the first lot", edit2(2, N, but(seam_lots, sizeof seam_lots, SEAM_DONOR2, 0), sizeof seam_lots, 0, 6), edited(2, 4, 0));
+    uint32_t with_donors[GMAP_RECORD * N];
+    memcpy(with_donors, table, sizeof table);
+    two_edges(0);
+    expect("no donors", edit2(2, N, seam, sizeof seam, 0, 6), edited(2, 4, 0));
+    expect("no donors is as node 0", memcmp(table, with_donors, sizeof table), 0);
+
+    two_edges(0);
+    refuse("edit2, donors, 2, an added node", edit2(2, N, but(seam_lots, sizeof seam_lots, SEAM_DONOR, 2), sizeof seam_lots, 0, 6), refusal(2), N);
+    refuse("edit2, donors, 2, no node", edit2(2, N, but(seam_lots, sizeof seam_lots, SEAM_DONOR2, 4), sizeof seam_lots, 0, 6), refusal(2), N);
+    refuse("edit2, donors, 2, none there", edit2(2, N, but(seam, sizeof seam, 0, 50), sizeof seam, 0, 6), refusal(2), N);
+    refuse("edit2, donors, 2, one hook", edit2(2, N, V_donor, sizeof V_donor, 0, 6), refusal(2), N);
+    refuse("edit2, donors, 8", edit2(2, N, seam_lots, sizeof seam_lots, 0, UNUSED), refusal(8), N);
+    refuse("edit2, donors, 9", edit2(2, N, seam_lots, sizeof seam_lots, 0, 0), refusal(9), N);
+    refuse("edit2, donors, 10", edit2(2, 7, seam_lots, sizeof seam_lots, 0, 6), refusal(10), 7);
 }
 
 static void refusals_at_two_darts(void)
@@ -529,8 +719,12 @@ int main(void)
     schemes();
     edits();
     schemes_with_two_hooks();
+    schemes_with_donors();
+    longest_schemes();
     edits_at_two_darts();
     refusals_at_two_darts();
+    edits_with_donors();
+    edits_with_donors_at_two_darts();
     writes();
     loads_of_wrong_size();
     loads_out_of_form();

@@ -3,8 +3,8 @@
 #include "check.h"
 #include <string.h>
 
-#if !defined GMAP_VERSION || GMAP_VERSION < 201 || GMAP_VERSION >= 300
-#error "this program is written for version 2.1 of gmap.h"
+#if !defined GMAP_VERSION || GMAP_VERSION < 202 || GMAP_VERSION >= 300
+#error "this program is written for version 2.2 of gmap.h"
 #endif
 
 enum { N = 3, MORE = 4 };

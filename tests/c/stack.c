@@ -66,6 +66,27 @@ static void longest(void)
     scheme_len = (size_t)(b - scheme);
 }
 
+/* The longest scheme in the form: six left nodes with 64 arcs, ten added nodes with their donors, a second hook. */
+static void longest_form(void)
+{
+    uint8_t *b = scheme;
+    *b++ = 51, *b++ = 4, *b++ = 0, *b++ = 1, *b++ = 2, *b++ = 3, *b++ = 16;
+    for (uint8_t v = 0; v < 16; v++) {
+        *b++ = v < 6 ? 2 : 3;
+        for (uint8_t p = 0; p < 8; p++) *b++ = v >= 6 && p < 4 ? 255 : p % 4;
+        if (v >= 6) *b++ = v % 6;
+    }
+    *b++ = 5, *b++ = 64;
+    uint32_t arcs = 0;
+    for (uint8_t i = 0; i < 4; i++)
+        for (uint8_t v = 0; v < 6; v++)
+            for (uint8_t w = v; w < 6 && arcs < 64; w++, arcs++) *b++ = i, *b++ = v, *b++ = w;
+    *b++ = 64;
+    for (uint8_t i = 0; i < 4; i++)
+        for (uint8_t v = 0; v < 16; v++) *b++ = i, *b++ = v, *b++ = v;
+    scheme_len = (size_t)(b - scheme);
+}
+
 static void use(const uint8_t *bytes, size_t length)
 {
     memcpy(scheme, bytes, length);
@@ -111,6 +132,10 @@ int main(void)
     static const uint8_t sew_faces[] = { 34, 2, 0, 1, 2, 2, 0, 1, 0, 1, 2, 0, 1, 0, 1, 1, 2, 2, 0, 0, 2, 1, 1, 1, 2, 0, 1 };
     static const uint8_t sew3[] = { 35, 2, 0, 1, 2, 2, 0, 1, 0, 1, 2, 0, 1, 0, 1, 1, 2, 3, 0, 0, 3, 1, 1, 1, 3, 0, 1 };
     static const uint8_t look[] = { 2, 0, 2, 2, 2, 1, 0, 0, 1, 1, 0, 0, 1 };
+    static const uint8_t split_donor[] = { 18, 2, 0, 2, 2, 2, 0, 2, 255, 2, 3, 255, 255, 1, 2, 0, 0, 1, 0, 0, 1 };
+    static const uint8_t renew_piece[] = { 18, 3, 0, 1, 2, 2, 1, 0, 1, 2, 255, 255, 255, 3, 255, 255, 255, 0, 1, 2, 0, 0, 0 };
+    static const uint8_t tube[] = { 50, 2, 0, 1, 6, 2, 0, 1, 0, 1, 2, 0, 1, 0, 1, 3, 255, 255, 0, 255, 0, 3, 255, 255, 255, 2, 0, 3, 255, 255, 255, 2, 1,
+                                    3, 255, 255, 0, 255, 1, 1, 2, 2, 0, 0, 2, 1, 1, 5, 0, 3, 4, 1, 2, 3, 1, 4, 5, 2, 0, 2, 2, 1, 5 };
     for (n = 2; n <= 3; n++) {
         polygon(N);
         measure(n == 2 ? "check_table n=2" : "check_table n=3", check_table, 0);
@@ -162,5 +187,23 @@ int main(void)
     measure("edit2, refused 8", edit2, 8);
     scheme_len--;
     measure("edit2, refused 2", edit2, 2);
+    longest_form();
+    expect("length of the longest scheme in the form", scheme_len, GMAP_MAX_SCHEME);
+    measure("check_scheme, longest form", check_scheme, 4);
+    n = 2;
+    polygon(N / 2);
+    use(split_donor, sizeof split_donor);
+    measure("check_scheme, donors", check_scheme, 0);
+    measure("edit n=2, split an edge, donors", edit, 0);
+    polygon(N / 2);
+    use(renew_piece, sizeof renew_piece);
+    measure("edit n=2, renew a piece of 512 darts", edit, 0);
+    polygons(2, N / 6 / 2 * 2);
+    other = N / 6 / 2 * 2;
+    use(tube, sizeof tube);
+    measure("check_scheme, two hooks and donors", check_scheme, 0);
+    measure("edit2 n=2, tube of 680 new darts", edit2, 0);
+    scheme[sizeof tube - 1] = 4;
+    measure("edit2, donors, refused 4", edit2, 4);
     return wrong != 0;
 }

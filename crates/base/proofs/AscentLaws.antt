@@ -1,4 +1,4 @@
--- Keys in strictly ascending order: it is enough to compare each with the one before it.
+-- Keys in strictly ascending order: it is enough to compare each with the one before it, and keys below a bound are at most as many.
 -- Assumes nothing.
 use Prim.Native.Nat.{ℕ, zero, suc, _+_, _≤_, _<_}
 use mathlib.Core.Path.{_≡_, refl}
@@ -35,3 +35,13 @@ module _ (key : ℕ → ℕ) where
   unfolding above
   descends zero h = absurd (omega arith)
   descends (suc a) h = refuted (λ q. all-at (suc a) _ q a (omega arith)) (le-ltb (key a) (key (suc a)) (omega arith))
+
+  -- in ascending order a key is at least its place
+  ascending-far : (n : ℕ) → ((o a : ℕ) → o < a → a < n → key o < key a) → (a : ℕ) → a < n → a ≤ key a
+  ascending-far n up zero h = omega arith
+  ascending-far n up (suc a) h = omega (arith, ascending-far n up a (omega arith), up a (suc a) (omega arith) h)
+
+  -- there are at most as many keys in ascending order as there are numbers below their bound
+  pub ascending-few : (n bound : ℕ) → ((o a : ℕ) → o < a → a < n → key o < key a) → ((a : ℕ) → a < n → key a < bound) → n ≤ bound
+  ascending-few zero bound up low = omega arith
+  ascending-few (suc n) bound up low = omega (arith, ascending-far (suc n) up n (omega arith), low n (omega arith))

@@ -39,6 +39,10 @@ lastLine lives rest = liveWord ++ space ++ decimal lives ++ space ++ unusedWord 
 
 -- ---- the input: map file, scheme and dart list, each after a two-byte count
 
+-- the greatest length of a scheme
+abbrev pub longestScheme : ℕ
+longestScheme = 552
+
 -- the greatest number of darts in the list
 abbrev pub mostDarts : ℕ
 mostDarts = 1024
@@ -64,7 +68,7 @@ module _ (b : List ℕ) where
 
   -- the counts are within their limits, and nothing is missing or left over
   unfoldable pub framed : Bool
-  framed = leb mapLength 14345 and leb schemeLength 537 and leb dartCount mostDarts
+  framed = leb mapLength 14345 and leb schemeLength longestScheme and leb dartCount mostDarts
       and eqb (length b) (6 + mapLength + schemeLength + 2 * dartCount)
 
   -- ---- the run

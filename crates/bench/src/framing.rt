@@ -2,6 +2,9 @@
 use numbers::Cursor;
 ghost use Rattle.bench.specs.Input.{FramingOf};
 
+// The greatest length of a scheme.
+const LONGEST_SCHEME: usize = 552;
+
 // The greatest number of darts in the list.
 const MOST_DARTS: usize = 1024;
 
@@ -44,7 +47,7 @@ pub fn frame(input: &[u8]) -> Framing
     if 14345 < map {
         return Framing::Fault;
     }
-    if 537 < scheme {
+    if LONGEST_SCHEME < scheme {
         return Framing::Fault;
     }
     if MOST_DARTS < darts {

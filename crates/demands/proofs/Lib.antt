@@ -7,4 +7,5 @@ pub mod OneOutcome
 pub mod RefineLaws
 pub mod RunLaws
 pub mod Demands
+pub mod Labels
 pub mod WrongKernels

@@ -2,36 +2,46 @@
 -- first orbit dart, and one that invents its counts. Each is refuted on P8, V on E at 0, or on P10, W on E at 0.
 -- Two more take other darts than the call's two, and are refuted on F at 0 and 3: one takes the first for both hooks, and finds no match where two
 -- flanges are sewn; one takes them in the wrong order, and works on the other piece where the first is kept and the second dropped.
+-- One more gives new darts the tag of the first hook's dart, whatever their donors are, and is refuted where an edge's other end is renewed.
 -- Kernels that demand 1 shuts out: one whose load refuses a broken map, and one whose load leaves a word of an unused record.
+-- In the kernel that was licensed before, a new dart kept the tag of its slot, which it had from an earlier job: there the label does not follow the metal.
 -- Assumes nothing.
 use Prim.Native.Nat.{ℕ, zero, suc, _<_}
 use mathlib.Core.Path.{_≡_, refl, sym, ap, _∙_, subst}
 use mathlib.Core.Logic.{inl, inr}
-use mathlib.Core.Bool.{Bool, true, cond, true≢false}
+use mathlib.Core.Bool.{Bool, true, not, cond, true≢false}
 use mathlib.Core.List.{List, [], _∷_, _++_}
 use native.Mathlib.Omega.{arith}
 use lib.ListN.{getD, take, replicate}
 use lib.Dec.{eqb}
-use Rattle.base.specs.Test.{_or_}
+use borrow.Author.Tests.{eqb-false, eq-eqb, not-true}
+use Rattle.base.specs.Test.{_or_, _⇒_}
+use Rattle.base.specs.Below.{allBelow}
 use Rattle.base.specs.First.{there}
-use Rattle.base.proofs.TestLaws.{or-false}
-use Rattle.model.specs.Map.{State, Link, Tag, fieldAt, put, tableOf, tableSize}
+use Rattle.base.proofs.TestLaws.{or-false, if-so}
+use Rattle.base.proofs.BelowLaws.{all-at}
+use Rattle.model.specs.Map.{State, Link, Tag, fieldAt, put, view, live, unused, tableOf, tableSize}
+use Rattle.model.specs.Scheme.{schemeOf}
+use Rattle.model.specs.Site.{siteAt}
 use Rattle.model.specs.Edit.{edited}
 use Rattle.model.specs.Answer.{number, values}
 use Rattle.model.specs.File.{darts, slotAt}
-use Rattle.model.specs.Calls.{checkTable, firstDart, editFault, editAnswer, editTable, editStore, loadAnswer, loadTable}
+use Rattle.model.specs.Calls.{checkTable, firstDart, secondDart, editFault, editAnswer, editTable, editStore, loadAnswer, loadTable}
 use Rattle.model.specs.Sequence.{Request, tableCheck, schemeCheck, edit, load, write, Outcome, fileOf, knownAfter}
+use Rattle.model.specs.declared.Scheme.{Scheme}
 use Rattle.model.specs.declared.Darts.{Darts}
 use Rattle.model.specs.declared.Darts.the-variants.{One, Two}
 use Rattle.model.specs.declared.Answer.{Answer}
 use Rattle.model.specs.declared.Answer.the-variants.{Done, Edited, BadCall, BadTable, NoMatch}
 use Rattle.model.proofs.Computes.{computes}
 use Rattle.model.proofs.Samples.{dart, e8, unusedSlots, vBytes, wBytes, store8, vDarts, eFile, brokenFile, fDarts, sewBytes, store4}
+use Rattle.model.proofs.Samples.{renewBytes, renewed}
 use Rattle.demands.specs.Kernel.{Kernel}
 use Rattle.demands.specs.Ours.{ours}
 use Rattle.demands.specs.Runs.{Allowed, AlikeRuns}
 use Rattle.demands.specs.Refusals.{FirstOf, Nothing, loadRefusals, siteOver}
 use Rattle.demands.specs.Demands.{Demand1, Demand2, Demand3}
+use Rattle.demands.specs.Labels.{Tagged, LabelsFollow}
 use Rattle.demands.proofs.AdmitLaws.{free-applicable, done-is}
 use Rattle.demands.proofs.RunLaws.{AlikeCall, alike-runs}
 
@@ -115,6 +125,44 @@ first-twice = taking twice
 abbrev pub swapped : Kernel
 swapped = taking swap
 
+-- the scheme without its donors: node 0 is the donor of every added node
+abbrev pub undonated : Scheme → Scheme
+undonated S = record {
+  n = S .n;
+  places = S .places;
+  orbit = S .orbit;
+  nodes = S .nodes;
+  second = S .second;
+  kinds = S .kinds;
+  donors = replicate 16 0;
+  lwords = S .lwords;
+  rwords = S .rwords;
+  ltargets = S .ltargets;
+  rtargets = S .rtargets;
+  lcount = S .lcount;
+  larcs = S .larcs;
+  rcount = S .rcount;
+  rarcs = S .rarcs;
+}
+
+-- a new dart takes the tag of the first hook's dart
+abbrev pub hook-tagged : Kernel
+hook-tagged = editing editAnswer (λ n N t store b d. cond (there (editFault n N t store b d)) t
+    (tableOf (edited (siteAt (view N t) (undonated (schemeOf b)) (firstDart d) (secondDart d)))))
+
+-- the table t′ with the tags that the unused records of t hold
+abbrev pub stale-tags : ℕ → List ℕ → List ℕ → List ℕ
+stale-tags N t t′ = tableOf (record {
+  slots = N;
+  state = view N t′ .state;
+  link = view N t′ .link;
+  tag = λ x. cond (unused (view N t) x) (view N t .tag x) (view N t′ .tag x);
+})
+
+-- a new dart keeps the tag that its slot held
+abbrev pub stale : Kernel
+stale = editing editAnswer (λ n N t store b d. stale-tags N t (editTable n N t store b d))
+
 -- a load checks the map too, and answers 7 where it is broken
 abbrev pub strict : Kernel
 strict = loading (λ n N t b. cond (eqb (number (loadAnswer n N t b)) 0) (checkTable n N (loadTable n N t b)) (loadAnswer n N t b)) loadTable
@@ -166,6 +214,15 @@ keep-table = refl
 swap-table : editTable 2 4 fDarts store4 keepBytes (Two 3 0) ≡ replicate (tableSize 2) 0 ++ dart 3 2 2 2 9 ++ dart 2 3 3 3 9
 unfolding computes
 swap-table = refl
+
+-- the dart at the other end of an edge, of lot 9, is renewed by one of its lot
+renew-answer : editAnswer 2 8 e8 store8 (renewBytes 18 (1 ∷ [])) (One 0) ≡ Edited 1 1 1
+unfolding computes
+renew-answer = refl
+
+renew-table : editTable 2 8 e8 store8 (renewBytes 18 (1 ∷ [])) (One 0) ≡ renewed 9
+unfolding computes
+renew-table = refl
 
 -- what demand 2 asks of an edit that ours does: the same answer and the same table
 module _ (K : Kernel) (D : Demand2 K) where
@@ -234,6 +291,41 @@ not-swapped D =
     let is = as-ours swapped D 2 4 fDarts store4 keepBytes (Two 0 3) (ap number keep-answer) _ _ _ (refl, refl, refl) in
     let state : _≡_ {A = ℕ} 0 1 = ap (λ (t : List ℕ). fieldAt t State 0) (sym swap-table ∙ is .2 ∙ keep-table) in
     omega arith
+
+hook-tagged-table : cond (there (editFault 2 8 e8 store8 (renewBytes 18 (1 ∷ [])) (One 0))) e8
+    (tableOf (edited (siteAt (view 8 e8) (undonated (schemeOf (renewBytes 18 (1 ∷ [])))) 0 0))) ≡ renewed 7
+unfolding computes
+hook-tagged-table = refl
+
+pub not-hook-tagged : Demand2 hook-tagged → ⊥
+unfolding fieldAt
+not-hook-tagged D =
+    let is = as-ours hook-tagged D 2 8 e8 store8 (renewBytes 18 (1 ∷ [])) (One 0) (ap number renew-answer) _ _ _ (refl, refl, refl) in
+    let tag : _≡_ {A = ℕ} 7 9 = ap (λ (t : List ℕ). fieldAt t Tag 2) (sym hook-tagged-table ∙ is .2 ∙ renew-table) in
+    omega arith
+
+-- ---- where the label does not follow the metal
+
+-- no live dart of E has the tag that its unused records hold
+no-stale-tag : allBelow 8 (λ x. live (view 8 e8) x ⇒ not (eqb (view 8 e8 .tag x) 904)) ≡ true
+unfolding computes
+no-stale-tag = refl
+
+not-tagged : Tagged 8 e8 904 → ⊥
+not-tagged w = eqb-false _ _ (not-true _ (if-so _ (all-at 8 _ no-stale-tag (w .dart) (w .alive .slot)) (eq-eqb _ _ (w .alive .alive)))) (w .tag)
+
+-- V on E at 0 makes slot 2 live
+stale-state : view 8 (stale-tags 8 e8 (editTable 2 8 e8 store8 vBytes (One 0))) .state 2 ≡ 1
+unfolding computes
+stale-state = refl
+
+stale-tag : view 8 (stale-tags 8 e8 (editTable 2 8 e8 store8 vBytes (One 0))) .tag 2 ≡ 904
+unfolding computes
+stale-tag = refl
+
+pub not-stale : LabelsFollow stale → ⊥
+not-stale L = not-tagged (L .noOther 2 8 e8 store8 vBytes (One 0) _ _ _ (refl, refl, refl) (ap number p8-answer) 904
+    (record { dart = 2; alive = record { slot = omega arith; alive = stale-state }; tag = stale-tag }))
 
 -- ---- none of the loads meets demand 1
 

@@ -4,3 +4,4 @@ pub mod Ours
 pub mod Refusals
 pub mod Runs
 pub mod Demands
+pub mod Labels

@@ -90,7 +90,7 @@ module _ {slots : ℕ} {t : List ℕ} (A : At slots t) where
 
     abbrev pub settle-ready : {store′ cols′ : List ℕ} {answer : Bool} → C.Matched (site A) store store′ cols′ size answer → answer ≡ true
         → {c : ℕ} → c ≡ A .scheme .nodes → {room : ℕ} → room ≡ countBelow slots (unused (view slots t))
-        → Settling slots t store′ c (A .scheme .kinds) (A .scheme .ltargets) (A .scheme .rtargets) size room cols′
+        → Settling slots t store′ c (A .scheme .kinds) (A .scheme .donors) (A .scheme .ltargets) (A .scheme .rtargets) size room cols′
     settle-ready {store′} m e n free = record {
       at = A;
       fitting = record {
@@ -102,6 +102,7 @@ module _ {slots : ℕ} {t : List ℕ} (A : At slots t) where
       };
       nodes = n;
       kinded = refl;
+      donorsAre = refl;
       leftCoded = coded (A .scheme) (A .sound .accepted .shaped) left;
       rightCoded = coded (A .scheme) (A .sound .accepted .shaped) right;
       free = free;
@@ -109,8 +110,8 @@ module _ {slots : ℕ} {t : List ℕ} (A : At slots t) where
 
 -- ---- the end of an edit
 
-module _ {slots : ℕ} {t store : List ℕ} {c : ℕ} {kinds lefts rights : List ℕ} {size room : ℕ} {cols : List ℕ}
-    (P : Settling slots t store c kinds lefts rights size room cols) where
+module _ {slots : ℕ} {t store : List ℕ} {c : ℕ} {kinds donors lefts rights : List ℕ} {size room : ℕ} {cols : List ℕ}
+    (P : Settling slots t store c kinds donors lefts rights size room cols) where
   open Settling P using (at as A, fitting as F)
 
   abbrev E : Site
@@ -150,11 +151,12 @@ module _ {slots : ℕ} {t store : List ℕ} {c : ℕ} {kinds lefts rights : List
       roomy = subst (λ (k : ℕ). k ≤ countBelow slots (unused (view slots t))) added-is (subst (λ (k : ℕ). size * many ≤ k) (P .free) h)
 
       -- the darts of the added pairs can be given
-      abbrev pub give-ready : G.BeforeGiving slots t store size node many cols
+      abbrev pub give-ready : G.BeforeGiving slots t store size node many donors cols
       give-ready = record {
         at = A;
-        grant = record { long = F .long; walked = F .walked; every = kind-count new; room = roomy };
+        grant = record { long = F .long; walked = F .walked; every = kind-count new; match = F .match; room = roomy };
         node = λ a l. sym (ap₂ (λ (z : ℕ) (q : List ℕ). nthLowest z (isKind q 3) a) (P .nodes) (P .kinded)) ∙ new .each a l;
+        donorsAre = P .donorsAre;
         assigned = F .assigned;
         wide = F .wide;
       }

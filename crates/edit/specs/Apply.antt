@@ -33,12 +33,13 @@ module _ {slots : ℕ} {t : List ℕ} (A : At slots t) where
     pub assigned : Assigned (site A) store cols size
     pub wide : length cols ≡ 16
 
--- what the end of an edit is handed: a match, the scheme's nodes, kinds and arcs, and the number of unused slots
-pub record Settling (slots : ℕ) (t store : List ℕ) (c : ℕ) (kinds lefts rights : List ℕ) (size room : ℕ) (cols : List ℕ) : Type 0 where
+-- what the end of an edit is handed: a match, the scheme's nodes, kinds, donors and arcs, and the number of unused slots
+pub record Settling (slots : ℕ) (t store : List ℕ) (c : ℕ) (kinds donors lefts rights : List ℕ) (size room : ℕ) (cols : List ℕ) : Type 0 where
   pub at : At slots t
   pub fitting : Fitting at store size cols
   pub nodes : c ≡ at .scheme .nodes
   pub kinded : kinds ≡ at .scheme .kinds
+  pub donorsAre : donors ≡ at .scheme .donors
   pub leftCoded : Coded (at .scheme) left lefts
   pub rightCoded : Coded (at .scheme) right rights
   pub free : room ≡ countBelow slots (unused (view slots t))

@@ -25,15 +25,16 @@ fn settle<'a>(
     store: &mut [u32],
     c: usize,
     kinds: &'a [u8; 16],
+    donors: &'a [u8; 16],
     lefts: &'a [u8; 64],
     rights: &'a [u8; 64],
     size: usize,
     room: usize,
     cols: &mut [usize; 16],
 ) -> Answer
-    requires { ⌜ Settling slots (now table) (now store) c (now kinds) (now lefts) (now rights) size room (now cols) ⌝ }
-    ensures { λ r. ⌜ ((P : Settling slots (now (table .entry)) (now (store .entry)) c (now (kinds .entry)) (now (lefts .entry)) (now (rights .entry)) size
-        room (now (cols .entry)))
+    requires { ⌜ Settling slots (now table) (now store) c (now kinds) (now donors) (now lefts) (now rights) size room (now cols) ⌝ }
+    ensures { λ r. ⌜ ((P : Settling slots (now (table .entry)) (now (store .entry)) c (now (kinds .entry)) (now (donors .entry)) (now (lefts .entry))
+        (now (rights .entry)) size room (now (cols .entry)))
         → Applied (site (P .at)) (now (table .entry)) r (now (table .exit))) ⌝ }
 {
     let gone = of_kind(c, kinds, 1);
@@ -42,7 +43,7 @@ fn settle<'a>(
     if room < size * many {
         return Answer::NoRoom;
     }
-    rewriting::slots::give(slots, table, store, size, &new.node, many, cols);
+    rewriting::slots::give(slots, table, store, size, &new.node, many, donors, cols);
     rewriting::links::rewrite(slots, table, store, size, kinds, lefts, rights, c, cols);
     Answer::Edited {
         orbit: size as u32,
@@ -98,6 +99,7 @@ pub fn apply(
         store,
         c,
         &s.kinds,
+        &s.donors,
         &s.ltargets,
         &s.rtargets,
         size,

@@ -1,44 +1,92 @@
--- What the first byte says; counts that are out of their range, or sections that do not fill the bytes, refute the form.
+-- What the first byte says, and where the nodes stand; counts that are out of their range, or sections that do not fill the bytes, refute the
+-- form.
 -- Assumes nothing.
 use Prim.Native.Nat.{ℕ, _+_, _*_, _-_, _≤_, _<_}
 use mathlib.Core.Path.{_≡_, refl, sym, ap, ap₂, _∙_}
 use mathlib.Core.Logic.{_⊎_, inl, inr, ⊎-elim}
 use mathlib.Core.Bool.{Bool, true, false, cond}
 use mathlib.Core.List.{List}
-use native.Mathlib.Nat.{eq-or-lt-of-le, mul-le-mul-right}
+use native.Mathlib.Nat.{eq-or-lt-of-le}
 use native.Mathlib.Omega.{arith}
 use lib.ListN.{length}
-use lib.Dec.{leb}
+use lib.Dec.{eqb, leb}
 use borrow.Author.Tests.{le-leb, lt-leb}
+use Rattle.base.specs.Test.{_and_, bit}
 use Rattle.base.proofs.TestLaws.{true-or-false, refuted}
-use Rattle.model.specs.Bytes.{byte, namesSecond, dimensionOf, placesOf, nodesOf, nodeAt, hookBytes, arcsAt}
+use Rattle.model.specs.Bytes.{byte, namesSecond, hookless, namesDonors, dimensionOf, placesOf, nodesOf, hasDonor, nodeAt, kindAt, hookBytes, arcsAt}
 use Rattle.model.specs.Scheme.{Side, left, right, inForm}
+use Rattle.model.proofs.NodePlaceLaws.{node-next, node-place, node-rises}
+use Rattle.model.proofs.FormLaws.{Parts, parts, places-few, arcs-few}
 use Rattle.frame.specs.Place.{after, fits}
-use Rattle.frame.specs.Frame.{markOf, LaidOut}
+use Rattle.frame.specs.Nodes.{donorBytes}
+use Rattle.frame.specs.Frame.{markOf, MarksOf, LaidOut}
+use Rattle.frame.specs.declared.Marks.{Marks}
 use Rattle.frame.specs.declared.Layout.{Layout}
 use Rattle.frame.proofs.PlaceLaws.{fitting}
-use Rattle.model.proofs.FormLaws.{Parts, parts, places-few, arcs-few}
 
 pub two-or-three : {n : ℕ} → 2 ≤ n → n ≤ 3 → (n ≡ 2) ⊎ (n ≡ 3)
 two-or-three h k = ⊎-elim (λ e. inl (sym e)) (λ l. inr (omega arith)) (eq-or-lt-of-le h)
 
--- ---- the mark of a second hook
+-- ---- the marks of the first byte
 
-pub marked : (start : ℕ) → 32 ≤ start → 1 ≡ markOf start
-marked start h = sym (ap (λ (c : Bool). cond c 1 0) (le-leb _ _ h))
+pub marked : (weight start : ℕ) → weight ≤ start → 1 ≡ markOf weight start
+marked weight start h = sym (ap bit (le-leb _ _ h))
 
-pub unmarked : (start : ℕ) → start < 32 → 0 ≡ markOf start
-unmarked start h = sym (ap (λ (c : Bool). cond c 1 0) (lt-leb _ _ h))
+pub unmarked : (weight start : ℕ) → start < weight → 0 ≡ markOf weight start
+unmarked weight start h = sym (ap bit (lt-leb _ _ h))
 
--- what the first byte says: how many bytes name a second hook, and n
-pub first-told : (b : List ℕ) {start hook : ℕ} → start ≡ byte b 0 → hook ≡ markOf start
-    → (hook ≡ hookBytes b) × (start - 32 * hook ≡ dimensionOf b)
-unfolding namesSecond dimensionOf hookBytes
-first-told b e m = let h = m ∙ ap markOf e in (h, ap₂ (λ (s k : ℕ). s - 32 * k) e h ∙ less (leb 32 (byte b 0)) (byte b 0))
+-- what is left once the mark of a weight is taken
+rest-of : (weight start : ℕ) → start - weight * markOf weight start ≡ cond (leb weight start) (start - weight) start
+rest-of weight start = less (leb weight start)
   where
-    less : (c : Bool) (s : ℕ) → s - 32 * cond c 1 0 ≡ cond c (s - 32) s
-    less true s = refl
-    less false s = omega arith
+    less : (c : Bool) → start - weight * bit c ≡ cond c (start - weight) start
+    less true = omega arith
+    less false = omega arith
+
+-- what the first byte says: how many bytes name a second hook, whether donors are named, and n
+pub first-told : (b : List ℕ) {start : ℕ} {m : Marks} → start ≡ byte b 0 → MarksOf start m
+    → (m .hook ≡ hookBytes b) × (m .donors ≡ bit (namesDonors b)) × (m .n ≡ dimensionOf b)
+unfolding namesSecond hookless namesDonors dimensionOf hookBytes
+first-told b {start} {m} e w =
+    let hook : m .hook ≡ markOf 32 (byte b 0) = w .hookIs ∙ ap (markOf 32) e in
+    let rest : start - 32 * m .hook ≡ hookless b = ap₂ (λ (s k : ℕ). s - 32 * k) e hook ∙ rest-of 32 (byte b 0) in
+    let donors : m .donors ≡ markOf 16 (hookless b) = w .donorsIs ∙ ap (markOf 16) rest in
+    (hook, donors, w .nIs ∙ ap₂ (λ (s k : ℕ). s - 16 * k) rest donors ∙ rest-of 16 (hookless b))
+
+-- a mark that is not there, and one that is
+pub no-mark : (c : Bool) {mark : ℕ} → mark ≡ bit c → mark ≡ 0 → c ≡ false
+no-mark true e h = absurd (omega arith)
+no-mark false e h = refl
+
+pub has-mark : (c : Bool) {mark : ℕ} → mark ≡ bit c → (mark ≡ 0 → ⊥) → c ≡ true
+has-mark true e h = refl
+has-mark false e h = absurd (h e)
+
+bit-few : (c : Bool) → bit c ≤ 1
+bit-few true = omega arith
+bit-few false = omega arith
+
+-- ---- where the nodes stand
+
+module _ (b : List ℕ) where
+  -- the bytes that name a donor
+  donor-bytes : {donors : ℕ} (kind : ℕ) → donors ≡ bit (namesDonors b) → donorBytes donors kind ≡ bit (hasDonor b kind)
+  unfolding hasDonor _and_
+  donor-bytes {donors} kind e = ap (λ (d : ℕ). cond (eqb kind 3) d 0) e ∙ both (namesDonors b) (eqb kind 3)
+    where
+      both : (c d : Bool) → cond d (bit c) 0 ≡ bit (c and d)
+      both true true = refl
+      both true false = refl
+      both false true = refl
+      both false false = refl
+
+  -- the place after the words of node s and the bytes that name its donor
+  pub node-after : {donors kind place extra : ℕ} (s : ℕ) → donors ≡ bit (namesDonors b) → kind ≡ kindAt b s → place ≡ nodeAt b s + 1 + 2 * placesOf b
+      → extra ≡ donorBytes donors kind → (place + extra ≡ nodeAt b (s + 1)) × (extra ≤ 1)
+  node-after {kind} {extra} s d k p e =
+      let one : extra ≡ bit (hasDonor b (kindAt b s)) = e ∙ donor-bytes kind d ∙ ap (λ (x : ℕ). bit (hasDonor b x)) k in
+      let few = bit-few (hasDonor b (kindAt b s)) in
+      (omega (arith, node-next b s), omega arith)
 
 -- ---- the form is refuted
 
@@ -58,12 +106,17 @@ module _ (b : List ℕ) where
   pub no-places : fits b 1 0 (dimensionOf b + 1) 1 ≡ false → inForm b ≡ false
   unfolding after
   no-places e = refuted (λ q. let f = parts b q in let k = places-few b f in
-      fitting b 1 0 (dimensionOf b + 1) 1 (record { some = omega arith; few = k; within = omega arith })) e
+      fitting b 1 0 (dimensionOf b + 1) 1 (record { some = omega arith; few = k; within = omega (arith, node-place b (nodesOf b)) })) e
 
   pub no-nodes : {most : ℕ} → fits b (2 + placesOf b) 1 most (1 + 2 * placesOf b) ≡ false → 16 ≤ most → inForm b ≡ false
   unfolding after
   no-nodes {most} e h = refuted (λ q. let f = parts b q in
-      fitting b (2 + placesOf b) 1 most (1 + 2 * placesOf b) (record { some = f .nodesSome; few = omega arith; within = omega arith })) e
+      fitting b (2 + placesOf b) 1 most (1 + 2 * placesOf b)
+      (record { some = f .nodesSome; few = omega arith; within = omega (arith, node-place b (nodesOf b)) })) e
+
+  -- node s, or the byte that follows it, does not lie within the bytes
+  pub no-node : (s : ℕ) → s < nodesOf b → length b < nodeAt b s + 2 + 2 * placesOf b → inForm b ≡ false
+  no-node s h l = impossible (λ f. omega (arith, node-next b s, node-rises b (s + 1) (nodesOf b) (omega arith)))
 
   pub no-arcs : (side : Side) → fits b (arcsAt b side) 0 64 3 ≡ false → inForm b ≡ false
   unfolding after
@@ -89,7 +142,8 @@ module _ (b : List ℕ) (l : Layout) (laid : LaidOut b l) where
 
   -- the orbit type and the count of the nodes after it
   pub count-inside : 2 + placesOf b < length b
-  count-inside = omega arith
+  count-inside = omega (arith, node-place b (nodesOf b))
 
-  pub node-inside : (s : ℕ) → s < nodesOf b → nodeAt b s + 1 + 2 * placesOf b ≤ length b
-  node-inside s h = omega (arith, mul-le-mul-right (1 + 2 * placesOf b) h)
+  -- a node with its words and its donor
+  pub node-inside : (s : ℕ) → s < nodesOf b → nodeAt b s + 1 + 2 * placesOf b + bit (hasDonor b (kindAt b s)) ≤ length b
+  node-inside s h = omega (arith, node-next b s, node-rises b (s + 1) (nodesOf b) (omega arith))

@@ -1,28 +1,37 @@
 -- What is known of the bytes once their counts are read.
 -- Assumes nothing.
-use Prim.Native.Nat.{ℕ, _+_, _≤_}
+use Prim.Native.Nat.{ℕ, _+_, _*_, _-_, _≤_}
 use mathlib.Core.Path.{_≡_}
 use mathlib.Core.Logic.{_⊎_}
-use mathlib.Core.Bool.{false, cond}
+use mathlib.Core.Bool.{false}
 use mathlib.Core.List.{List}
 use lib.ListN.{length}
 use lib.Dec.{leb}
-use Rattle.model.specs.Bytes.{dimensionOf, hookBytes, placesOf, nodesOf, arcsAt, arcCount, endAt}
+use Rattle.base.specs.Test.{bit}
+use Rattle.model.specs.Bytes.{dimensionOf, namesDonors, hookBytes, placesOf, nodesOf, arcsAt, arcCount, endAt}
 use Rattle.model.specs.Scheme.{left, right, inForm}
+use Rattle.frame.specs.declared.Marks.{Marks}
 use Rattle.frame.specs.declared.Opening.{Opening}
 use Rattle.frame.specs.declared.Opening.the-variants.{Counts, Broken as Shut}
 use Rattle.frame.specs.declared.Layout.{Layout}
 use Rattle.frame.specs.declared.Form.{Form}
 use Rattle.frame.specs.declared.Form.the-variants.{Laid, Broken}
 
--- whether a first byte says that a second hook is named: 1, else 0
-abbrev pub markOf : ℕ → ℕ
-markOf start = cond (leb 32 start) 1 0
+-- whether a first byte, or what is left of it, has the mark of a weight: 1, else 0
+abbrev pub markOf : ℕ → ℕ → ℕ
+markOf weight start = bit (leb weight start)
 
--- the dimension, the bytes of the second hook, and the counts of places and nodes, each in its range
-pub record Headed (b : List ℕ) (n hook places nodes : ℕ) : Type 0 where
+-- m is what a first byte says: the mark of 32 is taken from it, then that of 16, and what is left is n
+pub record MarksOf (start : ℕ) (m : Marks) : Type 0 where
+  pub hookIs : m .hook ≡ markOf 32 start
+  pub donorsIs : m .donors ≡ markOf 16 (start - 32 * m .hook)
+  pub nIs : m .n ≡ start - 32 * m .hook - 16 * m .donors
+
+-- the dimension, the bytes of the second hook, whether donors are named, and the counts of places and nodes, each in its range
+pub record Headed (b : List ℕ) (n hook donors places nodes : ℕ) : Type 0 where
   pub nIs : n ≡ dimensionOf b
   pub hookIs : hook ≡ hookBytes b
+  pub donorsIs : donors ≡ bit (namesDonors b)
   pub placesIs : places ≡ placesOf b
   pub nodesIs : nodes ≡ nodesOf b
   pub dimension : (n ≡ 2) ⊎ (n ≡ 3)
@@ -31,12 +40,12 @@ pub record Headed (b : List ℕ) (n hook places nodes : ℕ) : Type 0 where
   pub nodesFew : nodes ≤ 16
 
 abbrev pub HeadOf : List ℕ → Opening → Type 0
-HeadOf b (Counts n hook places nodes first next) = Headed b n hook places nodes × (first .at ≡ 1) × (next .at ≡ arcsAt b left)
+HeadOf b (Counts n hook donors places nodes first next) = Headed b n hook donors places nodes × (first .at ≡ 1) × (next .at ≡ arcsAt b left)
 HeadOf b Shut = inForm b ≡ false
 
 -- the layout is that of the bytes, whose sections end where the bytes end
 pub record LaidOut (b : List ℕ) (l : Layout) : Type 0 where
-  pub headed : Headed b (l .n) (l .hook) (l .places) (l .nodes)
+  pub headed : Headed b (l .n) (l .hook) (l .donors) (l .places) (l .nodes)
   pub lcountIs : l .lcount ≡ arcCount b left
   pub lcountFew : l .lcount ≤ 64
   pub rcountIs : l .rcount ≡ arcCount b right

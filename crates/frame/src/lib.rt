@@ -1,20 +1,30 @@
-// The frame of a scheme's bytes: n, whether a second hook is named, and the counts, which settle that every section lies within the bytes.
+// The frame of a scheme's bytes: n, whether a second hook and donors are named, and the counts, which settle that every section lies within
+// the bytes.
 pub mod cursor;
+pub mod nodes;
 
 use cursor::Cursor;
 use cursor::Section;
 use cursor::Step;
 use cursor::wide;
+use nodes::count_nodes;
 ghost use mathlib.Core.Path.{_≡_};
 ghost use Prim.Native.Nat.{_≤_, _*_};
-ghost use Rattle.frame.specs.Frame.{HeadOf, FrameOf, markOf};
+ghost use Rattle.frame.specs.Frame.{HeadOf, FrameOf, MarksOf, markOf};
 
-// The dimension, how many bytes name a second hook, the counts of the orbit type and of the nodes, the place of the first section and that of
-// the left arcs.
+// What a first byte says: n, how many bytes name a second hook, and whether donors are named (1, else 0).
+pub struct Marks {
+    pub n: u8,
+    pub hook: u8,
+    pub donors: u8,
+}
+
+// What the first byte says, the counts of the orbit type and of the nodes, the place of the first section and that of the left arcs.
 pub enum Opening {
     Counts {
         n: u8,
         hook: u8,
+        donors: u8,
         places: u8,
         nodes: u8,
         first: Cursor,
@@ -23,10 +33,11 @@ pub enum Opening {
     Broken,
 }
 
-// The dimension, how many bytes name a second hook, the counts, and the place of the first section.
+// What the first byte says, the counts, and the place of the first section.
 pub struct Layout {
     pub n: u8,
     pub hook: u8,
+    pub donors: u8,
     pub places: u8,
     pub nodes: u8,
     pub lcount: u8,
@@ -39,14 +50,28 @@ pub enum Form {
     Broken,
 }
 
-// Whether a first byte says that a second hook is named: 1, else 0.
-fn mark(start: u8) -> u8
-    ensures { λ r. ⌜ (r ≡ markOf start) × (r ≤ 1) × (32 * r ≤ start) ⌝ }
+// Whether a first byte, or what is left of it, has the mark of a weight: 1, else 0.
+fn mark(start: u8, weight: u8) -> u8
+    ensures { λ r. ⌜ (r ≡ markOf weight start) × (r ≤ 1) × (weight * r ≤ start) ⌝ }
 {
-    if 32 <= start {
+    if weight <= start {
         return 1;
     }
     0
+}
+
+// What a first byte says: it is n, with 32 more for a second hook and 16 more for donors.
+fn marks_of(start: u8) -> Marks
+    ensures { λ r. ⌜ MarksOf start r ⌝ }
+{
+    let hook = mark(start, 32);
+    let rest = start - 32 * hook;
+    let donors = mark(rest, 16);
+    Marks {
+        n: rest - 16 * donors,
+        hook: hook,
+        donors: donors,
+    }
 }
 
 fn head(bytes: &[u8]) -> Opening
@@ -55,8 +80,8 @@ fn head(bytes: &[u8]) -> Opening
     let Step::Byte(start, first) = Cursor { at: 0 }.byte(bytes) else {
         return Opening::Broken;
     };
-    let hook = mark(start);
-    let n = start - 32 * hook;
+    let says = marks_of(start);
+    let n = says.n;
     if n < 2 {
         return Opening::Broken;
     }
@@ -73,19 +98,20 @@ fn head(bytes: &[u8]) -> Opening
     let Section::Count {
         count: nodes,
         next: third,
-    } = second.count(bytes, 1, 16, 1 + 2 * places)
+    } = count_nodes(bytes, second, places, says.donors)
     else {
         return Opening::Broken;
     };
     let end = third.at;
     Opening::Counts {
         n: n,
-        hook: hook,
+        hook: says.hook,
+        donors: says.donors,
         places: places,
         nodes: nodes,
         first: first,
         next: Cursor {
-            at: end + wide(hook),
+            at: end + wide(says.hook),
         },
     }
 }
@@ -97,6 +123,7 @@ pub fn frame(bytes: &[u8]) -> Form
     let Opening::Counts {
         n,
         hook,
+        donors,
         places,
         nodes,
         first,
@@ -125,6 +152,7 @@ pub fn frame(bytes: &[u8]) -> Form
     Form::Laid(Layout {
         n: n,
         hook: hook,
+        donors: donors,
         places: places,
         nodes: nodes,
         lcount: lcount,

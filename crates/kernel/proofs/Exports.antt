@@ -15,9 +15,11 @@ use Rattle.model.specs.declared.Answer.{Answer}
 use Rattle.demands.specs.Kernel.{Kernel, Refines}
 use Rattle.demands.specs.Ours.{ours}
 use Rattle.demands.specs.Demands.{Demand1, Demand2, Demand3}
+use Rattle.demands.specs.Labels.{LabelsFollow}
 use Rattle.demands.proofs.RefusalLaws.{Within, table-within, bytes-within, edit-within, load-within, write-within}
 use Rattle.demands.proofs.RefineLaws.{refined1, refined2, refined3}
 use Rattle.demands.proofs.Demands.{demand1, demand2, demand3}
+use Rattle.demands.proofs.Labels.{labels-follow}
 use Rattle.word.specs.Word.{packed, Small, wordNumber, wordValues}
 use Rattle.kernel.specs.Exports.{PackedEdit, PackedLoad, PackedWrite, Unpacked, SeenTableCheck, SeenSchemeCheck, SeenEdit, SeenLoad, SeenWrite}
 use Rattle.word.proofs.WordLaws.{number-back, values-back}
@@ -152,3 +154,7 @@ exported2 = refined2 exported ours exported-ours demand2
 
 pub exported3 : Demand3 exported
 exported3 = refined3 exported ours exported-ours demand3
+
+-- the label follows the metal in what a program in C sees
+pub exported-labels : LabelsFollow exported
+exported-labels = labels-follow exported exported2

@@ -13,14 +13,14 @@ use Rattle.base.specs.First.{someIf, _orElse_, there}
 use Rattle.base.proofs.TestLaws.{and-left, and-right, and-of, not-both, brings, or-left, or-right, if-so, if-of, true-or-false}
 use Rattle.base.proofs.BelowLaws.{all-at, all-of}
 use Rattle.base.proofs.FirstLaws.{some-not-none, when-none, or-else-none, first-none, first-none-of, least-none, least-none-of}
-use Rattle.model.specs.Scheme.{Side, left, right, kind, has, deleted, preserved, added, isHook}
+use Rattle.model.specs.Scheme.{Side, left, right, kind, donor, has, deleted, preserved, added, firstHook, isHook}
 use Rattle.model.specs.Shaped.{Shaped}
 use Rattle.model.specs.Conditions.{arcAt, arcsOfDim, sameArc, onCycle, Cycle, Hooked, hookOk, pathTo, hookFault, incidenceOk, incidenceFault, cycleOk}
 use Rattle.model.specs.Conditions.{cycleFault, schemeFault, noted}
 use Rattle.model.specs.Accepted.{Accepted}
 use Rattle.model.specs.declared.Scheme.{Scheme}
 use Rattle.model.proofs.CycleLaws.{cycle-at, cycle-of, same-arc, arc-same}
-use Rattle.model.proofs.HookLaws.{hook-iff, hook-below, found-reached, reached-found}
+use Rattle.model.proofs.HookLaws.{first-hook, hook-iff, hook-below, found-reached, reached-found}
 use Rattle.model.specs.declared.Answer.{Answer}
 use Rattle.model.specs.declared.Answer.the-variants.{BadHook, BadIncidence, BadCycle}
 
@@ -179,3 +179,10 @@ module _ (S : Scheme) (a : Accepted S) where
 
 pub accepted-iff : (S : Scheme) → Shaped S → (schemeFault S ≡ none) ↔ Accepted S
 accepted-iff S f = (accepted S f, no-fault S)
+
+-- a donor is a left node: a named one by the form, and node 0 since it is a hook
+pub donor-left : (S : Scheme) → Accepted S → (s : ℕ) → s < S .nodes → has S left (donor S s) ≡ true
+donor-left S a s h = ⊎-elim
+    (λ e. ap (has S left) e ∙ a .hooks firstHook (first-hook S) .kind)
+    (λ l. l)
+    (a .shaped .donorLeft s h)

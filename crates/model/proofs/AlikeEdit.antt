@@ -13,12 +13,14 @@ use Rattle.base.proofs.TestLaws.{and-same, cond-same}
 use Rattle.base.proofs.FirstLaws.{first-same}
 use Rattle.model.specs.Map.{Map, State}
 use Rattle.model.specs.WellFormed.{WellFormed}
-use Rattle.model.specs.Scheme.{left, right, orbitDim, has, deleted, added}
+use Rattle.model.specs.Scheme.{left, right, donor, orbitDim, has, deleted, added}
 use Rattle.model.specs.Conditions.{Arc, absent, explicit, implicit, arcAt}
 use Rattle.model.specs.Site.{Site}
+use Rattle.model.specs.Match.{image}
 use Rattle.model.specs.Edit.{Pair, orbitSize, addedDarts, deletedDarts, rank, freeSlot, dartOf, pairOf}
 use Rattle.model.specs.Edit.{newLink, unnamedLink, newTag, newWord, edited}
 use Rattle.model.specs.Alike.{Alike}
+use Rattle.model.proofs.AcceptedLaws.{donor-left}
 use Rattle.model.proofs.ArcLaws.{explicit-end, implicit-from}
 use Rattle.model.proofs.EditLaws.{Ready, kinds, pair-at, left-alive, field-other}
 use Rattle.model.proofs.AlikeLaws.{same-state, same-free}
@@ -54,10 +56,10 @@ unnamed-same : (E : Site) (m′ : Map) (b : Bool) (i x : ℕ) → (b ≡ false �
 unnamed-same E m′ true i x kept = refl
 unnamed-same E m′ false i x kept = kept refl
 
-tag-same : (E : Site) (m′ : Map) (b : Bool) (u x : ℕ) → (b ≡ true → E .map .tag u ≡ m′ .tag u) → (b ≡ false → E .map .tag x ≡ m′ .tag x)
-    → newTag E b u x ≡ newTag (moved E m′) b u x
-tag-same E m′ true u x new kept = new refl
-tag-same E m′ false u x new kept = kept refl
+tag-same : (E : Site) (m′ : Map) (b : Bool) (u s x : ℕ) → E .map .tag (image E u (donor (E .scheme) s)) ≡ m′ .tag (image (moved E m′) u (donor (E .scheme) s))
+    → (b ≡ false → E .map .tag x ≡ m′ .tag x) → newTag E b u s x ≡ newTag (moved E m′) b u s x
+tag-same E m′ true u s x new kept = new
+tag-same E m′ false u s x new kept = kept refl
 
 module _ (E : Site) (m′ : Map) (a : Alike (E .map) m′) (w : WellFormed (E .scheme .n) (E .map)) (w′ : WellFormed (E .scheme .n) m′)
     (ready : Ready E) where
@@ -84,6 +86,14 @@ module _ (E : Site) (m′ : Map) (a : Alike (E .map) m′) (w : WellFormed (E .s
       first-same (m .slots) _ _ (λ u b. first-same (S .nodes) _ _ (λ s h.
       ap (λ (t : Bool). someIf t (record { dart = u; node = s })) (and-same (O u) (λ e. ap (λ (y : ℕ). eqb y x) (same-dart u s e h)))))
       ∙ ap (λ (k : ℕ). first k (λ u. first (S .nodes) (λ s. someIf (O u and eqb (dartOf E′ u s) x) (record { dart = u; node = s })))) (a .slots)
+
+  -- the dart of a donor is live, so it has the same tag
+  donor-tag : (u s : ℕ) → O u ≡ true → s < S .nodes → m .tag (image E u (donor S s)) ≡ m′ .tag (image E′ u (donor S s))
+  donor-tag u s e h =
+      let below = g .shaped .donorBelow s h in
+      let is-left = donor-left S g s h in
+      let d = A .darts u (o .slot u e) e (donor S s) below is-left in
+      a .tag _ (d .0) (d .1) ∙ ap (m′ .tag) (same-image E g m′ a o A u e (donor S s) below is-left)
 
   -- ---- the new map
 
@@ -127,10 +137,10 @@ module _ (E : Site) (m′ : Map) (a : Alike (E .map) m′) (w : WellFormed (E .s
         (λ n. a .tag x h (stood-live l n))
         (λ p q d.
         let r = pair-at ready x p q in
-        tag-same E m′ (added S (p .node)) (p .dart) x
-        (λ n. a .tag (p .dart) (o .slot _ (r .0)) (o .alive _ (r .0)))
+        tag-same E m′ (added S (p .node)) (p .dart) (p .node) x
+        (donor-tag _ _ (r .0) (r .1))
         (λ n. a .tag x h (pair-live _ _ (r .0) (r .1) (r .2) n)))
-        ∙ ap (λ (z : Option Pair). newWord E′ z (m′ .tag x) (λ u s. newTag E′ (added S s) u x)) (same-pair x)
+        ∙ ap (λ (z : Option Pair). newWord E′ z (m′ .tag x) (λ u s. newTag E′ (added S s) u s x)) (same-pair x)
 
   pub edited-alike : Alike (edited E) (edited E′)
   unfolding edited

@@ -7,7 +7,7 @@ use Rattle.base.specs.Lists.{list, listFrom, joined}
 use Rattle.model.specs.Map.{fieldAt, tableOf}
 use Rattle.model.specs.WellFormed as W
 use Rattle.model.specs.Reach.{next, rounds, paths}
-use Rattle.model.specs.Bytes.{namesSecond, dimensionOf, hookBytes, secondOf}
+use Rattle.model.specs.Bytes.{namesSecond, hookless, namesDonors, dimensionOf, hasDonor, nodeAt, donorOf, hookBytes, secondOf}
 use Rattle.model.specs.Arc.{farEnd}
 use Rattle.model.specs.Codes.{placed, targetsOf}
 use Rattle.model.specs.Scheme as S
@@ -20,8 +20,8 @@ use Rattle.model.specs.Calls as A
 
 unfoldable pub computes : Unit {0}
 unfolding _and_ _or_ _⇒_ someIf _orElse_ there allBelow anyBelow countBelow first least nthLowest list listFrom joined fieldAt tableOf next rounds
-    paths W.allPairs W.linkOk W.squareOk W.dartOk W.wellFormed namesSecond dimensionOf hookBytes secondOf S.orbitForm S.wordForm S.wordEmpty S.nodeForm
-    S.secondForm S.arcForm S.arcsForm S.inForm
+    paths W.allPairs W.linkOk W.squareOk W.dartOk W.wellFormed namesSecond hookless namesDonors dimensionOf hasDonor nodeAt donorOf hookBytes
+    secondOf S.orbitForm S.wordForm S.wordEmpty S.nodeForm S.donorForm S.secondForm S.arcForm S.arcsForm S.inForm
     farEnd S.wordsOf placed targetsOf S.arcsOf S.schemeOf C.arcsOfDim C.arcAt C.leftArc C.pathFrom C.pathTo S.isHook C.hookOk C.hookFault
     C.incidenceOk C.incidenceFault C.fourArcs C.oneArc C.bothImplicit C.onCycle C.cycleOk C.cycleFault C.schemeFault O.leads O.orbitPath O.orbit
     M.walk M.opposite M.image M.arcHolds M.eachPair M.onlyPair M.matches E.freeSlot E.rank E.orbitSize E.addedDarts E.deletedDarts E.dartOf E.pairOf

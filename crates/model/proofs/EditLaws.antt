@@ -13,7 +13,7 @@ use Rattle.base.specs.Test.{_and_}
 use Rattle.base.specs.Below.{countBelow}
 use Rattle.base.specs.First.{first, someIf}
 use Rattle.model.specs.Map.{Field, State, Link, Tag, fieldOf, unused}
-use Rattle.model.specs.Scheme.{left, right, orbitDim, has, added, deleted}
+use Rattle.model.specs.Scheme.{left, right, donor, orbitDim, has, added, deleted}
 use Rattle.model.specs.Conditions.{Arc, absent, explicit, implicit, arcAt}
 use Rattle.model.specs.Site.{Site}
 use Rattle.model.specs.Accepted.{Accepted}
@@ -189,7 +189,7 @@ module _ {E : Site} (r : Ready E) where
       unfolding newLink
       link-own i n a = link-pair i ∙ rw (a, n) refl
 
-      pub tag-new : added S s ≡ true → edited E .tag (dartOf E u s) ≡ m .tag u
+      pub tag-new : added S s ≡ true → edited E .tag (dartOf E u s) ≡ m .tag (image E u (donor S s))
       unfolding edited newWord
       tag-new n = rw (pair-of u s e h, k, n) refl
 

@@ -1,6 +1,6 @@
 -- The form of the bytes, taken apart and put together.
 -- Assumes nothing.
-use Prim.Native.Nat.{ℕ, _+_, _≤_, _<_}
+use Prim.Native.Nat.{ℕ, _+_, _*_, _≤_, _<_}
 use mathlib.Core.Path.{_≡_, ap}
 use mathlib.Core.Logic.{_⊎_, inl, inr, ⊎-elim}
 use mathlib.Core.Bool.{Bool, true, false, cond}
@@ -9,8 +9,8 @@ use borrow.Author.Tests.{eqb-true, eq-eqb, leb-true, le-leb, ltb-true, lt-ltb}
 use lib.ListN.{length}
 use Rattle.base.specs.Below.{allBelow}
 use Rattle.base.proofs.TestLaws.{and-left, and-right, and-of, or-cases, or-left, or-right, if-so, if-of}
-use Rattle.model.specs.Bytes.{onSide, byte, namesSecond, dimensionOf, placesOf, nodesOf, nodeAt, kindAt, secondOf, arcCount, arcByte, endAt}
-use Rattle.model.specs.Scheme.{Side, left, right, orbitForm, nodeForm, secondForm, arcForm, arcsForm, inForm}
+use Rattle.model.specs.Bytes.{onSide, byte, namesSecond, dimensionOf, placesOf, nodesOf, hasDonor, nodeAt, kindAt, donorOf, secondOf, arcCount, arcByte, endAt}
+use Rattle.model.specs.Scheme.{Side, left, right, orbitForm, nodeForm, donorForm, secondForm, arcForm, arcsForm, inForm}
 
 module _ (b : List ℕ) where
   pub record Parts : Type 0 where
@@ -19,6 +19,7 @@ module _ (b : List ℕ) where
     pub nodesSome : 1 ≤ nodesOf b
     pub nodesFew : nodesOf b ≤ 16
     pub nodes : allBelow (nodesOf b) (nodeForm b) ≡ true
+    pub donors : allBelow (nodesOf b) (donorForm b) ≡ true
     pub second : secondForm b ≡ true
     pub arcs : (side : Side) → arcsForm b side ≡ true
     pub ends : length b ≡ endAt b
@@ -33,12 +34,14 @@ module _ (b : List ℕ) where
       let q₅ = and-left _ _ q₄ in
       let q₆ = and-left _ _ q₅ in
       let q₇ = and-left _ _ q₆ in
+      let q₈ = and-left _ _ q₇ in
       record {
-        dimension = ⊎-elim (λ e. inl (eqb-true _ _ e)) (λ e. inr (eqb-true _ _ e)) (or-cases _ _ (and-left _ _ q₇));
-        orbit = and-right _ _ q₇;
-        nodesSome = leb-true _ _ (and-right _ _ q₆);
-        nodesFew = leb-true _ _ (and-right _ _ q₅);
-        nodes = and-right _ _ q₄;
+        dimension = ⊎-elim (λ e. inl (eqb-true _ _ e)) (λ e. inr (eqb-true _ _ e)) (or-cases _ _ (and-left _ _ q₈));
+        orbit = and-right _ _ q₈;
+        nodesSome = leb-true _ _ (and-right _ _ q₇);
+        nodesFew = leb-true _ _ (and-right _ _ q₆);
+        nodes = and-right _ _ q₅;
+        donors = and-right _ _ q₄;
         second = and-right _ _ q₃;
         arcs = sides (and-right _ _ q₂) (and-right _ _ q₁);
         ends = eqb-true _ _ (and-right _ _ q);
@@ -50,9 +53,10 @@ module _ (b : List ℕ) where
 
   pub whole : Parts → inForm b ≡ true
   unfolding inForm
-  whole f = and-of (and-of (and-of (and-of (and-of (and-of (and-of (and-of
+  whole f = and-of (and-of (and-of (and-of (and-of (and-of (and-of (and-of (and-of
       (⊎-elim (λ e. or-left _ (eq-eqb _ _ e)) (λ e. or-right _ (eq-eqb _ _ e)) (f .dimension))
-      (f .orbit)) (le-leb _ _ (f .nodesSome))) (le-leb _ _ (f .nodesFew))) (f .nodes)) (f .second)) (f .arcs left)) (f .arcs right)) (eq-eqb _ _ (f .ends))
+      (f .orbit)) (le-leb _ _ (f .nodesSome))) (le-leb _ _ (f .nodesFew))) (f .nodes)) (f .donors))
+      (f .second)) (f .arcs left)) (f .arcs right)) (eq-eqb _ _ (f .ends))
 
   pub places-few : Parts → placesOf b ≤ dimensionOf b + 1
   unfolding orbitForm
@@ -61,6 +65,24 @@ module _ (b : List ℕ) where
   pub arcs-few : Parts → (side : Side) → arcCount b side ≤ 64
   unfolding arcsForm
   arcs-few f side = leb-true _ _ (and-left _ _ (f .arcs side))
+
+-- the form of a donor, taken apart
+pub record DonorParts (b : List ℕ) (s : ℕ) : Type 0 where
+  pub node : donorOf b s < nodesOf b
+  pub onLeft : onSide left (kindAt b (donorOf b s)) ≡ true
+
+pub donor-parts : (b : List ℕ) (s : ℕ) → donorForm b s ≡ true → hasDonor b (kindAt b s) ≡ true → DonorParts b s
+unfolding donorForm
+donor-parts b s q e = let q₁ = if-so _ q e in record { node = ltb-true _ _ (and-left _ _ q₁); onLeft = and-right _ _ q₁ }
+
+pub donor-whole : (b : List ℕ) (s : ℕ) → (hasDonor b (kindAt b s) ≡ true → DonorParts b s) → donorForm b s ≡ true
+unfolding donorForm
+donor-whole b s f = if-of _ (λ e. let p = f e in and-of (lt-ltb _ _ (p .node)) (p .onLeft))
+
+-- no donor is named: node 0 stands for it
+pub donor-none : (b : List ℕ) (s : ℕ) → hasDonor b (kindAt b s) ≡ false → donorOf b s ≡ 0
+unfolding donorOf
+donor-none b s e = ap (λ (c : Bool). cond c (byte b (nodeAt b s + 1 + 2 * placesOf b)) 0) e
 
 -- the form of the second hook, taken apart
 pub record SecondParts (b : List ℕ) : Type 0 where

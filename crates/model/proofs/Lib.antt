@@ -8,8 +8,10 @@ pub mod ArcLaws
 pub mod HookLaws
 pub mod CycleLaws
 pub mod MatchLaws
+pub mod NodePlaceLaws
 pub mod FormLaws
 pub mod SchemeLaws
+pub mod ArcCountLaws
 pub mod AcceptedLaws
 pub mod CodeLaws
 pub mod MatchIff
@@ -31,4 +33,5 @@ pub mod AlikeCalls
 pub mod SequenceLaws
 pub mod RewritingLaws
 pub mod RewritingOnce
+pub mod LabelLaws
 pub mod LongestScheme

@@ -3,11 +3,12 @@
 use Prim.Native.Nat.{ℕ, _<_}
 use mathlib.Core.Path.{_≡_, refl, sym, ap, _∙_, subst}
 use native.Mathlib.Omega.{arith}
-use Rattle.model.specs.Scheme.{left, right, firstHook}
+use Rattle.model.specs.Scheme.{left, right, donor, firstHook}
 use Rattle.model.specs.Site.{Site}
 use Rattle.model.specs.Match.{Assignment}
 use Rattle.model.specs.Edit.{rank, dartOf, edited}
 use Rattle.model.specs.Rewriting.{Rewriting}
+use Rattle.model.proofs.AcceptedLaws.{donor-left}
 use Rattle.model.proofs.ArcLaws.{no-arc}
 use Rattle.model.proofs.HookLaws.{first-hook, second-hook}
 use Rattle.model.proofs.KindLaws.{right-stays, added-right, preserved-right, preserved-not-added}
@@ -50,7 +51,8 @@ module _ {E : Site} (ready : Ready E) where
     alive = λ u s e h r. L.state-pair ready u s e h (right-stays S s r);
     explicitLink = λ u s i t e h r a. L.link-explicit ready u s e h (right-stays S s r) i t a;
     implicitLink = λ u s i p e h r a. L.link-implicit ready u s e h (right-stays S s r) i p a;
-    newTag = λ u s e h a. L.tag-new ready u s e h (right-stays S s (added-right S s a)) a;
+    newTag = λ u s e h a. L.tag-new ready u s e h (right-stays S s (added-right S s a)) a
+        ∙ ap (m .tag) (sym (dart-left E u (donor S s) (donor-left S g s h)));
     ownLink = λ u s e h a n. L.link-own ready u s e h (right-stays S s (added-right S s a)) 3 a
         (no-arc S right (g .sides right) s 3 h (omega arith) (omega arith));
     keptTag = λ u s e h k. L.tag-kept ready u s e h (right-stays S s (preserved-right S s k)) (preserved-not-added S s k);

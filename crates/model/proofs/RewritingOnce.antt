@@ -12,7 +12,7 @@ use Rattle.base.specs.Below.{anyBelow}
 use Rattle.base.proofs.TestLaws.{and-left, and-right, and-of, or-cases, true-or-false}
 use Rattle.base.proofs.BelowLaws.{any-at, any-of, count-injective, le-or-lt}
 use Rattle.model.specs.Map.{Map, State, Link, Tag, fieldOf, unused, tableSize, tableOf}
-use Rattle.model.specs.Scheme.{right, orbitDim, has, deleted, added}
+use Rattle.model.specs.Scheme.{right, donor, orbitDim, has, deleted, added}
 use Rattle.model.specs.Conditions.{Arc, absent, explicit, implicit, arcAt}
 use Rattle.model.specs.Accepted.{Accepted}
 use Rattle.model.specs.Site.{Site}
@@ -27,7 +27,7 @@ use Rattle.model.proofs.RewritingLaws.{rewriting}
 use Rattle.model.proofs.EditLaws.{Ready}
 
 -- a slot is the dart of some pair, or of none
-pair-or-none : (N c : ℕ) (O : ℕ → Bool) (f : ℕ → ℕ → ℕ) (x : ℕ) → ((u : ℕ) → O u ≡ true → u < N)
+pub pair-or-none : (N c : ℕ) (O : ℕ → Bool) (f : ℕ → ℕ → ℕ) (x : ℕ) → ((u : ℕ) → O u ≡ true → u < N)
     → ((u s : ℕ) × (O u ≡ true) × (s < c) × (f u s ≡ x)) ⊎ ((u s : ℕ) → O u ≡ true → s < c → f u s ≡ x → ⊥)
 pair-or-none N c O f x slot = ⊎-elim
     (λ t.
@@ -76,7 +76,7 @@ module _ (E : Site) (a : Accepted (E .scheme)) (o : GoodOrbit E) {m′ m″ : Ma
   tag-once : (u s : ℕ) → O u ≡ true → s < S .nodes → has S right s ≡ true → m″ .tag (g u s) ≡ m′ .tag (f u s)
   tag-once u s e h k = ⊎-elim
       (λ z. q .keptTag u s e h z ∙ ap (m .tag) (sym (dart-once u s e h)) ∙ sym (r .keptTag u s e h z))
-      (λ z. q .newTag u s e h z ∙ sym (r .newTag u s e h z))
+      (λ z. q .newTag u s e h z ∙ ap (m .tag) (sym (dart-once u (donor S s) e (a .shaped .donorBelow s h))) ∙ sym (r .newTag u s e h z))
       (or-cases _ _ k)
 
   -- the record of a pair is the same

@@ -17,13 +17,15 @@ use Rattle.base.proofs.TestLaws.{and-left, and-right, or-cases, true-or-false}
 use Rattle.base.proofs.BelowLaws.{all-at}
 use Rattle.base.proofs.FirstLaws.{first-same, least-none-of, least-same}
 use Rattle.base.proofs.ListLaws.{getD-list}
-use Rattle.model.specs.Bytes.{onSide, byte, namesSecond, dimensionOf, placesOf, nodesOf, kindAt, wordAt, hookBytes, secondOf, arcCount, arcByte, upTo}
+use Rattle.model.specs.Bytes.{onSide, byte, namesSecond, dimensionOf, placesOf, nodesOf, hasDonor, kindAt, wordAt, donorOf, hookBytes, secondOf, arcCount, arcByte}
+use Rattle.model.specs.Bytes.{upTo}
 use Rattle.model.specs.Arc.{farEnd, arcOf}
 use Rattle.model.specs.Codes.{placeCode, placed, placedAt, targetsOf, targets, arcCode}
-use Rattle.model.specs.Scheme.{Side, left, right, orbitForm, wordForm, wordEmpty, nodeForm, arcsForm, inForm, wordsOf, arcsOf, schemeOf, kind, orbitDim}
-use Rattle.model.specs.Scheme.{word, arcs, arcPart, has}
+use Rattle.model.specs.Scheme.{Side, left, right, orbitForm, wordForm, wordEmpty, nodeForm, donorForm, arcsForm, inForm, wordsOf, arcsOf, schemeOf, kind, orbitDim}
+use Rattle.model.specs.Scheme.{donor, word, arcs, arcPart, has, firstHook}
 use Rattle.model.specs.Conditions.{arcAt, reads}
 use Rattle.model.specs.Shaped.{Shaped, ShapedSide}
+use Rattle.model.proofs.NodePlaceLaws.{donorsTo, node-place}
 use Rattle.model.proofs.FormLaws as F
 
 up-to : (bound x v filling : ℕ) → x < bound → upTo bound x v filling ≡ v
@@ -53,15 +55,19 @@ module _ (b : List ℕ) (q : inForm b ≡ true) where
   form-node : (s : ℕ) → s < nodesOf b → nodeForm b s ≡ true
   form-node s h = all-at _ _ (form .nodes) s h
 
+  form-donor : (s : ℕ) → s < nodesOf b → donorForm b s ≡ true
+  form-donor s h = all-at _ _ (form .donors) s h
+
   pub arcs-few : (side : Side) → arcCount b side ≤ 64
   arcs-few side = F.arcs-few b form side
 
-  -- docs/RULES.md: the longest scheme has 537 bytes, and one more where it names a second hook
-  pub form-short : length b ≤ 537 + hookBytes b
+  -- a scheme has 537 bytes at the most beside those of its donors and of a second hook
+  pub form-short : length b ≤ 537 + donorsTo b (nodesOf b) + hookBytes b
   form-short =
       let ends = form .ends in
       let n3 = small in
       let few = places-few in
+      let place = node-place b (nodesOf b) in
       let nodes = mul-le-mul-right (1 + 2 * placesOf b) nodes-few in
       let arcs-left = arcs-few left in
       let arcs-right = arcs-few right in
@@ -93,6 +99,10 @@ module _ (b : List ℕ) (q : inForm b ≡ true) where
   pub value-kind : (s : ℕ) → s < nodesOf b → kind (schemeOf b) s ≡ kindAt b s
   unfolding schemeOf
   value-kind s h = let few = nodes-few in getD-list 16 s _ 0 (omega arith) ∙ up-to _ _ _ _ h
+
+  value-donor : (s : ℕ) → s < nodesOf b → donor (schemeOf b) s ≡ donorOf b s
+  unfolding schemeOf
+  value-donor s h = let few = nodes-few in getD-list 16 s _ 0 (omega arith) ∙ up-to _ _ _ _ h
 
   words-at : (side : Side) (s p : ℕ) → s < nodesOf b → p < placesOf b → getD (wordsOf b side) (4 * s + p) 255 ≡ wordAt b side s p
   unfolding wordsOf
@@ -226,6 +236,20 @@ module _ (b : List ℕ) (q : inForm b ≡ true) where
       let f = and-left _ _ (and-left _ _ (and-left _ _ (and-left _ _ (form-node s h)))) in
       rw (value-kind s h) (leb-true 1 _ (and-left _ _ f), leb-true _ 3 (and-right _ _ f))
 
+  -- a donor is a node, and where one is named it is a left one
+  donor-below : (s : ℕ) → s < nodesOf b → donor (schemeOf b) s < nodesOf b
+  donor-below s h = subst (λ (x : ℕ). x < nodesOf b) (sym (value-donor s h)) (⊎-elim
+      (λ e. F.donor-parts b s (form-donor s h) e .node)
+      (λ e. let none = F.donor-none b s e in let some = form .nodesSome in omega arith)
+      (true-or-false (hasDonor b (kindAt b s))))
+
+  donor-left : (s : ℕ) → s < nodesOf b → (donor (schemeOf b) s ≡ firstHook) ⊎ (has (schemeOf b) left (donor (schemeOf b) s) ≡ true)
+  donor-left s h = ⊎-elim
+      (λ e. inr (subst (λ (x : ℕ). has (schemeOf b) left x ≡ true) (sym (value-donor s h))
+      (let p = F.donor-parts b s (form-donor s h) e in ap (onSide left) (value-kind _ (p .node)) ∙ p .onLeft)))
+      (λ e. inl (value-donor s h ∙ F.donor-none b s e))
+      (true-or-false (hasDonor b (kindAt b s)))
+
   -- the second hook is a node, and where one is named it is a left one
   second-below : secondOf b < nodesOf b
   second-below = ⊎-elim
@@ -260,6 +284,8 @@ module _ (b : List ℕ) (q : inForm b ≡ true) where
     nodesSome = form .nodesSome;
     nodesFew = nodes-few;
     kinds = kind-range;
+    donorBelow = donor-below;
+    donorLeft = donor-left;
     secondBelow = second-below;
     secondLeft = second-left;
     sides = λ side. shaped-side side (count-is side);

@@ -1,12 +1,12 @@
--- 'The scheme's bytes': where each of the five sections and the second hook stand. Bytes past the end count as 0; `inForm` (Scheme.antt) tests
--- the exact length.
+-- 'The scheme's bytes': where each of the five sections, the donors and the second hook stand. Bytes past the end count as 0; `inForm`
+-- (Scheme.antt) tests the exact length.
 -- Assumes nothing.
-use Prim.Native.Nat.{ℕ, _+_, _*_, _-_}
+use Prim.Native.Nat.{ℕ, zero, suc, _+_, _*_, _-_}
 use mathlib.Core.Bool.{Bool, cond}
 use mathlib.Core.List.{List}
 use lib.ListN.{getD}
 use lib.Dec.{eqb, ltb, leb}
-use Rattle.base.specs.Test.{_or_}
+use Rattle.base.specs.Test.{_and_, _or_, bit}
 
 pub data Side : Type 0 where
   left right : Side
@@ -21,13 +21,20 @@ module _ (b : List ℕ) where
   abbrev pub byte : ℕ → ℕ
   byte at = getD b at 0
 
-  -- the first byte is n, or n + 32 where the scheme names a second hook
+  -- the first byte is n, with 32 more where the scheme names a second hook, and 16 more where it names donors
   unfoldable pub namesSecond : Bool
   namesSecond = leb 32 (byte 0)
 
+  -- the first byte without what names a second hook
+  unfoldable pub hookless : ℕ
+  hookless = cond namesSecond (byte 0 - 32) (byte 0)
+
+  unfoldable pub namesDonors : Bool
+  namesDonors = leb 16 hookless
+
   -- n, which the first byte says
   unfoldable pub dimensionOf : ℕ
-  dimensionOf = cond namesSecond (byte 0 - 32) (byte 0)
+  dimensionOf = cond namesDonors (hookless - 16) hookless
 
   -- k, the orbit type's count; its dimensions stand from byte 2 on
   abbrev pub placesOf : ℕ
@@ -37,9 +44,14 @@ module _ (b : List ℕ) where
   abbrev pub nodesOf : ℕ
   nodesOf = byte (2 + placesOf)
 
-  -- node s: its kind, then its left word, then its right word, each of k bytes
-  abbrev pub nodeAt : ℕ → ℕ
-  nodeAt s = 3 + placesOf + s * (1 + 2 * placesOf)
+  -- a node of this kind has a donor byte: an added one, where donors are named
+  unfoldable pub hasDonor : ℕ → Bool
+  hasDonor kind = namesDonors and eqb kind 3
+
+  -- node s: its kind, then its left word, then its right word, each of k bytes, then its donor where it has one
+  unfoldable pub nodeAt : ℕ → ℕ
+  nodeAt zero = 3 + placesOf
+  nodeAt (suc s) = nodeAt s + 1 + 2 * placesOf + bit (hasDonor (byte (nodeAt s)))
 
   abbrev pub kindAt : ℕ → ℕ
   kindAt s = byte (nodeAt s)
@@ -49,9 +61,13 @@ module _ (b : List ℕ) where
   wordAt left s p = byte (nodeAt s + 1 + p)
   wordAt right s p = byte (nodeAt s + 1 + placesOf + p)
 
+  -- the donor of node s: the node whose darts give the new darts of s their tags; node 0 where none is named
+  unfoldable pub donorOf : ℕ → ℕ
+  donorOf s = cond (hasDonor (kindAt s)) (byte (nodeAt s + 1 + 2 * placesOf)) 0
+
   -- how many bytes the second hook takes, right after the nodes: one where it is named, else none
   unfoldable pub hookBytes : ℕ
-  hookBytes = cond namesSecond 1 0
+  hookBytes = bit namesSecond
 
   -- the second hook's node number; 0 where none is named
   unfoldable pub secondOf : ℕ

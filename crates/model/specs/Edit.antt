@@ -10,7 +10,7 @@ use Rattle.base.specs.Test.{_and_}
 use Rattle.base.specs.Below.{countBelow}
 use Rattle.base.specs.First.{nthLowest, first, someIf}
 use Rattle.model.specs.Map.{Map, unused}
-use Rattle.model.specs.Scheme.{right, orbitDim, deleted, added}
+use Rattle.model.specs.Scheme.{right, donor, orbitDim, deleted, added}
 use Rattle.model.specs.Conditions.{Arc, absent, explicit, implicit, arcAt}
 use Rattle.model.specs.Site.{Site}
 use Rattle.model.specs.Match.{image}
@@ -60,12 +60,12 @@ module _ (E : Site) where
   -- "A preserved dart keeps [..] every link its right side doesn't name."
   unnamedLink false i x = m .link i x
 
-  -- the tag of the dart x of an added (true) or a preserved (false) pair of the orbit dart u
-  abbrev pub newTag : Bool → ℕ → ℕ → ℕ
-  -- "A new dart takes the tag of u."
-  newTag true u x = m .tag u
+  -- the tag of the dart x of an added (true) or a preserved (false) pair (u, s)
+  abbrev pub newTag : Bool → ℕ → ℕ → ℕ → ℕ
+  -- "the new dart (u, s) takes the tag that m(u, donor) had before the edit"
+  newTag true u s x = m .tag (image E u (donor S s))
   -- "A preserved dart keeps its tag"
-  newTag false u x = m .tag x
+  newTag false u s x = m .tag x
 
   -- αi of the dart of (u, s), by the i-arc that s has on the right; where it has none, what an unnamed link is
   unfoldable pub newLink : ℕ → ℕ → Arc → ℕ → ℕ
@@ -88,5 +88,5 @@ module _ (E : Site) where
     slots = m .slots;
     state = λ x. newWord (pairOf x) (m .state x) (λ u s. 1);
     link = λ i x. newWord (pairOf x) (m .link i x) (λ u s. newLink u s (arcAt S right s i) (unnamedLink (added S s) i x));
-    tag = λ x. newWord (pairOf x) (m .tag x) (λ u s. newTag (added S s) u x);
+    tag = λ x. newWord (pairOf x) (m .tag x) (λ u s. newTag (added S s) u s x);
   }

@@ -10,6 +10,7 @@ pub mod Site
 pub mod Match
 pub mod Edit
 pub mod Rewriting
+pub mod Label
 pub mod Answer
 pub mod Calls
 pub mod File

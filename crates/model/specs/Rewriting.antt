@@ -6,7 +6,7 @@ use mathlib.Core.Path.{_≡_}
 use mathlib.Core.Bool.{true}
 use Rattle.base.specs.Below.{countBelow}
 use Rattle.model.specs.Map.{Map, Field, fieldOf, dimension, unused}
-use Rattle.model.specs.Scheme.{right, orbitDim, has, deleted, preserved, added}
+use Rattle.model.specs.Scheme.{right, donor, orbitDim, has, deleted, preserved, added}
 use Rattle.model.specs.Conditions.{absent, explicit, implicit, arcAt}
 use Rattle.model.specs.Site.{Site}
 use Rattle.model.specs.Match.{Assignment}
@@ -38,8 +38,8 @@ module _ (E : Site) where
         → m′ .link i (f u s) ≡ f u t
     pub implicitLink : (u s i p : ℕ) → O u ≡ true → s < S .nodes → has S right s ≡ true → arcAt S right s i ≡ implicit p
         → m′ .link i (f u s) ≡ f (m .link (orbitDim S p) u) s
-    -- a new dart takes the tag of u, and α3 of it is itself where n = 2
-    pub newTag : (u s : ℕ) → O u ≡ true → s < S .nodes → added S s ≡ true → m′ .tag (f u s) ≡ m .tag u
+    -- a new dart takes the tag that the dart of its donor had before the edit, whatever becomes of that dart, and α3 of it is itself where n = 2
+    pub newTag : (u s : ℕ) → O u ≡ true → s < S .nodes → added S s ≡ true → m′ .tag (f u s) ≡ m .tag (f u (donor S s))
     pub ownLink : (u s : ℕ) → O u ≡ true → s < S .nodes → added S s ≡ true → S .n ≡ 2 → m′ .link 3 (f u s) ≡ f u s
     -- a preserved dart keeps its tag and every link that its right side does not name
     pub keptTag : (u s : ℕ) → O u ≡ true → s < S .nodes → preserved S s ≡ true → m′ .tag (f u s) ≡ m .tag (f u s)

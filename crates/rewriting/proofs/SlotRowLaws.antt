@@ -20,16 +20,19 @@ use Rattle.base.proofs.BelowLaws.{count-le, count-lt, count-injective, count-re
 use Rattle.base.proofs.FirstLaws.{nth-is}
 use Rattle.base.proofs.RowLaws.{digits}
 use Rattle.model.specs.Map.{Field, State, Link, Tag, dimension, tableSize, fieldAt, put, view, unused}
-use Rattle.model.specs.Scheme.{added}
-use Rattle.model.specs.Site.{Site}
+use Rattle.model.specs.Scheme.{donor, added}
+use Rattle.model.specs.Site.{Site, LiveDart}
+use Rattle.model.specs.Match.{image}
 use Rattle.model.specs.Edit.{orbitSize, addedDarts, rank, freeSlot, dartOf}
-use Rattle.model.proofs.MatchLaws.{GoodOrbit}
+use Rattle.model.proofs.AcceptedLaws.{donor-left}
+use Rattle.model.proofs.MatchLaws.{GoodOrbit, match-assigns}
 use Rattle.model.proofs.MatchIff.{good-orbit}
 use Rattle.model.proofs.RankLaws.{rank-low, rank-once, dart-added}
 use Rattle.model.proofs.MapLaws.{state-not-tag, state-not-link, tag-not-link, length-put, put-same, put-other}
 use Rattle.table.specs.Words.{Sized}
 use Rattle.orbit.specs.Store.{mark, place, dartAt}
 use Rattle.orbit.specs.At.{At, site}
+use Rattle.orbit.proofs.StoreLaws.{among-of}
 use Rattle.orbit.proofs.PlaceLaws.{marked-in, mark-once}
 use Rattle.rewriting.specs.Darts.{newField}
 use Rattle.rewriting.specs.Slots.{Room, Lowest, revived, columnStart, Grant, Due, Granting, Turn}
@@ -113,6 +116,17 @@ module _ {N : ℕ} {t₀ s₀ : List ℕ} {A : At N t₀} {size many : ℕ} (G :
     kept = λ i w. refl;
   }
 
+  pub many-few : many ≤ 16
+  many-few = omega (arith, G .every, count-le (S .nodes) (added S), A .sound .accepted .shaped .nodesFew)
+
+  -- the dart of a donor is live
+  donor-live : (u v : ℕ) → O u ≡ true → v < S .nodes → LiveDart m (image E u (donor S v))
+  donor-live u v e h =
+      let accepted = A .sound .accepted in
+      let match = match-assigns E accepted good (A .sound .well) (G .match) in
+      let d = match .darts u (good .slot u e) e (donor S v) (accepted .shaped .donorBelow v h) (donor-left S accepted v h) in
+      record { slot = d .0; alive = d .1 }
+
   -- as many columns as there are added nodes lie in N words
   pub cells : many * size ≤ N
   unfolding addedDarts orbitSize
@@ -159,10 +173,10 @@ module _ {N : ℕ} {t₀ s₀ : List ℕ} {A : At N t₀} {size many : ℕ} (G :
         (λ l. omega arith) in
         record { slot = r .0; fits = r .1; late = late; is = ahead (r .0) late ∙ eqb-true _ _ (r .2) }
 
-    -- the orbit's darts are none of the slots given
-    pub orbit-word : (u : ℕ) (f : Field) → O u ≡ true → fieldAt t f u ≡ fieldAt t₀ f u
-    orbit-word u f e = g .other u f
-        (λ x v d q. let z : m .state u ≡ 0 = ap (m .state) (sym q) ∙ g .was x v d in omega (arith, good .alive u e))
+    -- a dart that was live is none of the slots given
+    live-word : (x : ℕ) (f : Field) → LiveDart m x → fieldAt t f x ≡ fieldAt t₀ f x
+    live-word x f l = g .other x f
+        (λ u v d q. let z : m .state x ≡ 0 = ap (m .state) (sym q) ∙ g .was u v d in omega (arith, l .alive))
 
     module _ {y : ℕ} (L : Lowest N t free y) where
       was-unused : m .state y ≡ 0
@@ -211,21 +225,22 @@ module _ {N : ℕ} {t₀ s₀ : List ℕ} {A : At N t₀} {size many : ℕ} (G :
     cell-in = omega (arith, cell-fits u v e h a .1, g .storeLong, G .long)
 
     -- the words of a slot that a pair has
-    fresh-more : (w : ℕ) → w ≡ m .tag u → (x z : ℕ) (f : Field) → Due A (done + 1) x z
-        → fieldAt (revived t y w) f (dartOf E x z) ≡ newField m (m .tag x) (dartOf E x z) f
+    fresh-more : (w : ℕ) → w ≡ m .tag (image E u (donor S v)) → (x z : ℕ) (f : Field) → Due A (done + 1) x z
+        → fieldAt (revived t y w) f (dartOf E x z) ≡ newField m (m .tag (image E x (donor S z))) (dartOf E x z) f
     fresh-more w tag-is x z f d = ⊎-elim
         (λ (b : Due A done x z). revived-other t y w _ f (other-slot x z b) ∙ g .fresh x z f b)
         (λ (b : (x ≡ u) × (z ≡ v)). let q = same x z (b .0) (b .1) in
         ap (fieldAt (revived t y w) f) q ∙ revived-same t y w N (g .tableLong ∙ A .sized .long) (L .fits) f ∙ was f
-        ∙ sym (ap₂ (λ (a k : ℕ). newField m (m .tag a) k f) (b .0) q))
+        ∙ sym (ap₂ (λ (a k : ℕ). newField m (m .tag a) k f) (ap₂ (λ (i k : ℕ). image E i (donor S k)) (b .0) (b .1)) q))
         (old-or-new x z d)
       where
-        was : (f : Field) → newField (view N t) w y f ≡ newField m (m .tag u) y f
+        was : (f : Field) → newField (view N t) w y f ≡ newField m (m .tag (image E u (donor S v))) y f
         was State = refl
         was (Link i) = ap (cond (eqb i 3) y) (g .other y (Link i) other-slot)
         was Tag = tag-is
 
-    pub granting-more : (w i : ℕ) → w ≡ m .tag u → i ≡ cell u v → Granting A s₀ size (done + 1) (y + 1) (revived t y w) (set s i y)
+    pub granting-more : (w i : ℕ) → w ≡ m .tag (image E u (donor S v)) → i ≡ cell u v
+        → Granting A s₀ size (done + 1) (y + 1) (revived t y w) (set s i y)
     unfolding dartAt
     granting-more w i tag-is cell-is = record {
       tableLong = length-revived t y w ∙ g .tableLong;
@@ -252,12 +267,20 @@ module _ {N : ℕ} {t₀ s₀ : List ℕ} {A : At N t₀} {size many : ℕ} (G :
 
 -- ---- the pairs of one orbit dart
 
-module _ {N : ℕ} {t s : List ℕ} {size many u r free : ℕ} (T : Turn N t s size many u r free) where
+module _ {N : ℕ} {t s : List ℕ} {size many : ℕ} {givers : List ℕ} {r free : ℕ} (T : Turn N t s size many givers r free) where
   open Site (site (T .at)) using (map as m, scheme as S, orbit as O)
+  open Turn T using (dart as u)
 
-  -- the tag of the orbit dart is as it was
-  pub turn-tag : view N t .tag u ≡ m .tag u
-  turn-tag = orbit-word (T .grant) (T .granting) u Tag (T .inOrbit)
+  -- r is a place, at which u stands
+  pub turn-place : r < size
+  turn-place = omega (arith, marked-in (T .grant .walked) u (T .inOrbit), T .place)
+
+  place-is : place N (T .store) r ≡ u
+  place-is =
+      let p = marked-in (T .grant .walked) u (T .inOrbit) in
+      let e : r ≡ mark (T .store) u - 1 = omega (arith, T .place) in
+      ap (place N (T .store)) e
+      ∙ T .grant .walked .found u (good (T .grant) .slot u (T .inOrbit)) (among-of (T .store) size u (p .0) (p .1))
 
   -- after the last of its pairs
   pub turn-done : {a from : ℕ} {t′ s′ : List ℕ} → a ≤ many → many ≤ a
@@ -278,9 +301,18 @@ module _ {N : ℕ} {t s : List ℕ} {size many u r free : ℕ} (T : Turn N t s s
 
     pub turn-cell : a * size + r < N
     turn-cell =
-        let p = marked-in (T .grant .walked) u (T .inOrbit) in
         let c = mul-le-mul-right size l in
-        omega (arith, cells (T .grant), T .place)
+        omega (arith, cells (T .grant), turn-place)
+
+    -- the column of its donor
+    pub giver-inside : getD givers a 0 + size ≤ 2 * N
+    giver-inside = subst (λ (k : ℕ). getD givers k 0 + size ≤ 2 * N) (node .3) (T .giving .inside (node .0) (node .1) (node .2))
+
+    giver-dart : dartAt (T .store) (getD givers a 0) r ≡ image (site (T .at)) u (donor S (node .0))
+    giver-dart =
+        ap (λ (k : ℕ). dartAt (T .store) (getD givers k 0) r) (sym (node .3))
+        ∙ T .giving .dart (node .0) r (node .1) (node .2) turn-place
+        ∙ ap (λ (x : ℕ). image (site (T .at)) x (donor S (node .0))) place-is
 
     module _ {from : ℕ} {t′ s′ : List ℕ}
         (g : Granting (T .at) (T .store) size (countBelow u O * many + a) from t′ s′) where
@@ -290,11 +322,33 @@ module _ {N : ℕ} {t s : List ℕ} {size many u r free : ℕ} (T : Turn N t s s
           let b = rank-low (site (T .at)) (good (T .grant) .slot) u (n .0) (T .inOrbit) (n .1) (n .2) in
           room-ahead (T .grant) g (subst (λ (k : ℕ). k < countBelow N (unused m)) node-rank (lt-of-lt-of-le b (T .grant .room)))
 
-      pub turn-more : (y w : ℕ) (t″ s″ : List ℕ) → Lowest N t′ from y → w ≡ view N t .tag u → t″ ≡ revived t′ y w → s″ ≡ set s′ (2 * N + a * size + r) y
+      -- the dart x of the donor, as the code has it, and its tag v, which is as it was
+      module _ (x : ℕ) (read : x ≡ getD s′ (getD givers a 0 + r) 0) where
+        donor-is : x ≡ image (site (T .at)) u (donor S (node .0))
+        unfolding dartAt
+        donor-is = read ∙ g .kept (getD givers a 0 + r) (inl (omega (arith, giver-inside, turn-place))) ∙ giver-dart
+
+        donor-dart : LiveDart m x
+        donor-dart = subst (LiveDart m) (sym donor-is) (donor-live (T .grant) u (node .0) (T .inOrbit) (node .1))
+
+        donor-tag : (v : ℕ) → v ≡ view N t′ .tag x → v ≡ m .tag (image (site (T .at)) u (donor S (node .0)))
+        donor-tag v e = e ∙ live-word (T .grant) g x Tag donor-dart ∙ ap (m .tag) donor-is
+
+      -- the orbit dart and the dart of the donor are slots
+      pub turn-slots : (getD s′ (N + r) 0 < N) × (getD s′ (getD givers a 0 + r) 0 < N)
+      unfolding place
+      turn-slots = (
+        rw (g .kept (N + r) (inl (omega (arith, turn-place, T .grant .walked .fits))), place-is) (good (T .grant) .slot u (T .inOrbit)),
+        donor-dart _ refl .slot,
+      )
+
+      pub turn-more : (y x w : ℕ) (t″ s″ : List ℕ) → Lowest N t′ from y → x ≡ getD s′ (getD givers a 0 + r) 0 → w ≡ view N t′ .tag x
+          → t″ ≡ revived t′ y w → s″ ≡ set s′ (2 * N + a * size + r) y
           → Granting (T .at) (T .store) size (countBelow u O * many + (a + 1)) (y + 1) t″ s″
-      turn-more y w t″ s″ L e p q =
+      turn-more y x w t″ s″ L d e p q =
           let n = node in
           let i : 2 * N + a * size + r ≡ columnStart N size (countBelow (n .0) (added S)) + (mark (T .store) u - 1) =
           ap₂ (λ (k c : ℕ). 2 * N + k * size + c) (sym (n .3)) (omega (arith, T .place)) in
           let j : countBelow u O * many + a + 1 ≡ countBelow u O * many + (a + 1) = omega arith in
-          rw (p, q, ← j) (granting-more (T .grant) g L u (n .0) (T .inOrbit) (n .1) (n .2) node-rank w (2 * N + a * size + r) (e ∙ turn-tag) i)
+          rw (p, q, ← j) (granting-more (T .grant) g L u (n .0) (T .inOrbit) (n .1) (n .2) node-rank w (2 * N + a * size + r)
+          (donor-tag x d w e) i)

@@ -8,8 +8,9 @@ use mathlib.Core.List.{List}
 use lib.ListN.{length, getD}
 use lib.Dec.{eqb}
 use Rattle.model.specs.Map.{Map, Field, State, Link, Tag, fieldAt}
-use Rattle.model.specs.Scheme.{added}
+use Rattle.model.specs.Scheme.{donor, added}
 use Rattle.model.specs.Site.{Site}
+use Rattle.model.specs.Match.{image}
 use Rattle.model.specs.Edit.{dartOf}
 use Rattle.orbit.specs.Store.{place, dartAt}
 
@@ -36,9 +37,9 @@ module _ (E : Site) where
     pub isAdded : added S node ≡ true
     pub same : dartOf E dart node ≡ y
 
-  -- the table t′ is t with the darts of the added pairs live, with the tag of the orbit dart
+  -- the table t′ is t with the darts of the added pairs live, each with the tag of the dart of its donor
   pub record Given (t t′ : List ℕ) : Type 0 where
     pub long : length t′ ≡ length t
     pub fresh : (u s : ℕ) (f : Field) → O u ≡ true → s < S .nodes → added S s ≡ true
-        → fieldAt t′ f (dartOf E u s) ≡ newField m (m .tag u) (dartOf E u s) f
+        → fieldAt t′ f (dartOf E u s) ≡ newField m (m .tag (image E u (donor S s))) (dartOf E u s) f
     pub other : (y : ℕ) (f : Field) → (AddedDart y → ⊥) → fieldAt t′ f y ≡ fieldAt t f y

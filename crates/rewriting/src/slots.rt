@@ -1,4 +1,5 @@
-// The darts of the added pairs: each takes the lowest slot that is left of those unused before the edit, by orbit dart and then by node.
+// The darts of the added pairs: each takes the lowest slot that is left of those unused before the edit, by orbit dart and then by node, and the tag of
+// the dart of its donor.
 use model::MAX_SLOTS;
 use orbit::store::keep;
 use orbit::store::word;
@@ -13,7 +14,8 @@ ghost use lib.ListN.{length};
 ghost use Rattle.base.specs.Below.{countBelow};
 ghost use Rattle.table.specs.Words.{Sized};
 ghost use Rattle.orbit.specs.At.{site};
-ghost use Rattle.rewriting.specs.Slots.{Room, Lowest, revived, Apart, ColumnsBegin, Turn, Granting, early, Placed, NoDigits, Digits, Block, BeforeGiving, Granted};
+ghost use Rattle.rewriting.specs.Slots.{Room, Lowest, revived, Apart, ColumnsBegin, Donating, DonorColumns, Turn, Granting};
+ghost use Rattle.rewriting.specs.Slots.{early, Placed, NoDigits, Digits, Block, BeforeGiving, Granted};
 
 // The words that hold a binary digit for each slot of the largest table.
 const DIGITS: usize = MAX_SLOTS as usize / 64;
@@ -51,26 +53,29 @@ fn revive(slots: usize, table: &mut [u32], y: usize, v: u32)
     put_tag(slots, table, y, v);
 }
 
-// The darts of the orbit dart u, at place r, with each added node. The answer is the slot past the last that was taken.
+// The darts of the orbit dart at place r with each added node. The answer is the slot past the last that was taken.
+// The dart x of a donor was live before the edit, so it is none of the slots taken here, and its tag is still the one from before.
 fn row(
     slots: usize,
     table: &mut [u32],
     store: &mut [u32],
     size: usize,
     many: usize,
-    u: usize,
+    givers: &[usize; 16],
     r: usize,
     free: usize,
 ) -> usize
-    requires { ⌜ Turn slots (now table) (now store) size many u r free ⌝ }
-    ensures { λ f. ⌜ ((T : Turn slots (now (table .entry)) (now (store .entry)) size many u r free)
-        → Granting (T .at) (T .store) size (countBelow u (site (T .at) .orbit) * many + many) f (now (table .exit)) (now (store .exit))) ⌝ }
+    requires { ⌜ Turn slots (now table) (now store) size many (now givers) r free ⌝ }
+    ensures { λ f. ⌜ ((T : Turn slots (now (table .entry)) (now (store .entry)) size many (now (givers .entry)) r free)
+        → Granting (T .at) (T .store) size (countBelow (T .dart) (site (T .at) .orbit) * many + many) f (now (table .exit)) (now (store .exit))) ⌝ }
 {
-    let v = tag(slots, table, u);
     let mut from = free;
     let mut a = 0;
     while a < many {
         let y = lowest(slots, table, from);
+        let base = givers[a];
+        let x = word(store, base + r);
+        let v = tag(slots, table, x);
         revive(slots, table, y, v);
         keep(store, 2 * slots + a * size + r, y);
         from = y + 1;
@@ -89,6 +94,27 @@ fn columns(slots: usize, size: usize, added: &[u8; 16], many: usize, cols: &mut 
     while a < many {
         let s = added[a] as usize;
         cols[s] = 2 * slots + a * size;
+        a += 1;
+    }
+}
+
+// The begins of the columns of the donors of the added nodes.
+fn donor_columns(
+    added: &[u8; 16],
+    many: usize,
+    donors: &[u8; 16],
+    cols: &[usize; 16],
+    givers: &mut [usize; 16],
+)
+    requires { ⌜ Donating (now added) many (now donors) ⌝ }
+    requires { ⌜ length (now givers) ≡ 16 ⌝ }
+    ensures { λ _. ⌜ DonorColumns (now (added .entry)) many (now (donors .entry)) (now (cols .entry)) (now (givers .exit)) ⌝ }
+{
+    let mut a = 0;
+    while a < many {
+        let s = added[a] as usize;
+        let d = donors[s] as usize;
+        givers[a] = cols[d];
         a += 1;
     }
 }
@@ -115,12 +141,13 @@ fn block(
     store: &mut [u32],
     size: usize,
     many: usize,
+    givers: &[usize; 16],
     w: usize,
     digits: u64,
     free: usize,
 ) -> usize
-    requires { ⌜ Block slots (now table) (now store) size many w digits free ⌝ }
-    ensures { λ f. ⌜ ((B : Block slots (now (table .entry)) (now (store .entry)) size many w digits free)
+    requires { ⌜ Block slots (now table) (now store) size many (now givers) w digits free ⌝ }
+    ensures { λ f. ⌜ ((B : Block slots (now (table .entry)) (now (store .entry)) size many (now (givers .entry)) w digits free)
         → Granting (B .at) (B .store) size (countBelow (64 * w + 64) (site (B .at) .orbit) * many) f (now (table .exit)) (now (store .exit))) ⌝ }
 {
     let mut rest = digits;
@@ -130,7 +157,7 @@ fn block(
         rest = rest - (1 << t);
         let u = 64 * w + t;
         let r = word(store, u) - 1;
-        from = row(slots, table, store, size, many, u, r, from);
+        from = row(slots, table, store, size, many, givers, r, from);
     }
     from
 }
@@ -143,23 +170,27 @@ pub fn give(
     size: usize,
     added: &[u8; 16],
     many: usize,
+    donors: &[u8; 16],
     cols: &mut [usize; 16],
 )
-    requires { ⌜ BeforeGiving slots (now table) (now store) size (now added) many (now cols) ⌝ }
-    ensures { λ _. ⌜ ((R : BeforeGiving slots (now (table .entry)) (now (store .entry)) size (now (added .entry)) many (now (cols .entry)))
+    requires { ⌜ BeforeGiving slots (now table) (now store) size (now added) many (now donors) (now cols) ⌝ }
+    ensures { λ _. ⌜ ((R : BeforeGiving slots (now (table .entry)) (now (store .entry)) size (now (added .entry)) many (now (donors .entry))
+        (now (cols .entry)))
         → Granted (site (R .at)) (now (table .entry)) (now (store .entry)) (now (table .exit)) (now (store .exit)) (now (cols .exit)) size) ⌝ }
 {
-    columns(slots, size, added, many, cols);
     if many == 0 {
         return;
     }
+    let mut givers = [0usize; 16];
+    donor_columns(added, many, donors, cols, &mut givers);
+    columns(slots, size, added, many, cols);
     let mut bits: [u64; DIGITS] = [0; DIGITS];
     mark_bits(slots, store, size, &mut bits);
     let mut free = 0;
     let mut w = 0;
     while w < DIGITS {
         let digits = bits[w];
-        free = block(slots, table, store, size, many, w, digits, free);
+        free = block(slots, table, store, size, many, &givers, w, digits, free);
         w += 1;
     }
 }

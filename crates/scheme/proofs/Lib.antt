@@ -5,6 +5,7 @@ pub mod TargetLaws
 pub mod LinkLaws
 pub mod ArcLaws
 pub mod ArcTestLaws
+pub mod DonorLaws
 pub mod SecondLaws
 pub mod ReadLaws
 pub mod MarkLaws

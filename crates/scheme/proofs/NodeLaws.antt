@@ -1,9 +1,9 @@
 -- The nodes as they are read: a node's form from its parts, what holds once the first s nodes are read, and what the kinds tell.
 -- Assumes nothing.
 use Prim.Native.Nat.{ℕ, _+_, _*_, _/_, _≤_, _<_}
-use mathlib.Core.Path.{_≡_, sym, ap, _∙_}
-use mathlib.Core.Logic.{_⊎_}
-use mathlib.Core.Bool.{Bool, true, false, cond}
+use mathlib.Core.Path.{_≡_, refl, sym, ap, _∙_}
+use mathlib.Core.Logic.{_⊎_, inl}
+use mathlib.Core.Bool.{Bool, true, false, cond, not}
 use mathlib.Core.List.{List}
 use native.Mathlib.Omega.{arith}
 use lib.ListN.{getD, set, replicate}
@@ -20,9 +20,11 @@ use Rattle.base.proofs.FilledLaws.{filled-none, filled-more, filled-all, same-l
 use Rattle.model.specs.Bytes.{onSide, placesOf, nodesOf, nodeAt, kindAt, upTo}
 use Rattle.model.specs.Codes.{placed, placedAt}
 use Rattle.model.specs.Scheme.{Side, left, right, wordForm, wordEmpty, nodeForm, wordsOf, schemeOf}
+use Rattle.model.proofs.NodePlaceLaws.{node-first}
 use Rattle.scheme.specs.Words.{sideOf, row}
 use Rattle.scheme.specs.Nodes.{Passed, Noded}
 use Rattle.scheme.proofs.WordLaws.{on-side}
+use Rattle.scheme.proofs.ArcTestLaws.{denies}
 
 -- ---- one node
 
@@ -54,7 +56,7 @@ module _ (b : List ℕ) where
       → Passed b 0 at kinds lwords rwords ltargets rtargets
   passed-none e k l r u v = record {
     formed = all-none _;
-    placeIs = omega arith;
+    placeIs = e ∙ sym (node-first b);
     kindsIs = k ∙ filled-none 16 (kindAt b) 0;
     lwordsIs = l ∙ filled-none 64 (row b left) 255;
     rwordsIs = r ∙ filled-none 64 (row b right) 255;
@@ -64,13 +66,13 @@ module _ (b : List ℕ) where
 
   pub passed-more : {s at next kind : ℕ} {kinds lwords rwords ltargets rtargets lwords′ rwords′ ltargets′ rtargets′ : List ℕ}
       → Passed b s at kinds lwords rwords ltargets rtargets → s < 16 → nodeForm b s ≡ true
-      → next ≡ at + (1 + 2 * placesOf b) → kind ≡ kindAt b s
+      → next ≡ nodeAt b (s + 1) → kind ≡ kindAt b s
       → lwords′ ≡ filled 64 (4 * (s + 1)) (row b left) 255 → rwords′ ≡ filled 64 (4 * (s + 1)) (row b right) 255
       → ltargets′ ≡ filled 64 (4 * (s + 1)) (placed b left) 255 → rtargets′ ≡ filled 64 (4 * (s + 1)) (placed b right) 255
       → Passed b (s + 1) next (set kinds s kind) lwords′ rwords′ ltargets′ rtargets′
   passed-more {s} f h e n k l r u v = record {
     formed = all-more _ s (f .formed) e;
-    placeIs = omega (arith, f .placeIs);
+    placeIs = n;
     kindsIs = filled-more 16 (kindAt b) 0 s (f .kindsIs) h k;
     lwordsIs = l;
     rwordsIs = r;
@@ -110,7 +112,7 @@ module _ (b : List ℕ) where
 -- ---- the kinds that are held
 
 module _ (b : List ℕ) {kinds : List ℕ} (few : nodesOf b ≤ 16) (same : kinds ≡ schemeOf b .kinds) where
-  kind-at : (s : ℕ) → s < nodesOf b → getD kinds s 0 ≡ kindAt b s
+  pub kind-at : (s : ℕ) → s < nodesOf b → getD kinds s 0 ≡ kindAt b s
   unfolding schemeOf
   kind-at s h = ap (λ (m : List ℕ). getD m s 0) same ∙ getD-list 16 s _ 0 (omega arith) ∙ ap (λ (t : Bool). cond t (kindAt b s) 0) (lt-ltb _ _ h)
 
@@ -121,3 +123,10 @@ module _ (b : List ℕ) {kinds : List ℕ} (few : nodesOf b ≤ 16) (same : kind
   held-side nodes {other} o s h =
       let q = and-left _ _ (and-left _ _ (and-left _ _ (and-left _ _ (all-at _ _ nodes s h)))) in
       on-side o (leb-true 1 _ (and-left _ _ q)) (leb-true _ 3 (and-right _ _ q)) ∙ ap (λ (k : ℕ). eqb k other ⇒ false) (sym (kind-at s h))
+
+  -- a node in the form is on the left where it is not added
+  pub held-left : allBelow (nodesOf b) (nodeForm b) ≡ true → {at : ℕ} (s : ℕ) → at ≡ s → s < nodesOf b
+      → not (eqb (getD kinds at 0) 3) ≡ onSide left (kindAt b s)
+  held-left nodes s e h =
+      let same : onSide left (kindAt b s) ≡ (eqb (getD kinds s 0) 3 ⇒ false) = held-side nodes (inl refl) s h in
+      ap (λ (x : ℕ). not (eqb (getD kinds x 0) 3)) e ∙ denies (eqb (getD kinds s 0) 3) ∙ sym same

@@ -14,7 +14,7 @@ use Rattle.base.specs.Below.{allBelow, anyBelow, countBelow}
 use Rattle.base.specs.Lists.{list, listFrom}
 use Rattle.base.proofs.TestLaws.{true-or-false, refuted}
 use Rattle.model.specs.Bytes.{nodesOf, secondOf, arcsAt, arcCount}
-use Rattle.model.specs.Scheme.{Side, left, right, orbitForm, nodeForm, secondForm, arcsForm, inForm, schemeOf}
+use Rattle.model.specs.Scheme.{Side, left, right, orbitForm, nodeForm, donorForm, secondForm, arcsForm, inForm, schemeOf}
 use Rattle.model.specs.Conditions.{arcsOfDim}
 use Rattle.model.specs.Twice.{twiceAt, twiceOf}
 use Rattle.frame.specs.Frame.{LaidOut}
@@ -40,6 +40,9 @@ module _ (b : List ℕ) where
 
   pub no-nodes : allBelow (nodesOf b) (nodeForm b) ≡ false → inForm b ≡ false
   no-nodes e = refuted (λ q. parts b q .nodes) e
+
+  pub no-donors : allBelow (nodesOf b) (donorForm b) ≡ false → inForm b ≡ false
+  no-donors e = refuted (λ q. parts b q .donors) e
 
   pub no-second : secondForm b ≡ false → inForm b ≡ false
   no-second e = refuted (λ q. parts b q .second) e
@@ -67,8 +70,9 @@ module _ (b : List ℕ) (l : Layout) (laid : LaidOut b l) (nodes : allBelow (nod
     inside = i .1;
   }
 
-  pub all-formed : orbitForm b ≡ true → secondForm b ≡ true → arcsForm b left ≡ true → arcsForm b right ≡ true → inForm b ≡ true
-  all-formed orbit second lefts rights =
+  pub all-formed : orbitForm b ≡ true → allBelow (nodesOf b) (donorForm b) ≡ true → secondForm b ≡ true → arcsForm b left ≡ true
+      → arcsForm b right ≡ true → inForm b ≡ true
+  all-formed orbit donors second lefts rights =
       let h = laid .headed in
       whole b (record {
         dimension = ⊎-elim (λ e. inl (sym (h .nIs) ∙ e)) (λ e. inr (sym (h .nIs) ∙ e)) (h .dimension);
@@ -76,6 +80,7 @@ module _ (b : List ℕ) (l : Layout) (laid : LaidOut b l) (nodes : allBelow (nod
         nodesSome = omega arith;
         nodesFew = omega arith;
         nodes = nodes;
+        donors = donors;
         second = second;
         arcs = λ side. sides side;
         ends = laid .ends;
@@ -99,9 +104,9 @@ module _ (b : List ℕ) where
   read-broken e = rw e refl
 
   -- the reading is made of its parts
-  pub read-formed : {l : Layout} {first second third hook : ℕ} {orbit kinds lwords rwords lplaced rplaced larcs ltargets rarcs rtargets : List ℕ}
+  pub read-formed : {l : Layout} {first second third hook : ℕ} {orbit kinds donors lwords rwords lplaced rplaced larcs ltargets rarcs rtargets : List ℕ}
       {ltwice rtwice : List Bool} → inForm b ≡ true → LaidOut b l → orbit ≡ schemeOf b .orbit → Noded b first kinds lwords rwords lplaced rplaced
-      → hook ≡ secondOf b → ArcsRead b left second larcs ltargets ltwice → ArcsRead b right third rarcs rtargets rtwice
+      → donors ≡ schemeOf b .donors → hook ≡ secondOf b → ArcsRead b left second larcs ltargets ltwice → ArcsRead b right third rarcs rtargets rtwice
       → _≡_ {A = Reading} (record {
         ok = true;
         scheme = record {
@@ -111,6 +116,7 @@ module _ (b : List ℕ) where
           nodes = l .nodes;
           second = hook;
           kinds = kinds;
+          donors = donors;
           lwords = lwords;
           rwords = rwords;
           ltargets = ltargets;
@@ -124,7 +130,7 @@ module _ (b : List ℕ) where
         rtwice = rtwice;
       }) (reading b)
   unfolding reading schemeOf
-  read-formed e laid o n h f g = rw (
+  read-formed e laid o n d h f g = rw (
     e,
     laid .headed .nIs,
     laid .headed .placesIs,
@@ -135,6 +141,7 @@ module _ (b : List ℕ) where
     n .kindsIs,
     n .lwordsIs,
     n .rwordsIs,
+    d,
     h,
     f .arcsIs,
     f .targetsIs,

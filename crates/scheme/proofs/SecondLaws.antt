@@ -1,36 +1,31 @@
 -- The second hook as it is read.
 -- Assumes nothing.
 use Prim.Native.Nat.{ℕ, _≤_, _<_}
-use mathlib.Core.Path.{_≡_, refl, sym, ap, _∙_}
-use mathlib.Core.Logic.{inl}
+use mathlib.Core.Path.{_≡_, sym, ap, _∙_}
 use mathlib.Core.Bool.{Bool, true, false, cond, not, true≢false}
 use mathlib.Core.List.{List}
 use native.Mathlib.Omega.{arith}
 use lib.ListN.{getD}
 use lib.Dec.{eqb}
+use Rattle.base.specs.Test.{bit}
 use Rattle.base.specs.Below.{allBelow}
-use Rattle.base.specs.Test.{_⇒_}
 use Rattle.base.proofs.TestLaws.{impossible, same-test}
-use Rattle.model.specs.Bytes.{onSide, byte, namesSecond, nodesOf, nodeAt, kindAt, hookBytes, secondOf, arcsAt}
+use Rattle.model.specs.Bytes.{byte, namesSecond, nodesOf, nodeAt, hookBytes, secondOf, arcsAt}
 use Rattle.model.specs.Scheme.{left, nodeForm, secondForm, schemeOf}
 use Rattle.frame.specs.Place.{TakenAt}
 use Rattle.frame.specs.Frame.{LaidOut}
 use Rattle.frame.specs.declared.cursor.Taken.{Taken}
 use Rattle.frame.specs.declared.Layout.{Layout}
+use Rattle.frame.proofs.FrameLaws.{no-mark, has-mark}
 use Rattle.model.proofs.FormLaws.{SecondParts, second-parts, second-whole, second-none}
-use Rattle.scheme.proofs.NodeLaws.{held-side}
-use Rattle.scheme.proofs.ArcTestLaws.{denies}
+use Rattle.scheme.proofs.NodeLaws.{held-left}
 
 module _ (b : List ℕ) (l : Layout) (laid : LaidOut b l) {from : ℕ} (place : from ≡ nodeAt b (nodesOf b)) where
   -- ---- none is named
 
   unnamed : l .hook ≡ 0 → namesSecond b ≡ false
   unfolding hookBytes
-  unnamed e = none (namesSecond b) (sym (laid .headed .hookIs) ∙ e)
-    where
-      none : (c : Bool) → _≡_ {A = ℕ} (cond c 1 0) 0 → c ≡ false
-      none true e = absurd (omega arith)
-      none false e = refl
+  unnamed e = no-mark (namesSecond b) (laid .headed .hookIs) e
 
   pub none-formed : l .hook ≡ 0 → true ≡ secondForm b
   none-formed e = sym (second-whole b (λ q. absurd (true≢false (sym q ∙ unnamed e))))
@@ -43,17 +38,13 @@ module _ (b : List ℕ) (l : Layout) (laid : LaidOut b l) {from : ℕ} (place : 
   module _ (some : l .hook ≡ 0 → ⊥) {r : Taken} (t : TakenAt b from r) where
     named : namesSecond b ≡ true
     unfolding hookBytes
-    named = one (namesSecond b) (λ e. some (laid .headed .hookIs ∙ e))
-      where
-        one : (c : Bool) → (_≡_ {A = ℕ} (cond c 1 0) 0 → ⊥) → c ≡ true
-        one true f = refl
-        one false f = absurd (f refl)
+    named = has-mark (namesSecond b) (laid .headed .hookIs) some
 
     pub some-read : (r .value ≡ secondOf b) × (r .next .at ≡ arcsAt b left)
     unfolding secondOf hookBytes
     some-read =
         let n = named in
-        let one : hookBytes b ≡ 1 = ap (λ (c : Bool). cond c 1 0) n in (
+        let one : hookBytes b ≡ 1 = ap bit n in (
           t .valueIs ∙ ap (byte b) place ∙ sym (ap (λ (c : Bool). cond c (byte b (nodeAt b (nodesOf b))) 0) n),
           omega (arith, t .nextIs),
         )
@@ -73,11 +64,10 @@ module _ (b : List ℕ) (l : Layout) (laid : LaidOut b l) {from : ℕ} (place : 
     -- a node but the first is named: its kind decides
     pub some-formed : {kinds : List ℕ} {at : ℕ} → allBelow (nodesOf b) (nodeForm b) ≡ true → kinds ≡ schemeOf b .kinds → at ≡ r .value
         → (r .value ≡ 0 → ⊥) → r .value < l .nodes → not (eqb (getD kinds at 0) 3) ≡ secondForm b
-    some-formed {kinds} nodes k e h n =
+    some-formed nodes k e h n =
         let hd = laid .headed in
         let s = some-read .0 in
         let below : secondOf b < nodesOf b = omega arith in
-        let same : onSide left (kindAt b (secondOf b)) ≡ (eqb (getD kinds (secondOf b) 0) 3 ⇒ false) = held-side b (omega arith) k nodes (inl refl) _ below in
-        ap (λ (x : ℕ). not (eqb (getD kinds x 0) 3)) (e ∙ s) ∙ denies (eqb (getD kinds (secondOf b) 0) 3) ∙ sym same ∙ same-test _ _
+        held-left b (omega arith) k nodes (secondOf b) (e ∙ s) below ∙ same-test _ _
         (λ q. second-whole b (λ m. record { other = omega arith; node = below; onLeft = q }))
         (λ q. second-parts b q named .onLeft)

@@ -18,6 +18,7 @@ blank = record {
   nodes = 0;
   second = 0;
   kinds = replicate 16 0;
+  donors = replicate 16 0;
   lwords = replicate 64 0;
   rwords = replicate 64 0;
   ltargets = replicate 64 0;

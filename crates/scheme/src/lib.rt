@@ -1,9 +1,11 @@
 // Reading a scheme's bytes into one value of fixed size.
 mod arcs;
+mod donors;
 mod nodes;
 mod second;
 
 use arcs::read_arcs;
+use donors::read_donors;
 use frame::Form;
 use frame::frame;
 use model::Scheme;
@@ -36,6 +38,7 @@ fn refused() -> Reading
             nodes: 0,
             second: 0,
             kinds: [0u8; 16],
+            donors: [0u8; 16],
             lwords: [0u8; 64],
             rwords: [0u8; 64],
             ltargets: [0u8; 64],
@@ -80,6 +83,10 @@ pub fn read(bytes: &[u8]) -> Reading
         &mut rtargets,
     );
     if !nodes.ok {
+        return refused();
+    }
+    let mut donors = [0u8; 16];
+    if !read_donors(bytes, l, second, &kinds, &mut donors) {
         return refused();
     }
     let third = nodes.next;
@@ -128,6 +135,7 @@ pub fn read(bytes: &[u8]) -> Reading
             nodes: l.nodes,
             second: hook.node,
             kinds: kinds,
+            donors: donors,
             lwords: lwords,
             rwords: rwords,
             ltargets: ltargets,

@@ -3,6 +3,7 @@ use frame::Layout;
 use frame::cursor::Cursor;
 use frame::cursor::Verdict;
 use frame::cursor::wide;
+use frame::nodes::donor_bytes;
 ghost use mathlib.Core.Path.{_≡_};
 ghost use mathlib.Core.Bool.{true};
 ghost use Prim.Native.Nat.{ℕ, _+_, _*_, _≤_, _<_};
@@ -165,7 +166,7 @@ fn read_side(
     read_word(bytes, n, places, from, words, targets, 4 * s)
 }
 
-// Node s, whose kind is at the cursor, with both words.
+// Node s, whose kind is at the cursor, with both words. Its donor, where it has one, is passed over.
 fn read_node(
     bytes: &[u8],
     l: Layout,
@@ -205,7 +206,17 @@ fn read_node(
         return word;
     }
     let second = word.next;
-    read_side(bytes, l.n, places, s, kind, 1, second, rwords, rtargets)
+    let right = read_side(bytes, l.n, places, s, kind, 1, second, rwords, rtargets);
+    if !right.ok {
+        return right;
+    }
+    let third = right.next.at;
+    Verdict {
+        ok: true,
+        next: Cursor {
+            at: third + donor_bytes(l.donors, kind),
+        },
+    }
 }
 
 // The nodes, from their count on.

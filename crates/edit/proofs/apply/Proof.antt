@@ -20,6 +20,10 @@ places l = l .before .before .before .before .before
 abbrev walk-done : tie.After-cols → tie.After-walk
 walk-done a = a .before .before .before .before .before .before .before .before .before .before .before .before
 
+-- and from the match to the end
+abbrev counted : tie.After-cols2 → tie.After-wide2
+counted e = e .before .before .before .before .before .before .before .before
+
 -- the site
 abbrev here : (b : tie.Start) → At (b .args .slots) (now (b .args .table))
 here b = at-site (b .pre .0) (b .pre .1 .0)
@@ -60,7 +64,7 @@ wide-requires-2 c κs = search needs
 
 settle-requires : tie.Need-settle-requires
 settle-requires c κs =
-    let n = c .before .before .before .before .before .before .before in
+    let n = counted c in
     let e = n .before in
     let a = e .before .before .before in
     let l = walk-done (a .before) in
@@ -73,7 +77,7 @@ settle-requires c κs =
 same-length-4 : tie.Need-same-length-4
 same-length-4 c =
     let r = c .before .before .before .before in
-    let a = r .before .before .before .before .before .before .before .before .before .before .before .before in
+    let a = counted (r .before) .before .before .before .before in
     let l = walk-done (a .before) in
     let u = l .before .before .before .before .before .before .before .before in
     r .settle .kept .1 .1 .0 ∙ (a .assign .kept .1 .1 .0 ∙ (l .walk .kept .1 .1 .1 .1 .0 ∙ u .unmark .kept .1 .0))
@@ -81,7 +85,7 @@ same-length-4 c =
 returns-2 : tie.Need-returns-2
 returns-2 c =
     let r = c .before .before .before .before in
-    let n = r .before .before .before .before .before .before .before .before in
+    let n = counted (r .before) in
     let e = n .before in
     let a = e .before .before .before in
     let l = walk-done (a .before) in

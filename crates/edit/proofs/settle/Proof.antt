@@ -52,20 +52,20 @@ rewrite-requires c κs =
     let n = k .of-kind2 .ensures .listed in
     link-ready P n (e .if1 .left) (g .give .ensures (give-ready P n (e .if1 .left)))
 
-cast-t29 : tie.Need-cast-t29
-cast-t29 c = record { fits = omega (arith, new-few (room-left (given (c .before .before)) .before)) }
-
-mul-t15 : tie.Need-mul-t15
-mul-t15 c = record { fits = omega (arith, new-few (room-left (given (c .before .before)) .before)) }
-
 cast-t30 : tie.Need-cast-t30
 cast-t30 c = record { fits = omega (arith, new-few (room-left (given (c .before .before)) .before)) }
 
-mul-t31 : tie.Need-mul-t31
-mul-t31 c = record { fits = omega (arith, gone-few (room-left (given (c .before .before .before)) .before)) }
+mul-t16 : tie.Need-mul-t16
+mul-t16 c = record { fits = omega (arith, new-few (room-left (given (c .before .before)) .before)) }
 
-cast-t32 : tie.Need-cast-t32
-cast-t32 c = record { fits = omega (arith, gone-few (room-left (given (c .before .before .before)) .before)) }
+cast-t31 : tie.Need-cast-t31
+cast-t31 c = record { fits = omega (arith, new-few (room-left (given (c .before .before)) .before)) }
+
+mul-t32 : tie.Need-mul-t32
+mul-t32 c = record { fits = omega (arith, gone-few (room-left (given (c .before .before .before)) .before)) }
+
+cast-t33 : tie.Need-cast-t33
+cast-t33 c = record { fits = omega (arith, gone-few (room-left (given (c .before .before .before)) .before)) }
 
 returns-2 : tie.Need-returns-2
 returns-2 c =
@@ -79,5 +79,5 @@ returns-2 c =
 
 pub settle-spec : {M : Type 1} → statement M
 settle-spec =
-    tie.close (tie.spec of-kind-requires of-kind-requires-2 mul-if1 returns give-requires rewrite-requires cast-t29 mul-t15 cast-t30 mul-t31
-    cast-t32 (λ c. search needs) (λ c. search needs) returns-2)
+    tie.close (tie.spec of-kind-requires of-kind-requires-2 mul-if1 returns give-requires rewrite-requires cast-t30 mul-t16 cast-t31 mul-t32
+    cast-t33 (λ c. search needs) (λ c. search needs) returns-2)

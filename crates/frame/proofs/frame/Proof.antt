@@ -21,7 +21,8 @@ before-rights c = c .before .before .before .before
 
 -- what the head is
 head-told : (c : tie.After-known-told) → let b = now (c .before .before .before .before .before .args .bytes) in let g = c .before .n .given .0 in
-    Headed b (g .0) (g .1 .0) (g .1 .1 .0) (g .1 .1 .1 .0) × (g .1 .1 .1 .1 .0 .at ≡ 1) × (g .1 .1 .1 .1 .1 .0 .at ≡ arcsAt b left)
+    Headed b (g .0) (g .1 .0) (g .1 .1 .0) (g .1 .1 .1 .0) (g .1 .1 .1 .1 .0) × (g .1 .1 .1 .1 .1 .0 .at ≡ 1)
+    × (g .1 .1 .1 .1 .1 .1 .0 .at ≡ arcsAt b left)
 head-told c = rw (c .before .n .given .1) at (c .before .before .before .head .ensures)
 
 -- what the left arcs' count is, and where the right arcs' count stands

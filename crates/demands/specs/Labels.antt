@@ -1,0 +1,38 @@
+-- The label follows the metal, as a predicate on a kernel. It stands beside the demands, and every kernel that meets demand 2 has it
+-- (`labels-follow` of proofs/Labels.antt). A tag is the lot of a sheet, and the label of a part names the tags of its darts.
+-- Assumes nothing.
+use Prim.Native.Nat.{ℕ}
+use mathlib.Core.Path.{_≡_}
+use mathlib.Core.Bool.{Bool}
+use mathlib.Core.List.{List}
+use Rattle.model.specs.Map.{view}
+use Rattle.model.specs.Site.{LiveDart}
+use Rattle.model.specs.Match.{Assignment}
+use Rattle.model.specs.Label.{Label}
+use Rattle.model.specs.Answer.{number}
+use Rattle.model.specs.declared.Darts.{Darts}
+use Rattle.model.specs.declared.Answer.{Answer}
+use Rattle.demands.specs.Kernel.{Kernel}
+use Rattle.demands.specs.Refusals.{Orbit, siteOver}
+
+-- where the tags of the table t′ come from, which an edit made of t: each live dart has the tag that it had itself, or the tag that the dart of its donor
+-- had, which the match assigns. No tag comes from an unused record, and none from a dart outside the match
+pub record Labelled (N : ℕ) (t b : List ℕ) (D : Darts) (t′ : List ℕ) : Type 0 where
+  pub orbit : ℕ → Bool
+  pub isOrbit : Orbit N t b D orbit
+  pub dart : ℕ → ℕ → ℕ
+  pub assigned : Assignment (siteOver N t b D orbit) dart
+  pub label : (x : ℕ) → LiveDart (view N t′) x → Label (siteOver N t b D orbit) dart x (view N t′ .tag x)
+
+-- some live dart has the tag v
+pub record Tagged (N : ℕ) (t : List ℕ) (v : ℕ) : Type 0 where
+  pub dart : ℕ
+  pub alive : LiveDart (view N t) dart
+  pub tag : view N t .tag dart ≡ v
+
+pub record LabelsFollow (K : Kernel) : Type 0 where
+  pub follows : (n N : ℕ) (t store b : List ℕ) (D : Darts) (r : Answer) (t′ store′ : List ℕ) → K .Edit n N t store b D r t′ store′
+      → number r ≡ 0 → Labelled N t b D t′
+  -- so a lot that is on no live dart before an edit is on none after it, whatever the unused records hold
+  pub noOther : (n N : ℕ) (t store b : List ℕ) (D : Darts) (r : Answer) (t′ store′ : List ℕ) → K .Edit n N t store b D r t′ store′
+      → number r ≡ 0 → (v : ℕ) → Tagged N t′ v → Tagged N t v

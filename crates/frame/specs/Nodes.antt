@@ -1,0 +1,39 @@
+-- The nodes of the bytes: how many there are, how many bytes name a donor, and the place after them.
+-- Assumes nothing.
+use Prim.Native.Nat.{ℕ, _≤_}
+use mathlib.Core.Path.{_≡_}
+use mathlib.Core.Bool.{false, cond}
+use mathlib.Core.List.{List}
+use lib.ListN.{length}
+use lib.Dec.{eqb}
+use Rattle.base.specs.Test.{bit}
+use Rattle.model.specs.Bytes.{namesDonors, placesOf, nodesOf, nodeAt}
+use Rattle.model.specs.Scheme.{inForm}
+use Rattle.frame.specs.declared.cursor.Section.{Section}
+use Rattle.frame.specs.declared.cursor.Section.the-variants.{Count, Bad}
+
+-- how many bytes name the donor of a node of this kind, where `donors` is 1 as donors are named, else 0
+abbrev pub donorBytes : ℕ → ℕ → ℕ
+donorBytes donors kind = cond (eqb kind 3) donors 0
+
+-- what settles how many bytes a node has: the count of places and the mark of donors are those of the bytes
+pub record NodeSize (b : List ℕ) (places donors : ℕ) : Type 0 where
+  pub placesIs : places ≡ placesOf b
+  pub placesFew : places ≤ 4
+  pub donorsIs : donors ≡ bit (namesDonors b)
+
+-- the count of the nodes, in its range
+pub record NodeCount (b : List ℕ) (nodes : ℕ) : Type 0 where
+  pub nodesIs : nodes ≡ nodesOf b
+  pub some : 1 ≤ nodes
+  pub few : nodes ≤ 16
+
+-- the place of node s, within the bytes
+pub record NodePlace (b : List ℕ) (s at : ℕ) : Type 0 where
+  pub placeIs : at ≡ nodeAt b s
+  pub inside : at ≤ length b
+
+-- the count of the nodes and the place after them
+abbrev pub NodesOf : List ℕ → Section → Type 0
+NodesOf b (Count nodes next) = NodeCount b nodes × NodePlace b (nodesOf b) (next .at)
+NodesOf b Bad = inForm b ≡ false
