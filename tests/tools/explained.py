@@ -84,14 +84,23 @@ def catalogue():
     return found
 
 
+def donors_of(source, s):
+    """For each added node a donor: at times any node, or one that there is not, and else one that is there on the left."""
+    left = [v for v, node in enumerate(s.nodes) if node[0] != explain.ADDED]
+    donors = {}
+    for v in s.added():
+        donors[v] = source.choice(left) if left and source.random() < 0.97 else source.choice((source.randrange(len(s.nodes)), len(s.nodes), schemes.REMOVES))
+    return donors
+
+
 def mutated(source, s):
-    """A scheme near an accepted one: a few small changes of words, arcs, kinds and the second hook."""
+    """A scheme near an accepted one: a few small changes of words, arcs, kinds, donors and the second hook."""
     s = copy.deepcopy(s)
     s.nodes = [(kind, list(left), list(right)) for kind, left, right in s.nodes]
     for _ in range(source.choice((1, 1, 1, 2, 3))):
         v, side = source.randrange(len(s.nodes)), source.choice(("left", "right", "right"))
         kind, left, right = s.nodes[v]
-        word, arcs, change = left if side == "left" else right, s.arcs[side], source.randrange(10)
+        word, arcs, change = left if side == "left" else right, s.arcs[side], source.randrange(11)
         ends = [u for u, node in enumerate(s.nodes) if node[0] in schemes.allowed(side)]
         if change == 0 and word and kind in schemes.allowed(side):
             word[source.randrange(len(word))] = source.choice([*range(s.n + 1), schemes.REMOVES])
@@ -126,6 +135,10 @@ def mutated(source, s):
                     s.arcs[of] = [arc for arc in s.arcs[of] if v not in arc[1:]]
         elif change == 9:  # another second hook, which may be none, or no node that can be one
             s.second = source.choice((None, 0, v, v, len(s.nodes)))
+        elif change == 10:  # other donors, or none
+            s.donors = source.choice((None, donors_of(source, s), donors_of(source, s)))
+        if s.donors is not None:  # nodes that were added just now have donors too
+            s.donors = {**donors_of(source, s), **{v: donor for v, donor in s.donors.items() if s.nodes[v][0] == explain.ADDED}}
     for side in s.arcs:
         s.arcs[side] = sorted(set(s.arcs[side]))[:schemes.ARCS]
     return bytes(s.bytes())
@@ -166,6 +179,7 @@ def loops(source):
                 word[p] = d
                 continue
             s.arcs["right"].append((d, *sorted((a, free.pop() if free and source.random() < 0.6 else a))))
+    s.donors = source.choice((None, donors_of(source, s)))
     return bytes(s.bytes())
 
 
@@ -210,6 +224,17 @@ class Schemes(Case):
             done = run("tools/scheme", "explain", path)
             self.assertEqual((done.returncode, done.stderr), (
                 1, f"{path}:byte 7: refused 2: {said}, expected the second hook: a node other than 0 that is there on the left, 1\n"))
+        for data, place, said in (  # an added donor, the node itself, a later one that is added, no node
+                ([18, 0, 3, 2, 3, 0, 3, 1, 0, 0], 8, "found 1, expected the donor of node 2: a node that is there on the left, 0"),
+                ([18, 0, 3, 2, 3, 0, 3, 2, 0, 0], 8, "found 2, expected the donor of node 2: a node that is there on the left, 0"),
+                ([19, 0, 4, 2, 3, 3, 1, 3, 0, 0, 0], 6, "found 3, expected the donor of node 1: a node that is there on the left, 0 or 2"),
+                ([50, 0, 3, 2, 2, 3, 3, 1, 0, 0], 7, "found 3, expected the donor of node 2: a node that is there on the left, below 3"),
+                ([18, 0, 1, 3, 0, 0, 0], 5, "found 0, expected the donor of node 0: a node that is there on the left, and there is none"),
+                ([18, 0, 2, 2, 3], 6, "found the end, expected the donor of node 1: a node that is there on the left, below 2"),
+                ([2, 0, 2, 2, 3, 0, 0, 0], 8, "found 0, expected the end")):
+            path = self.file("a.bytes", bytes(data))
+            done = run("tools/scheme", "explain", path)
+            self.assertEqual((done.returncode, done.stderr), (1, f"{path}:byte {place}: refused 2: {said}\n"))
         path = self.file("a.bytes", bytes([35, 1, 0, 2, 2, 0, 0, 2, 255, 255, 1, 0, 0]))
         done = run("tools/scheme", "explain", path)
         self.assertEqual((done.returncode, done.stderr), (
@@ -223,6 +248,11 @@ class Schemes(Case):
         run("tools/scheme", "assemble", without, "-o", bytes_)
         done = run("tools/scheme", "explain", "schemes/split-edge.scheme", without, bytes_)
         self.assertEqual((done.returncode, done.stdout, done.stderr), (0, f"schemes/split-edge.scheme: accepted\n{without}: accepted\n{bytes_}: accepted\n", ""))
+        alone = self.file("b.scheme", "n 2\norbit\nnode 0 preserved ->\ndonors\n")  # the mark, and no node that has a donor
+        later = self.file("c.scheme", "n 2\norbit 0\nnode 0 preserved 0 -> 0\nnode 1 added -> 0\nnode 2 deleted 0 ->\ndonors 1:2\n"
+                          "left 1: 2-2\nleft 2: 0-2\nright 1: 1-1\nright 2: 0-1\n")  # a later node, which goes
+        done = run("tools/scheme", "explain", alone, later)
+        self.assertEqual((done.returncode, done.stdout, done.stderr), (0, f"{alone}: accepted\n{later}: accepted\n", ""))
 
     def test_a_text_that_is_no_scheme(self):
         path = self.file("a.scheme", "n 2\norbit\nnode 0 preserved ->\nbytes 2 0 1 2 0 1\n")
@@ -240,7 +270,8 @@ class Schemes(Case):
             1, "schemes/split-edge.scheme: node 1: refused 5: the scheme would tear the map at a node (dimensions 0 and 2); this tool finds no reason for it\n"))
 
     def test_reasons_are_the_kernels(self):
-        kernel, source, seen, two, said = Kernel.loaded(), random.Random(4711), collections.Counter(), collections.Counter(), ""
+        kernel, source, said = Kernel.loaded(), random.Random(4711), ""
+        seen, two, donated = collections.Counter(), collections.Counter(), collections.Counter()
         stored = catalogue()
         for case in range(8000):
             data = loops(source) if case % 4 == 3 else hooked(source) if case % 8 == 6 else mutated(source, source.choice(stored))
@@ -249,33 +280,57 @@ class Schemes(Case):
             answer = kernel.check_scheme(data)
             self.assertEqual(reasons_of_scheme(data), (answer.number, answer.node, answer.i, answer.j), list(data))
             seen[answer.number] += 1
-            two[answer.number] += data[:1] in (b"\42", b"\43")
+            two[answer.number] += data[:1] in (b"\42", b"\43", b"\62", b"\63")
+            donated[answer.number] += data[:1] in (b"\22", b"\23", b"\62", b"\63")
             if answer.number in (3, 4, 5):
                 said += "\n".join(explain.scheme_refusal(kernel, "f", data)) + "\n"
         self.assertNotIn(explain.NO_REASON, said)
         for number in (0, 2, 3, 4, 5):
             self.assertGreater(seen[number], 200, seen)
             self.assertGreater(two[number], 20, two)
+            self.assertGreater(donated[number], 100, donated)
         for words in REASONS:
             self.assertGreater(len(re.findall(words, said)), 10, words)
-        print(f"schemes by answer: {dict(sorted(seen.items()))}, with two hooks: {dict(sorted(two.items()))}", file=sys.stderr)
+        print(f"schemes by answer: {dict(sorted(seen.items()))}, with two hooks: {dict(sorted(two.items()))}, "
+              f"with donors: {dict(sorted(donated.items()))}", file=sys.stderr)
+
+    def test_each_donor_is_the_kernels(self):
+        """Every byte as the donor of every added node, beside nodes of every kind: the kernel and the tools take just those that name a node that
+        is there on the left, an earlier one or a later one, and refuse all others with 2."""
+        kernel, taken = Kernel.loaded(), 0
+        for kinds in ((2, 3, 1, 3), (2, 3, 3), (2, 3, 2), (1, 3), (3, 2), (3,)):
+            left = [v for v, kind in enumerate(kinds) if kind != 3]
+            for v in set(range(len(kinds))) - set(left):
+                for donor in range(256):
+                    donors = {u: [donor if u == v else left[0]] for u, kind in enumerate(kinds) if kind == 3 and (left or u == v)}
+                    data = bytes([18, 0, len(kinds), *(byte for u, kind in enumerate(kinds) for byte in [kind, *donors.get(u, [])]), 0, 0])
+                    self.assertEqual((kernel.check_scheme(data).number != 2, reasons_of_scheme(data)[0] != 2), (donor in left, donor in left), list(data))
+                    taken += donor in left
+        self.assertEqual(taken, 10)
 
     def test_limits(self):
         kernel = Kernel.loaded()
         self.assertEqual((schemes.LONGEST, maps.LONGEST), (kernel.max_scheme, kernel.max_file))
 
     def test_longest(self):
-        """A scheme with all that a scheme can have is in the form, with one hook and with two, and has the greatest length."""
-        s = schemes.Scheme()
+        """A scheme with all that a scheme can have is in the form, without marks and with each, and has the greatest length: six nodes have room
+        for the left arcs, so the other ten can be added, and have donors."""
+        s, most = schemes.Scheme(), schemes.NODES - schemes.DONATED
         s.n, s.orbit = 3, [0, 1, 2, 3]
-        s.nodes = [(2, s.orbit, s.orbit)] * schemes.NODES
-        arcs = [(d, a, b) for d in range(4) for a in range(schemes.NODES) for b in range(a, schemes.NODES)][:schemes.ARCS]
-        s.arcs = {"left": arcs, "right": arcs}
-        for s.second, length in ((None, schemes.LONGEST_OF_ONE), (15, schemes.LONGEST)):
+        s.nodes = [(2, s.orbit, s.orbit)] * most + [(3, [schemes.REMOVES] * 4, s.orbit)] * schemes.DONATED
+        arcs = [(d, a, b) for d in range(4) for a in range(most) for b in range(a, most)]
+        self.assertGreater(schemes.ARCS, len([arc for arc in arcs if arc[2] < most - 1]))  # one node less has no room for them
+        s.arcs = {"left": arcs[:schemes.ARCS], "right": arcs[:schemes.ARCS]}
+        named = dict.fromkeys(range(most, schemes.NODES), most - 1)
+        for s.donors, s.second, length in ((None, None, 537), (None, 5, 538), (named, None, 547), (named, 5, 548)):
             data = bytes(s.bytes())
-            self.assertEqual((len(data), schemes.Bytes(data).scheme().second), (length, s.second))
+            read = schemes.Bytes(data).scheme()
+            self.assertEqual((len(data), read.donors, read.second), (length, s.donors, s.second))
             self.assertEqual(Kernel.loaded().check_scheme(data).number, 4)
             self.assertEqual(Kernel.loaded().check_scheme(data + b"\0").number, 2)
+            self.assertEqual(Kernel.loaded().check_scheme(data[:-1]).number, 2)
+        self.assertEqual((schemes.UNMARKED, schemes.LONGEST), (537, 548))
+        self.assertLess(schemes.LONGEST, maps.BENCH_SCHEME)
 
 
 def changed(source, m):
@@ -408,17 +463,20 @@ class Maps(Case):
 
     def test_bench_names_what_does_not_fit(self):
         small, large, out = self.file("small", b"\2"), self.file("large", b"\2" * 14346), self.path("out")
-        hooked = self.file("hooked", b"\2" * schemes.LONGEST)  # as long as a scheme with two hooks can be, which the bench program does not take
+        more = self.file("more", b"\2" * 553)
         for words, said in (((small, small, "1", "70000"), "the darts: found dart 70000, expected at most 65535, as a dart has two bytes"),
                             ((large, small), f"{large}: found 14346 bytes, expected at most 14345"),
                             (("schemes/maps/bend.map", small), "schemes/maps/bend.map: found a text, expected a map file, which tools/map assemble makes of it"),
                             ((small, "schemes/split-edge.scheme"), "schemes/split-edge.scheme: found a text, expected a scheme's bytes, which tools/scheme assemble makes of it"),
-                            ((small, large), f"{large}: found 14346 bytes, expected at most 537"),
-                            ((small, hooked), f"{hooked}: found 538 bytes, expected at most 537"),
+                            ((small, large), f"{large}: found 14346 bytes, expected at most 552"),
+                            ((small, more), f"{more}: found 553 bytes, expected at most 552"),
                             ((small, small, *["0"] * 1025), "the darts: found 1025 darts, expected at most 1024")):
             done = run("tools/map", "bench", *words, "-o", out)
             self.assertEqual((done.returncode, done.stderr), (1, said + "\n"))
             self.assertRaises(FileNotFoundError, data_of, out)
+        longest = self.file("longest", b"\2" * 552)
+        self.assertEqual(run("tools/map", "bench", small, longest, "0", "-o", out).returncode, 0)
+        self.assertEqual(len(data_of(out)), 2 + 1 + 2 + 552 + 2 + 2)
 
     def test_reasons_are_the_kernels(self):
         """The kernel loads just the files that are in the form here, and of the maps in them finds those broken that have a fault here."""

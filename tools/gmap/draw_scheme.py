@@ -33,9 +33,13 @@ def draw_node(picture, s, v, side, p):
     if v in s.hooks() and side == "left":
         outline(picture, "ring", kind, p, 4.0)
     outline(picture, kind, kind, p)
-    picture.text("node", (p[0], p[1] + (-3 if s.orbit else 5)), v)
+    donated = s.donors is not None and kind == "added"
+    rise = 6 if donated else 0  # room for the line of the lot
+    picture.text("node", (p[0], p[1] + (-3 if s.orbit else 5) - rise), v)
     if s.orbit:
-        picture.text("word", (p[0], p[1] + 13), letters(word(s, v, side)))
+        picture.text("word", (p[0], p[1] + 13 - rise), letters(word(s, v, side)))
+    if donated:
+        picture.text("lot", (p[0], p[1] + 18), f"lot of {s.donors[v]}")
 
 
 def curve(points):
@@ -78,6 +82,8 @@ def legend_rows(s):
     for kind in KINDS:
         if any(NAMES[node[0]] == kind for node in s.nodes):
             yield (lambda picture, p, kind=kind: small(picture, kind, kind, p)), SAID[kind]
+    if s.donors:
+        yield (lambda picture, p: picture.text("lot", (p[0] + 18, p[1] + 4), "lot of v")), "takes the lot that the dart of node v had"
     for i in sorted({arc[0] for arcs in s.arcs.values() for arc in arcs}):
         yield (lambda picture, p, i=i: picture.link(i, polyline([p, (p[0] + 36, p[1])]))), f"arc α{i}"
     if s.orbit:
@@ -91,7 +97,7 @@ def drawn(s, layout=None):
     layout = layout or graphviz.laid_out(s)
     left, top, right, below = layout.bounds()
     pitch = max(right - left + 2 * EDGE, *(2 * EDGE + wide(words, 15) for words in TITLE.values()))
-    picture = Picture(look.rules() + look.scheme_rules())
+    picture = Picture(look.rules() + look.scheme_rules() + (look.donor_rules() if s.donors else []))
     picture.put("metadata", layout.text())
     for k, side in enumerate(TITLE):
         start = k * pitch + (pitch - (right - left)) / 2

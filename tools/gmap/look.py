@@ -61,3 +61,8 @@ def scheme_rules():
         f".ring{{fill:{PAPER};stroke:{INK};stroke-width:1.5}}", ".deleted{stroke-dasharray:5 3}",
         ".node{font-weight:bold;text-anchor:middle;font-size:13px}",
         ".word{text-anchor:middle;font-size:12px}", ".dim{font-size:11px}"]
+
+
+def donor_rules():
+    """Style rules of a scheme whose added nodes have donors."""
+    return [".lot{text-anchor:middle;font-size:10px;font-style:italic}"]

@@ -3,12 +3,11 @@ import re
 import struct
 
 from gmap.files import Fault, is_text, lines_of, text_in
-from gmap.scheme import LONGEST_OF_ONE
 
 SLOTS = 1024  # slots of a table at most
 LONGEST = 9 + SLOTS * (6 + 2 * 4)  # bytes of a map file at most
 DARTS = 1024  # darts of the bench program's input at most
-BENCH_SCHEME = LONGEST_OF_ONE  # bytes of its scheme at most: it edits at one dart, so schemes with one hook are for it
+BENCH_SCHEME = 552  # bytes of its scheme at most, a few more than a scheme can have
 
 
 class Map:

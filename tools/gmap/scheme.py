@@ -7,10 +7,11 @@ KINDS = {"deleted": 1, "preserved": 2, "added": 3}
 NAMES = {number: name for name, number in KINDS.items()}
 REMOVES = 255
 NODES, ARCS = 16, 64
-LONGEST_OF_ONE = 2 + 4 + 1 + NODES * (1 + 2 * 4) + 2 * (1 + 3 * ARCS)  # bytes of a scheme with one hook at most
-LONGEST = LONGEST_OF_ONE + 1  # with two hooks
-TWO_HOOKS = 32  # what the first byte is greater by where there is a second hook
-ORDER = ["n", "orbit", "node", "hook", "left", "right", "bytes"]
+UNMARKED = 2 + 4 + 1 + NODES * (1 + 2 * 4) + 2 * (1 + 3 * ARCS)  # bytes at most of a scheme with neither donors nor a second hook
+DONATED = NODES - 6  # nodes that can be added beside as many left arcs as there may be, which need six left nodes
+LONGEST = UNMARKED + DONATED + 1  # with donors and a second hook
+DONORS, TWO_HOOKS = 16, 32  # what the first byte is greater by where added nodes have donors, and where there is a second hook
+ORDER = ["n", "orbit", "node", "donors", "hook", "left", "right", "bytes"]
 
 
 class Scheme:
@@ -20,6 +21,7 @@ class Scheme:
         self.n = None
         self.orbit = None
         self.nodes = []  # (kind, left word, right word)
+        self.donors = None  # for each added node the left node whose tag its darts take; None where the scheme names none: node 0 for all
         self.second = None  # the second hook, a node, where there is one
         self.arcs = {"left": [], "right": []}  # (dimension, smaller node, other node)
         self.node_places = []  # where each node stands in its file, as a fault names it
@@ -30,14 +32,23 @@ class Scheme:
         """The nodes that are given a dart to begin with, in the order of the darts."""
         return [0] if self.second is None else [0, self.second]
 
+    def there(self, side):
+        """The nodes that are there on a side."""
+        return [v for v, node in enumerate(self.nodes) if node[0] in allowed(side)]
+
+    def added(self):
+        return [v for v, node in enumerate(self.nodes) if node[0] == KINDS["added"]]
+
     def sections(self):
         """The bytes, one list for each line that `show` gives them."""
+        marks = (0 if self.donors is None else DONORS) + (0 if self.second is None else TWO_HOOKS)
+        donors = {} if self.donors is None else {v: [self.donors[v]] for v in self.added()}
         nodes = [len(self.nodes)]
-        for kind, left, right in self.nodes:
-            nodes += [kind, *left, *right]
+        for v, (kind, left, right) in enumerate(self.nodes):
+            nodes += [kind, *left, *right, *donors.get(v, [])]
         second = [] if self.second is None else [[self.second]]
         sides = [[len(arcs), *(byte for arc in sorted(arcs) for byte in arc)] for arcs in self.arcs.values()]
-        return [[self.n + (TWO_HOOKS if second else 0), len(self.orbit), *self.orbit], nodes, *second, *sides]
+        return [[self.n + marks, len(self.orbit), *self.orbit], nodes, *second, *sides]
 
     def bytes(self):
         return [byte for section in self.sections() for byte in section]
@@ -122,7 +133,7 @@ class Reader:
         self.need(where, place, f"found '{word}'")
         if where < self.at:
             raise Fault(place, f"found '{word}' after '{ORDER[self.at]}', expected the order {', '.join(ORDER)}")
-        if {"n": self.scheme.n, "orbit": self.scheme.orbit, "hook": self.scheme.second}.get(word) is not None:
+        if {"n": self.scheme.n, "orbit": self.scheme.orbit, "donors": self.scheme.donors, "hook": self.scheme.second}.get(word) is not None:
             raise Fault(place, f"found a second '{word}' line, expected one")
         self.at = where
         line.take(word)
@@ -192,6 +203,17 @@ class Reader:
             raise Fault(place, f"found node {node}, which is {NAMES[kind]}, expected a node that is there on the {side}")
         return place, node
 
+    def donors(self, line):
+        due, self.scheme.donors = self.scheme.added(), {}
+        while line.tokens or due:
+            expected = f"node {due[0]} and its donor, as each added node has one, ascending" if due else "the end of the line, as no other node is added"
+            place, v = line.place(), line.number_in(range(len(self.scheme.nodes)), expected)
+            if v not in due[:1]:
+                kind = NAMES[self.scheme.nodes[v][0]]
+                raise Fault(place, f"found node {v}{'' if kind == 'added' else f', which is {kind}'}, expected {expected}")
+            line.take(":", f"':' and the donor of node {v}")
+            _, self.scheme.donors[due.pop(0)] = self.node_on(line, "left")
+
     def hook(self, line):
         if line.peek() == "0" or len(self.scheme.nodes) == 1:
             raise line.wrong("the second hook: another node than 0, which is the first")
@@ -258,20 +280,28 @@ class Bytes:
 
     def scheme(self):
         s = Scheme()
-        first = self.take((2, 3, 2 + TWO_HOOKS, 3 + TWO_HOOKS), f"the dimension of the map, 2 or 3, and {TWO_HOOKS} more where there is a second hook")
-        s.n = first % TWO_HOOKS
+        marks = (0, DONORS, TWO_HOOKS, DONORS + TWO_HOOKS)
+        first = self.take([n + mark for mark in marks for n in (2, 3)], "the dimension of the map, 2 or 3, "
+                          f"{DONORS} more where added nodes have donors, and {TWO_HOOKS} more where there is a second hook")
+        s.n = first % DONORS
         k = self.take(range(s.n + 2), f"the number of dimensions in the orbit type, 0 to {s.n + 1}")
         s.orbit = []
         for _ in range(k):
             least = s.orbit[-1] + 1 if s.orbit else 0
             s.orbit.append(self.take(range(least, s.n + 1), f"a dimension of the orbit type, ascending, at most {s.n}"))
-        for number in range(self.take(range(1, NODES + 1), f"the number of nodes, 1 to {NODES}")):
+        s.donors, donor_places = {} if first & DONORS else None, {}
+        count = self.take(range(1, NODES + 1), f"the number of nodes, 1 to {NODES}")
+        for number in range(count):
             s.node_places.append(self.place())
             kind = self.take(NAMES, f"the kind of node {number}: 1 deleted, 2 preserved, 3 added")
             s.nodes.append((kind, *(self.word(s, k, number, kind, side) for side in ("left", "right"))))
-        if first > TWO_HOOKS:
+            if s.donors is not None and kind == KINDS["added"]:
+                donor_places[number] = self.place()
+                s.donors[number] = self.take(range(count), f"the donor of node {number}: a node that is there on the left, below {count}")
+        self.donors_there(s, donor_places)
+        if first & TWO_HOOKS:
             s.second_place = self.place()
-            free = [v for v in self.ends(s, "left") if v != 0]
+            free = [v for v in s.there("left") if v != 0]
             s.second = self.take(free, "the second hook: a node other than 0 that is there on the left, " + (plain(free) if free else "and there is none"))
         for side, arcs in s.arcs.items():
             for _ in range(self.take(range(ARCS + 1), f"the number of {side} arcs, 0 to {ARCS}")):
@@ -291,12 +321,15 @@ class Bytes:
             word.append(self.take(free, expected))
         return word
 
-    def ends(self, s, side):
-        """The nodes that are there on a side."""
-        return [v for v, node in enumerate(s.nodes) if node[0] in allowed(side)]
+    def donors_there(self, s, places):
+        """A donor may be a later node, so what kind it is of is known once all nodes are."""
+        free = s.there("left")
+        for v, donor in (s.donors or {}).items():
+            if donor not in free:
+                raise Fault(places[v], f"found {donor}, expected the donor of node {v}: a node that is there on the left, " + (plain(free) if free else "and there is none"))
 
     def arc(self, s, side, arcs):
-        ends, start = self.ends(s, side), self.place()
+        ends, start = s.there(side), self.place()
         dimension = self.take(range(s.n + 1), f"the dimension of a {side} arc, " + plain(range(s.n + 1)))
         a = self.take(ends, f"a node that is there on the {side}")
         b = self.take([v for v in ends if v >= a], f"a node that is there on the {side}, {a} or more")
@@ -320,6 +353,8 @@ def shown(s):
         room = max(2 * len(s.orbit) - 1, 0)
         words = f"{left:{room}} -> {right}" if room else "->"
         lines.append(f"node {v:<{wide}} {NAMES[kind]:{named}} {words}".rstrip())
+    if s.donors is not None:
+        lines.append(" ".join(["donors", *(f"{v}:{donor}" for v, donor in sorted(s.donors.items()))]))
     if s.second is not None:
         lines.append(f"hook {s.second}")
     for side, arcs in s.arcs.items():
