@@ -9,7 +9,7 @@
 #include <stdlib.h>
 #include <string.h>
 
-enum { MOST = 1024, LONGEST = 538, RECORD = 6, ROW = 16, TAG = 5 };
+enum { MOST = 1024, LONGEST = 548, RECORD = 6, ROW = 16, TAG = 5 };
 
 static uint32_t n, slots, table[RECORD * MOST], before[RECORD * MOST], store[ROW * MOST];
 

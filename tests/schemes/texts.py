@@ -272,6 +272,23 @@ class Texts(unittest.TestCase):
             line = " ".join(donors.split("#")[0].split("\n")[0].replace(" : ", ":").split())
             self.assertIn(f"\n{line}\n", run("show", self.bytes).stdout)
 
+    def test_donors_of_the_catalogue(self):
+        """A stored scheme is as `show` prints it, with the mark where it has donors, and donors other than node 0 for some of its nodes."""
+        marked = []
+        for path in sorted(glob.glob("schemes/*.scheme")):
+            with open(path, encoding="utf-8") as file:
+                text = "".join(line for line in file if not line.startswith("#"))
+            self.write(text)
+            self.assertEqual(run("assemble", self.path, "-o", self.bytes).returncode, 0)
+            self.assertEqual(run("show", self.bytes).stdout, text)
+            donors = re.search("^donors (.*)", text, re.M)
+            with open(self.bytes, "rb") as file:
+                self.assertEqual(file.read(1)[0] // 16 % 2, donors is not None)
+            if donors:
+                marked.append(path)
+                self.assertNotEqual({pair.split(":")[1] for pair in donors.group(1).split()}, {"0"})
+        self.assertGreaterEqual(len(marked), 3)
+
     def test_the_order_of_arcs_is_free(self):
         self.write("n 2\norbit\nnode 0 preserved ->\nnode 1 preserved ->\nleft 2: 0-1\nleft 0: 1-1 0-0\nright 0: 1-1 0-0\nright 2: 0-1\n")
         self.assertEqual(run("assemble", self.path).stdout, "2 0 2 2 2 3 0 0 0 0 1 1 2 0 1 3 0 0 0 0 1 1 2 0 1\n")

@@ -10,6 +10,8 @@ from common import Case, run
 
 from gmap import map as maps
 from gmap.files import data_of
+from gmap.kernel import Kernel
+from gmap.scheme import bytes_in
 
 
 def outcome(path):
@@ -83,7 +85,9 @@ class Applied(Case):
                 (("square-and-triangle", "sew-faces", "0", "8"), "square-and-triangle.map: sew-faces at darts 0 and 8: refused 9: "
                  "the scheme does not fit here: the orbit of dart 0 has 8 darts, that of dart 8 has 6, and they must be of one shape"),
                 (("bend-split", "join-flanges-by-strip", "0", "9"), "bend-split.map: join-flanges-by-strip at darts 0 and 9: refused 10: "
-                 "the table has too little room: 8 new darts, 4 for each of the orbit's 2, and 4 unused slots")):
+                 "the table has too little room: 8 new darts, 4 for each of the orbit's 2, and 4 unused slots"),
+                (("bend-full", "trim-flange", "2"), "bend-full.map: trim-flange at dart 2: refused 10: "
+                 "the table has too little room: 6 new darts, 3 for each of the orbit's 2, and 0 unused slots")):
             done = run("tools/apply", f"schemes/maps/{words[0]}.map", *words[1:])
             self.assertEqual((done.returncode, done.stderr), (1, f"schemes/maps/{said}\n"))
 
@@ -114,17 +118,66 @@ class Applied(Case):
         self.assertEqual(written, {maps.map_in(data_of("schemes/maps/bend.map")).file()})
 
     def test_the_darts_have_their_order(self):
-        """The first dart is that of node 0: the strip takes its lot; and sewn at the other end, an edge is sewn the other way round."""
-        on, lots = maps.map_in(data_of("schemes/maps/two-pieces.map")), {}
-        for darts in (("2", "15"), ("15", "2")):
+        """The first dart is that of node 0, which gives the strip's first slots; and sewn at the other end, an edge is sewn the other way round."""
+        for darts, lots in ((("2", "15"), [4711, 4711, 4712, 4712] * 2), (("15", "2"), [4712, 4712, 4711, 4711] * 2)):
             run("tools/apply", "schemes/maps/two-pieces.map", "join-flanges-by-strip", *darts, "-o", self.path("a.map"))
             after = maps.map_in(data_of(self.path("a.map")))
-            lots[darts] = {tag for slot, (_, tag) in after.live.items() if slot not in on.live}
-        self.assertEqual(lots, {("2", "15"): {4711}, ("15", "2"): {4712}})
+            self.assertEqual([after.live[x][1] for x in range(16, 24)], lots)
         for other, met in (("15", {2: 15, 3: 14}), ("14", {2: 14, 3: 15})):
             run("tools/apply", "schemes/maps/two-pieces.map", "sew-edges", "2", other, "-o", self.path("a.map"))
             after = maps.map_in(data_of(self.path("a.map")))
             self.assertEqual({x: after.live[x][0][2] for x in met}, met)
+
+    def after(self, m, scheme, *darts):
+        """The map that the kernel makes of a map by a scheme's text."""
+        kernel = Kernel.loaded()
+        _, table = kernel.load(m.n, m.slots, m.file())
+        self.assertEqual(kernel.edit(m.n, m.slots, table, bytes_in(scheme), *darts).number, 0)
+        return maps.map_of_file(kernel.write(m.n, m.slots, table))
+
+    def stored(self, on, name, *darts):
+        """The sample map, and what an operation of the catalogue makes of it."""
+        m = maps.map_in(data_of(f"schemes/maps/{on}.map"))
+        return m, self.after(m, data_of(f"schemes/{name}.scheme"), *darts)
+
+    def test_lots_follow_the_metal(self):
+        """Each new dart has the lot of the metal that it grows on, whichever darts are pointed at: of the dart that it is sewn to, or of the one
+        beside it in its own face."""
+        for darts in ((2, 15), (3, 14), (15, 2), (14, 3), (2, 14)):
+            _, after = self.stored("two-pieces", "join-flanges-by-strip", *darts)
+            sewn = {x: after.live[x][0][2] for x in range(16, 24) if after.live[x][0][2] != x}
+            self.assertEqual(sorted(sewn.values()), [2, 3, 14, 15])
+            for x, flange in sewn.items():
+                beside = after.live[x][0][1]
+                self.assertEqual([after.live[y][1] for y in (x, beside)], [after.live[flange][1]] * 2)
+        for dart in (2, 3, 14, 15):
+            _, after = self.stored("bend", "bend-strip", dart)
+            self.assertEqual([after.live[x][1] for x in range(16, 20)], [after.live[after.live[x][0][2]][1] for x in range(16, 20)])
+        for dart in range(8):
+            _, after = self.stored("two-lots", "slit-corner", dart)
+            self.assertEqual([after.live[x][1] for x in (8, 9)], [after.live[after.live[x][0][1]][1] for x in (8, 9)])
+            self.assertEqual([after.live[x][1] for x in (10, 11)], [after.live[after.live[x][0][0]][1] for x in (10, 11)])
+            _, after = self.stored("two-lots", "divide-face", dart)
+            self.assertEqual([after.live[x][1] for x in range(8, 12)], [after.live[after.live[x][0][1]][1] for x in range(8, 12)])
+
+    def test_a_donor_that_goes(self):
+        """What is trimmed has the lots of the darts that are deleted in the same edit, dart by dart, and not those of the sheet that stays."""
+        m = maps.map_in(data_of("schemes/maps/bend.map"))
+        m.live = {x: (links, 100 + x) for x, (links, _) in m.live.items()}
+        after = self.after(m, data_of("schemes/trim-flange.scheme"), 2)
+        self.assertEqual({x: tag for x, (_, tag) in after.live.items()},
+                         {**{x: 100 + x for x in range(8)}, 16: 115, 17: 108, 18: 109, 19: 114, 20: 113, 21: 112})
+
+    def test_without_the_mark(self):
+        """The same scheme without its donors line gives the same map but for tags: every new dart has that of its orbit dart."""
+        for name, on, darts in (("join-flanges-by-strip", "two-pieces", (2, 15)), ("bend-strip", "bend", (2,)), ("slit-corner", "two-lots", (1,)),
+                                ("divide-face", "two-lots", (6,)), ("trim-flange", "bend", (2,))):
+            before, marked = self.stored(on, name, *darts)
+            text = data_of(f"schemes/{name}.scheme").splitlines(True)
+            unmarked = self.after(before, b"".join(line for line in text if not line.startswith((b"donors", b"bytes"))), *darts)
+            self.assertEqual({x: links for x, (links, _) in marked.live.items()}, {x: links for x, (links, _) in unmarked.live.items()})
+            self.assertEqual({tag for x, (_, tag) in unmarked.live.items() if x not in before.live}, {before.live[darts[0]][1]})
+            self.assertNotEqual(marked.file(), unmarked.file())
 
     def test_both_sides(self):
         """Edges in space are sewn on both sides of their faces, or on the one that there is, and not where one face has two and the other one."""

@@ -364,6 +364,9 @@ class Schemes(Case):
                 if s.orbit:
                     words = ["⟨" + ",".join("_" if d == 255 else str(d) for d in node[1 + k]) + "⟩" for k, side in enumerate(sides) for _, node in side]
                     self.assertEqual([text for kind, text in texts if kind == "word"], [*words, "⟨..⟩"])
+                lots = [f"lot of {s.donors[v]}" for v, node in enumerate(s.nodes) if node[0] == 3] + ["lot of v"] if s.donors else []
+                self.assertEqual([text for kind, text in texts if kind == "lot"], lots)
+                self.assertEqual(sum(text == "takes the lot that the dart of node v had" for _, text in texts), bool(lots))
                 rings = [element for element in root.iter() if element.get("class") == "ring"]
                 self.assertEqual(len(rings), 2 * len(s.hooks()))  # on the left and in the legend
                 hooks = ["hook: the dart pointed at"] if s.second is None else ["hook 0: the first dart pointed at", f"hook {s.second}: the second dart pointed at"]
@@ -386,11 +389,53 @@ class Schemes(Case):
             numbers = [next(element.text for element in drawn[k:] if element.get("class") == "node") for k, _ in rings[:2]]
             self.assertEqual(numbers, ["0", str(second)])
 
+    def picture_of(self, text):
+        """The picture of a scheme's text."""
+        path, out = self.file("a.scheme", text), self.path("a.svg")
+        self.assertEqual(run("tools/scheme", "draw", path, "-o", out).returncode, 0)
+        return data_of(out).decode()
+
+    def lots_of(self, svg):
+        """For each line of a lot in the shape of a node: the node's number, the line, whether it lies in the shape, below the number and below the
+        word, and the half of the picture."""
+        root = ElementTree.fromstring(svg)
+        drawn, found, number, shape, last = list(root.iter()), [], None, None, None
+        for element in drawn:
+            if element.get("class") in ("preserved", "deleted", "added") and element.get("height") == "46":
+                shape = element
+            elif element.get("class") == "node":
+                number = last = element
+            elif element.get("class") == "word" and number is not None:
+                last = element
+            elif element.get("class") == "lot" and element.text != "lot of v":
+                left, top, y = float(shape.get("x")), float(shape.get("y")), float(element.get("y"))
+                inside = left + wide(element.text, 10) / 2 < float(element.get("x")) < left + 88 - wide(element.text, 10) / 2 and y < top + 44
+                found.append((number.text, element.text, inside and y - float(last.get("y")) >= 10 and float(number.get("y")) > top + 12,
+                              float(element.get("x")) > float(root.get("width")) / 2))
+        return found
+
+    def test_donors(self):
+        """An added node has the number of its donor below its number and its word, in its shape, on the right, and no other node has one; the
+        legend says what it is."""
+        for orbit, word in ((" 0 2", " 0 2"), ("", "")):
+            nodes = f"n 2\norbit{orbit}\nnode 0 preserved{word} ->{word}\nnode 1 added ->{word}\nnode 2 deleted{word} ->\nnode 3 added ->{word}\n"
+            svg = self.picture_of(nodes + "donors 1:2 3:0\nright 0: 0-1 1-3\n")
+            self.assertEqual(self.lots_of(svg), [("1", "lot of 2", True, True), ("3", "lot of 0", True, True)])
+            self.assertEqual(svg.count(">takes the lot that the dart of node v had<"), 1)
+            self.assertNotEqual(svg, self.picture_of(nodes + "donors 1:2 3:2\nright 0: 0-1 1-3\n"))
+            without = self.picture_of(nodes + "right 0: 0-1 1-3\n")
+            self.assertNotIn("lot", without)
+        pair = "n 2\norbit 0\nnode 0 preserved 0 -> 0\nnode 1 preserved 0 -> 0\n"
+        self.assertEqual(self.picture_of(pair + "donors\n"), self.picture_of(pair))  # no node is added, so none has a donor
+
     def test_any_scheme_is_drawn(self):
-        """Sixteen nodes, every arc, two arcs of a dimension, loops, empty sides, a second hook."""
+        """Sixteen nodes, every arc, two arcs of a dimension, loops, empty sides, a second hook, donors."""
         nodes = "".join(f"node {v} preserved 0 1 2 3 -> _ _ 2 3\n" for v in range(16))
         arcs = "left 0: 0-0 0-1 0-2 1-1 0-15\nright 1: 0-1 2-9 9-9\nright 2: 0-1\nright 3: 0-1 15-15\n"
+        added = "".join(f"node {v} added -> 0 1 2 3\n" for v in range(15)) + "node 15 deleted 0 1 2 3 ->\n"
+        donors = "donors " + " ".join(f"{v}:15" for v in range(15)) + "\n"
         for text in ("n 3\norbit 0 1 2 3\n" + nodes + arcs, "n 3\norbit 0 1 2 3\n" + nodes + "hook 15\n" + arcs, "n 2\norbit\nnode 0 added ->\n",
+                     "n 3\norbit 0 1 2 3\n" + added + donors + "right 0: 0-0 0-1 0-14\n", "n 2\norbit\nnode 0 preserved ->\ndonors\n",
                      "n 2\norbit\nnode 0 deleted ->\nleft 0: 0-0\nleft 1: 0-0\nleft 2: 0-0\n"):
             path, out = self.file("a.scheme", text), self.path("a.svg")
             done = run("tools/scheme", "draw", path, "-o", out)
@@ -413,7 +458,7 @@ class Catalogue(Case):
     """What `tools/catalogue check` says of a copy, of the introduction and of some operations, their texts without bytes lines, in which
     one thing was changed."""
 
-    KEPT = ("add-flange", "drop-piece", "look-at-edge", "merge-faces", "sew-edges", "split-edge")
+    KEPT = ("add-flange", "drop-piece", "join-flanges-by-strip", "look-at-edge", "merge-faces", "sew-edges", "split-edge", "trim-flange")
     CHANGES = [
         ("a word", "schemes/split-edge.scheme", "-> 1 2", "-> 2 1", "split-edge.svg: it is not what is drawn now"),
         ("a kind", "schemes/drop-piece.scheme", "deleted 0 1 2 ->", "preserved 0 1 2 -> 0 1 2", "drop-piece.svg: it is not what is drawn now"),
@@ -425,6 +470,12 @@ class Catalogue(Case):
         ("a tag of the sample", "schemes/split-edge.outcome", "  16  2 17 19 4711", "  16  2 17 19 4712", "split-edge-sample.svg: it is not what is drawn now"),
         ("the dart", "schemes/split-edge.outcome", "dart 2", "dart 3", "split-edge-sample.svg: it is not what is drawn now"),
         ("the second hook", "schemes/sew-edges.scheme", "hook 1\n", "", "sew-edges.svg: it is not what is drawn now"),
+        ("a donor", "schemes/join-flanges-by-strip.scheme", "4:1", "4:0", "join-flanges-by-strip.svg: it is not what is drawn now"),
+        ("a donor that goes", "schemes/trim-flange.scheme", "5:1", "5:0", "trim-flange.svg: it is not what is drawn now"),
+        ("no donors", "schemes/join-flanges-by-strip.scheme", "donors 2:0 3:0 4:1 5:1\n", "", "join-flanges-by-strip.svg: it is not what is drawn now"),
+        ("donors that were not there", "schemes/add-flange.scheme", "left 2", "donors 1:0 2:0 3:0 4:0\nleft 2", "add-flange.svg: it is not what is drawn now"),
+        ("a donor's number in a picture", "schemes/pictures/trim-flange.svg", ">lot of 1<", ">lot of 0<", "trim-flange.svg: it is not what is drawn now"),
+        ("a lot of the strip", "schemes/join-flanges-by-strip.outcome", "  18 17 19 18 4712", "  18 17 19 18 4711", "join-flanges-by-strip-sample.svg: it is not what is drawn now"),
         ("the second dart", "schemes/sew-edges.outcome", "dart 11 16", "dart 11 17", "sew-edges-sample.svg: it is not what is drawn now"),
         ("the order of the darts", "schemes/sew-edges.outcome", "dart 11 16", "dart 16 11", "sew-edges-sample.svg: it is not what is drawn now"),
         ("one dart more", "schemes/sew-edges.outcome", "dart 11 16", "dart 11 16 17", "schemes/sew-edges.outcome:1: expected lines 'map ..' and 'dart ..'"),
