@@ -1,7 +1,7 @@
 /* controller PART ARCHIVE: a shift at a small cell, as an integrator would write it.
  *
- * It loads the part's map file and checks it, splits an edge, drops a piece, adds a flange, sews it to a flange of another lot, and
- * writes the archive's map file.
+ * It loads the part's map file and checks it, splits an edge, drops a piece, adds a flange, sews it to a flange of another lot, joins
+ * the two ends by a strip, half of which is of each lot, and writes the archive's map file.
  * A part that is broken is shown as it was loaded, with the links that break it, and the shift ends there.
  * Every answer of the kernel is printed in words; the exit status is 0 only where the archive file was written.
  *
@@ -12,6 +12,7 @@
 #include <inttypes.h>
 #include <stdio.h>
 #include <stdlib.h>
+#include <string.h>
 
 /* Every buffer is as large as the largest part needs, so nothing is allocated while the cell runs. */
 static uint32_t table[GMAP_RECORD * GMAP_MAX_SLOTS];
@@ -19,8 +20,11 @@ static uint32_t store[GMAP_STORE * GMAP_MAX_SLOTS];
 static uint8_t file[GMAP_MAX_FILE + 1];
 static uint32_t n, slots;
 
-/* The part's dart that the operator points at for each operation; for the sewing two darts, one on each edge. */
-enum { EDGE = 8, PIECE = 0, FLANGE = 10, SEAM = 3, OTHER_SEAM = 23 };
+/* The states before the last edit, by which its new darts are told. */
+static uint32_t before[GMAP_MAX_SLOTS];
+
+/* The part's dart that the operator points at for each operation; for sewing and joining two darts, one on each edge. */
+enum { EDGE = 8, PIECE = 0, FLANGE = 10, SEAM = 3, OTHER_SEAM = 23, END = 15, OTHER_END = 18 };
 
 /* Prints an answer, with the node of a refused scheme, and says whether the call was done. */
 static int told(const char *what, uint64_t answer)
@@ -42,16 +46,45 @@ static int edited(const char *what, uint64_t answer)
     return 1;
 }
 
+/* Keeps the states as they are now. */
+static void keep_states(void)
+{
+    for (uint32_t x = 0; x < slots; x++) before[x] = table[GMAP_RECORD * x + GMAP_STATE];
+}
+
+/* After an edit that found too little room, gives the part twice the slots, or as many as there may be, and says whether to try again.
+ * The records stay as they are, and those that come are unused. */
+static int made_room(const char *what, uint64_t answer)
+{
+    if (gmap_number(answer) != GMAP_NO_ROOM || slots == GMAP_MAX_SLOTS) return 0;
+    told(what, answer);
+    uint32_t more = slots > GMAP_MAX_SLOTS / 2 ? GMAP_MAX_SLOTS : 2 * slots;
+    memset(table + GMAP_RECORD * slots, 0, sizeof *table * GMAP_RECORD * (more - slots));
+    slots = more;
+    printf("  the part gets %" PRIu32 " slots\n", slots);
+    return 1;
+}
+
 /* Applies a stored operation where the operator points. */
 static int apply(const char *what, const uint8_t *scheme, size_t length, uint32_t dart)
 {
-    return edited(what, gmap_edit(n, slots, table, GMAP_RECORD * slots, store, GMAP_STORE * slots, scheme, length, dart));
+    uint64_t answer;
+    do {
+        keep_states();
+        answer = gmap_edit(n, slots, table, GMAP_RECORD * slots, store, GMAP_STORE * slots, scheme, length, dart);
+    } while (made_room(what, answer));
+    return edited(what, answer);
 }
 
 /* Applies a stored operation with two hooks where the operator points at two darts. */
 static int apply_at_two(const char *what, const uint8_t *scheme, size_t length, uint32_t dart, uint32_t other)
 {
-    return edited(what, gmap_edit2(n, slots, table, GMAP_RECORD * slots, store, GMAP_STORE * slots, scheme, length, dart, other));
+    uint64_t answer;
+    do {
+        keep_states();
+        answer = gmap_edit2(n, slots, table, GMAP_RECORD * slots, store, GMAP_STORE * slots, scheme, length, dart, other);
+    } while (made_room(what, answer));
+    return edited(what, answer);
 }
 
 /* Whether there is a dart x. A link of a broken part may be any number, so this is asked before the record that it leads to is read. */
@@ -60,18 +93,22 @@ static int live(uint32_t x) { return x < slots && table[GMAP_RECORD * x + GMAP_S
 /* The i-link of a dart that there is. */
 static uint32_t link_of(uint32_t x, uint32_t i) { return table[GMAP_RECORD * x + GMAP_LINK + i]; }
 
-/* Lists the lots on the part, as the label printer would, each with its number of darts. */
+/* Lists the lots on the part, as the label printer would, each with its number of darts and how many of them are new. */
 static void print_lots(void)
 {
     for (uint32_t x = 0; x < slots; x++) {
-        uint32_t lot = table[GMAP_RECORD * x + GMAP_TAG], darts = 0, first = 1;
+        uint32_t lot = table[GMAP_RECORD * x + GMAP_TAG], darts = 0, added = 0, first = 1;
         if (!live(x)) continue;
         for (uint32_t y = 0; y < slots; y++) {
             if (!live(y) || table[GMAP_RECORD * y + GMAP_TAG] != lot) continue;
             if (y < x) first = 0;
+            if (before[y] == 0) added++;
             darts++;
         }
-        if (first) printf("  lot %" PRIu32 ": %" PRIu32 " darts\n", lot, darts);
+        if (!first) continue;
+        printf("  lot %" PRIu32 ": %" PRIu32 " darts", lot, darts);
+        if (added > 0) printf(", %" PRIu32 " of them new", added);
+        printf("\n");
     }
 }
 
@@ -157,6 +194,7 @@ int main(int argc, char **argv)
         return 2;
     }
     if (!load_part(argv[1])) return 1;
+    keep_states();
     print_lots();
     if (!check_part()) return 1;
 
@@ -178,5 +216,9 @@ int main(int argc, char **argv)
     if (!apply_at_two("sew the two flanges", sew_edges, sizeof sew_edges, SEAM, OTHER_SEAM)) return 1;
     print_lots();
     apply_at_two("sew them again", sew_edges, sizeof sew_edges, SEAM, OTHER_SEAM);
+
+    /* The strip grows on both ends: its scheme names the end that each half grows on as the donor of the lot. */
+    if (!apply_at_two("join the two ends", join_flanges_by_strip, sizeof join_flanges_by_strip, END, OTHER_END)) return 1;
+    print_lots();
     return write_archive(argv[2]) ? 0 : 1;
 }
