@@ -3,7 +3,7 @@
 use Prim.Native.Nat.{ℕ, _+_, _*_, _≤_}
 use mathlib.Core.Path.{_≡_, refl, sym, ap, _∙_}
 use mathlib.Core.Logic.{_⊎_, inl, inr, ⊎-elim}
-use mathlib.Core.Bool.{Bool, true, false, cond}
+use mathlib.Core.Bool.{Bool, true, false, cond, _&&_, false≢true}
 use mathlib.Core.List.{List}
 use native.Mathlib.Omega.{arith}
 use lib.ListN.{length, replicate}
@@ -32,6 +32,11 @@ pub side-kind : (other : ℕ) → cond (eqb other 3) true (eqb other 1) ≡ true
 side-kind other e = ⊎-elim (λ t. inl (eqb-true other 3 t))
     (λ t. inr (eqb-true other 1 (sym (ap (λ (c : Bool). cond c true (eqb other 1)) t) ∙ e))) (true-or-false (eqb other 3))
 
+-- two tests joined by `&` hold
+pub both-held : (a b : Bool) → (a && b) ≡ true → (a ≡ true) × (b ≡ true)
+both-held true b e = (refl, e)
+both-held false b e = absurd (false≢true e)
+
 -- ---- a part that is not in the form
 
 module _ (b : List ℕ) where
@@ -41,11 +46,9 @@ module _ (b : List ℕ) where
   pub no-nodes : allBelow (nodesOf b) (nodeForm b) ≡ false → inForm b ≡ false
   no-nodes e = refuted (λ q. parts b q .nodes) e
 
-  pub no-donors : allBelow (nodesOf b) (donorForm b) ≡ false → inForm b ≡ false
-  no-donors e = refuted (λ q. parts b q .donors) e
-
-  pub no-second : secondForm b ≡ false → inForm b ≡ false
-  no-second e = refuted (λ q. parts b q .second) e
+  -- the donors or the second hook
+  pub no-named : {given second : Bool} → given ≡ allBelow (nodesOf b) (donorForm b) → second ≡ secondForm b → (given && second) ≡ false → inForm b ≡ false
+  no-named d s e = refuted (λ q. let f = parts b q in rw (d ∙ f .donors, s ∙ f .second) refl) e
 
   pub no-arcs : (side : Side) → arcsForm b side ≡ false → inForm b ≡ false
   no-arcs side e = refuted (λ q. parts b q .arcs side) e

@@ -86,12 +86,10 @@ pub fn read(bytes: &[u8]) -> Reading
         return refused();
     }
     let mut donors = [0u8; 16];
-    if !read_donors(bytes, l, second, &kinds, &mut donors) {
-        return refused();
-    }
+    let given = read_donors(bytes, l, second, &kinds, &mut donors);
     let third = nodes.next;
     let hook = read_second(bytes, l, third, &kinds);
-    if !hook.ok {
+    if !(given & hook.ok) {
         return refused();
     }
     let mut larcs = [0u8; 192];
