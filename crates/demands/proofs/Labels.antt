@@ -5,6 +5,7 @@ use mathlib.Core.Path.{_≡_, sym, ap, _∙_, subst}
 use mathlib.Core.List.{List}
 use native.Mathlib.Omega.{arith}
 use Rattle.model.specs.Map.{Field, State, Tag, fieldAt, fieldOf, dimension, view}
+use Rattle.model.specs.Edit.{rank}
 use Rattle.model.specs.Label.{Label, own, given}
 use Rattle.model.specs.Answer.{number}
 use Rattle.model.specs.declared.Darts.{Darts}
@@ -21,6 +22,7 @@ use Rattle.demands.proofs.Demands.{demand2}
 module _ (K : Kernel) (D : Demand2 K) (n N : ℕ) (t store b : List ℕ) (d : Darts) (r : Answer) (t′ store′ : List ℕ)
     (p : K .Edit n N t store b d r t′ store′) (done : number r ≡ 0) where
   edit-labelled : Labelled N t b d t′
+  unfolding rank
   edit-labelled =
       let a = D .onlyThen n N t store b d r t′ store′ p done in
       let e = D .edits n N t store b d r t′ store′ p a in
@@ -31,6 +33,7 @@ module _ (K : Kernel) (D : Demand2 K) (n N : ℕ) (t store b : List ℕ) (d : Da
         isOrbit = e .isOrbit;
         dart = e .dart;
         assigned = e .rewriting .assigned;
+        inOrder = e .rewriting .inOrder;
         label = λ x h. subst (Label (siteOver N t b d (e .orbit)) (e .dart) x) (sym (word Tag (omega arith) x (h .slot)))
             (label-follows (siteOver N t b d (e .orbit)) (a .admitted .accepted) (e .isOrbit .within) (e .rewriting) x (h .slot)
             (sym (word State (omega arith) x (h .slot)) ∙ h .alive));
