@@ -3,7 +3,7 @@
 use Prim.Native.Nat.{ℕ}
 use mathlib.Core.Path.{_≡_, refl, sym, ap, _∙_}
 use mathlib.Core.Logic.{_⊎_, inl, inr, ⊎-elim}
-use mathlib.Core.Bool.{Bool, true, false, not, cond, false≢true, true≢false}
+use mathlib.Core.Bool.{Bool, true, false, not, cond, _&&_, false≢true, true≢false}
 use lib.Dec.{eqb}
 use borrow.Author.Tests.{eqb-true, eqb-false, eq-eqb, ne-eqb}
 use Rattle.base.specs.Test.{_and_, _or_, _⇒_}
@@ -21,6 +21,15 @@ and-right false b e = absurd (false≢true e)
 pub and-of : {a b : Bool} → a ≡ true → b ≡ true → (a and b) ≡ true
 unfolding _and_
 and-of {a} {b} p q = rw (p, q)
+
+-- two tests that code joins by `&` are the tests that they stand for, joined
+pub both : {a b p q : Bool} → a ≡ p → b ≡ q → (a && b) ≡ (p and q)
+unfolding _and_
+both {a} {b} {p} {q} e f = rw (e, f) (joined p q)
+  where
+    joined : (s t : Bool) → (s && t) ≡ (s and t)
+    joined true t = refl
+    joined false t = refl
 
 pub and-true : (a : Bool) → (a and true) ≡ a
 unfolding _and_

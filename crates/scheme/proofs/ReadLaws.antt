@@ -3,7 +3,7 @@
 use Prim.Native.Nat.{ℕ, _+_, _*_, _≤_}
 use mathlib.Core.Path.{_≡_, refl, sym, ap, _∙_}
 use mathlib.Core.Logic.{_⊎_, inl, inr, ⊎-elim}
-use mathlib.Core.Bool.{Bool, true, false, cond, _&&_, false≢true}
+use mathlib.Core.Bool.{Bool, true, false, cond, _&&_}
 use mathlib.Core.List.{List}
 use native.Mathlib.Omega.{arith}
 use lib.ListN.{length, replicate}
@@ -12,7 +12,7 @@ use borrow.Author.Tests.{eqb-true}
 use Rattle.base.specs.Test.{_or_}
 use Rattle.base.specs.Below.{allBelow, anyBelow, countBelow}
 use Rattle.base.specs.Lists.{list, listFrom}
-use Rattle.base.proofs.TestLaws.{true-or-false, refuted}
+use Rattle.base.proofs.TestLaws.{both, and-of, true-or-false, refuted}
 use Rattle.model.specs.Bytes.{nodesOf, secondOf, arcsAt, arcCount}
 use Rattle.model.specs.Scheme.{Side, left, right, orbitForm, nodeForm, donorForm, secondForm, arcsForm, inForm, schemeOf}
 use Rattle.model.specs.Conditions.{arcsOfDim}
@@ -32,11 +32,6 @@ pub side-kind : (other : ℕ) → cond (eqb other 3) true (eqb other 1) ≡ true
 side-kind other e = ⊎-elim (λ t. inl (eqb-true other 3 t))
     (λ t. inr (eqb-true other 1 (sym (ap (λ (c : Bool). cond c true (eqb other 1)) t) ∙ e))) (true-or-false (eqb other 3))
 
--- two tests joined by `&` hold
-pub both-held : (a b : Bool) → (a && b) ≡ true → (a ≡ true) × (b ≡ true)
-both-held true b e = (refl, e)
-both-held false b e = absurd (false≢true e)
-
 -- ---- a part that is not in the form
 
 module _ (b : List ℕ) where
@@ -48,7 +43,7 @@ module _ (b : List ℕ) where
 
   -- the donors or the second hook
   pub no-named : {given second : Bool} → given ≡ allBelow (nodesOf b) (donorForm b) → second ≡ secondForm b → (given && second) ≡ false → inForm b ≡ false
-  no-named d s e = refuted (λ q. let f = parts b q in rw (d ∙ f .donors, s ∙ f .second) refl) e
+  no-named d s e = refuted (λ q. let f = parts b q in and-of (f .donors) (f .second)) (sym (both d s) ∙ e)
 
   pub no-arcs : (side : Side) → arcsForm b side ≡ false → inForm b ≡ false
   no-arcs side e = refuted (λ q. parts b q .arcs side) e

@@ -3,7 +3,7 @@
 use Prim.Native.Nat.{ℕ, suc, _+_, _*_, _≤_, _<_}
 use mathlib.Core.Path.{_≡_, refl, sym, ap, _∙_}
 use mathlib.Core.Logic.{_⊎_, inl, inr, ⊎-elim}
-use mathlib.Core.Bool.{Bool, true, false, not, _&&_, true≢false}
+use mathlib.Core.Bool.{Bool, true, false, not, true≢false}
 use native.Mathlib.Omega.{arith}
 use lib.Dec.{eqb, ltb, leb}
 use borrow.Author.Tests.{eqb-true, eqb-false, eq-eqb, ne-eqb, ltb-true, lt-ltb, le-ltb, leb-true, le-leb, not-true, not-false}
@@ -19,15 +19,6 @@ use Rattle.table.specs.Slots.{cornerOk, frontOk, insideOk, nearOk, farOk
 use Rattle.table.specs.declared.Finding.the-variants.{Live, Broken}
 
 -- ---- tests taken together
-
--- two tests joined by `&` are the tests that they stand for, joined
-pub both : {a b p q : Bool} → a ≡ p → b ≡ q → (a && b) ≡ (p and q)
-unfolding _and_
-both {a} {b} {p} {q} e f = rw (e, f) (joined p q)
-  where
-    joined : (s t : Bool) → (s && t) ≡ (s and t)
-    joined true t = refl
-    joined false t = refl
 
 -- the last two of three tests may change places
 and-swap : (a b c : Bool) → (a and b and c) ≡ (a and c and b)

@@ -6,10 +6,11 @@ use borrow.Author.Tests.{not-true, not-false}
 use denote.Ref.{now}
 use borrow.Author.Needs.{needs}
 use Rattle.base.specs.Below.{allBelow}
+use Rattle.base.proofs.TestLaws.{both, and-left, and-right}
 use Rattle.model.specs.Bytes.{nodesOf}
 use Rattle.model.specs.Scheme.{left, right, nodeForm}
 use Rattle.frame.specs.Frame.{LaidOut}
-use Rattle.scheme.proofs.ReadLaws.{both-held, no-orbit, no-nodes, no-named, no-arcs, side-kind, placed-side, all-formed, read-broken, read-formed}
+use Rattle.scheme.proofs.ReadLaws.{no-orbit, no-nodes, no-named, no-arcs, side-kind, placed-side, all-formed, read-broken, read-formed}
 use Rattle.scheme.proofs.read.Statement.{statement}
 use Rattle.scheme.proofs.read.Tie as tie
 
@@ -37,7 +38,7 @@ nodes c = sym (c .before .before .read-nodes .ensures .0) ∙ not-false _ (c .if
 
 -- donors and second hook are in the form
 held : (c : tie.Else3) → (c .before .before .before .before .before .read-donors .result ≡ true) × (c .before .before .read-second .result .ok ≡ true)
-held c = both-held _ _ (not-false _ (c .if3 .left))
+held c = let joined = sym (both refl refl) ∙ not-false _ (c .if3 .left) in (and-left _ _ joined, and-right _ _ joined)
 
 frame-requires : tie.Need-frame-requires
 frame-requires c κs = search needs

@@ -4,7 +4,8 @@ use Prim.Native.Nat.{ℕ}
 use mathlib.Core.Path.{ap, _∙_}
 use lib.Dec.{eqb}
 use borrow.Author.Needs.{needs}
-use Rattle.table.proofs.SlotLaws.{both, near-is}
+use Rattle.base.proofs.TestLaws.{both}
+use Rattle.table.proofs.SlotLaws.{near-is}
 use Rattle.table.proofs.near.Statement.{statement}
 use Rattle.table.proofs.near.Tie as tie
 
