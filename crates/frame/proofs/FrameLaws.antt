@@ -4,13 +4,13 @@
 use Prim.Native.Nat.{ℕ, _+_, _*_, _-_, _≤_, _<_}
 use mathlib.Core.Path.{_≡_, refl, sym, ap, ap₂, _∙_}
 use mathlib.Core.Logic.{_⊎_, inl, inr, ⊎-elim}
-use mathlib.Core.Bool.{Bool, true, false, cond}
+use mathlib.Core.Bool.{Bool, true, false, cond, false≢true}
 use mathlib.Core.List.{List}
 use native.Mathlib.Nat.{eq-or-lt-of-le}
 use native.Mathlib.Omega.{arith}
 use lib.ListN.{length}
 use lib.Dec.{eqb, leb}
-use borrow.Author.Tests.{le-leb, lt-leb}
+use borrow.Author.Tests.{le-leb, lt-leb, leb-true, leb-false, eq-eqb, ne-eqb}
 use Rattle.base.specs.Test.{_and_, bit}
 use Rattle.base.proofs.TestLaws.{true-or-false, refuted}
 use Rattle.model.specs.Bytes.{byte, namesSecond, hookless, namesDonors, dimensionOf, placesOf, nodesOf, hasDonor, nodeAt, kindAt, hookBytes, arcsAt}
@@ -18,8 +18,10 @@ use Rattle.model.specs.Scheme.{Side, left, right, inForm}
 use Rattle.model.proofs.NodePlaceLaws.{node-next, node-place, node-rises}
 use Rattle.model.proofs.FormLaws.{Parts, parts, places-few, arcs-few}
 use Rattle.frame.specs.Place.{after, fits}
-use Rattle.frame.specs.Nodes.{donorBytes}
+use Rattle.frame.specs.Nodes.{NodeSize, NodePlace, donorBytes, pastNode, PastNode}
 use Rattle.frame.specs.Frame.{markOf, MarksOf, LaidOut}
+use Rattle.frame.specs.declared.cursor.Cursor.{Cursor}
+use Rattle.frame.specs.declared.cursor.Verdict.{Verdict}
 use Rattle.frame.specs.declared.Marks.{Marks}
 use Rattle.frame.specs.declared.Layout.{Layout}
 use Rattle.frame.proofs.PlaceLaws.{fitting}
@@ -62,10 +64,6 @@ pub has-mark : (c : Bool) {mark : ℕ} → mark ≡ bit c → (mark ≡ 0 → �
 has-mark true e h = refl
 has-mark false e h = absurd (h e)
 
-bit-few : (c : Bool) → bit c ≤ 1
-bit-few true = omega arith
-bit-few false = omega arith
-
 -- ---- where the nodes stand
 
 module _ (b : List ℕ) where
@@ -82,11 +80,33 @@ module _ (b : List ℕ) where
 
   -- the place after the words of node s and the bytes that name its donor
   pub node-after : {donors kind place extra : ℕ} (s : ℕ) → donors ≡ bit (namesDonors b) → kind ≡ kindAt b s → place ≡ nodeAt b s + 1 + 2 * placesOf b
-      → extra ≡ donorBytes donors kind → (place + extra ≡ nodeAt b (s + 1)) × (extra ≤ 1)
+      → extra ≡ donorBytes donors kind → place + extra ≡ nodeAt b (s + 1)
   node-after {kind} {extra} s d k p e =
       let one : extra ≡ bit (hasDonor b (kindAt b s)) = e ∙ donor-bytes kind d ∙ ap (λ (x : ℕ). bit (hasDonor b x)) k in
-      let few = bit-few (hasDonor b (kindAt b s)) in
-      (omega (arith, node-next b s), omega arith)
+      omega (arith, node-next b s)
+
+-- the node at a place, where donors are named: its words, or its donor, may not lie within the bytes
+module _ (b : List ℕ) (size at : ℕ) where
+  outside : (from : Cursor) → length b < pastNode b size at → PastNode b size at (record { ok = false; next = from })
+  outside from h = record { okIs = sym (lt-leb _ _ h); nextIs = λ e. absurd (false≢true e) }
+
+  within : (past : ℕ) → past ≡ pastNode b size at → past ≤ length b → PastNode b size at (record { ok = true; next = record { at = past } })
+  within past e h = record { okIs = sym (le-leb _ _ (rw e at h)); nextIs = λ q. e }
+
+  pub words-cut : (from : Cursor) → length b < at + size → PastNode b size at (record { ok = false; next = from })
+  words-cut from h = outside from (omega arith)
+
+  pub plain-past : {kind : ℕ} → kind ≡ byte b at → (kind ≡ 3 → ⊥) → at + size ≤ length b
+      → PastNode b size at (record { ok = true; next = record { at = at + size } })
+  plain-past k h l = within (at + size) (rw (ne-eqb _ _ (λ e. h (k ∙ e))) (omega arith)) l
+
+  pub donor-cut : {kind : ℕ} (from : Cursor) → kind ≡ byte b at → kind ≡ 3 → length b ≤ at + size
+      → PastNode b size at (record { ok = false; next = from })
+  donor-cut from k h l = outside from (rw (eq-eqb _ _ (sym k ∙ h)) (omega arith))
+
+  pub donor-past : {kind : ℕ} → kind ≡ byte b at → kind ≡ 3 → at + size < length b
+      → PastNode b size at (record { ok = true; next = record { at = at + size + 1 } })
+  donor-past k h l = within (at + size + 1) (rw (eq-eqb _ _ (sym k ∙ h)) refl) (omega arith)
 
 -- ---- the form is refuted
 
@@ -114,9 +134,9 @@ module _ (b : List ℕ) where
       fitting b (2 + placesOf b) 1 most (1 + 2 * placesOf b)
       (record { some = f .nodesSome; few = omega arith; within = omega (arith, node-place b (nodesOf b)) })) e
 
-  -- node s, or the byte that follows it, does not lie within the bytes
-  pub no-node : (s : ℕ) → s < nodesOf b → length b < nodeAt b s + 2 + 2 * placesOf b → inForm b ≡ false
-  no-node s h l = impossible (λ f. omega (arith, node-next b s, node-rises b (s + 1) (nodesOf b) (omega arith)))
+  -- node s does not lie within the bytes
+  no-node : (s : ℕ) → s < nodesOf b → length b < nodeAt b (s + 1) → inForm b ≡ false
+  no-node s h l = impossible (λ f. omega (arith, node-rises b (s + 1) (nodesOf b) (omega arith)))
 
   pub no-arcs : (side : Side) → fits b (arcsAt b side) 0 64 3 ≡ false → inForm b ≡ false
   unfolding after
@@ -130,6 +150,21 @@ module _ (b : List ℕ) where
   pub other-end : (after b (arcsAt b right) 3 ≡ length b → ⊥) → inForm b ≡ false
   unfolding after
   other-end h = impossible (λ f. h (omega arith))
+
+-- node s, where donors are named: it is followed by the next one, or does not lie within the bytes
+module _ {b : List ℕ} {places w s at : ℕ} {r : Verdict} (z : NodeSize b places 1) (e : w ≡ places) (p : NodePlace b s at) (n : PastNode b (1 + 2 * w) at r) where
+  next : pastNode b (1 + 2 * w) at ≡ nodeAt b (s + 1)
+  next = node-after b s (z .donorsIs) (ap (byte b) (p .placeIs)) (omega (arith, z .placesIs, p .placeIs)) refl
+
+  pub node-passed : r .ok ≡ true → NodePlace b (s + 1) (r .next .at)
+  node-passed h =
+      let here : r .next .at ≡ pastNode b (1 + 2 * w) at = n .nextIs h in
+      record { placeIs = here ∙ next; inside = rw here (leb-true _ _ (sym (n .okIs) ∙ h)) }
+
+  pub node-cut : s < nodesOf b → r .ok ≡ false → inForm b ≡ false
+  node-cut l h =
+      let out : length b < pastNode b (1 + 2 * w) at = leb-false _ _ (sym (n .okIs) ∙ h) in
+      no-node b s l (rw next at out)
 
 -- ---- what a layout tells
 

@@ -1,20 +1,30 @@
 -- The nodes of the bytes: how many there are, how many bytes name a donor, and the place after them.
 -- Assumes nothing.
-use Prim.Native.Nat.{ℕ, _≤_}
+use Prim.Native.Nat.{ℕ, _+_, _≤_}
 use mathlib.Core.Path.{_≡_}
-use mathlib.Core.Bool.{false, cond}
+use mathlib.Core.Bool.{true, false, cond}
 use mathlib.Core.List.{List}
 use lib.ListN.{length}
-use lib.Dec.{eqb}
+use lib.Dec.{eqb, leb}
 use Rattle.base.specs.Test.{bit}
-use Rattle.model.specs.Bytes.{namesDonors, placesOf, nodesOf, nodeAt}
+use Rattle.model.specs.Bytes.{byte, namesDonors, placesOf, nodesOf, nodeAt}
 use Rattle.model.specs.Scheme.{inForm}
+use Rattle.frame.specs.declared.cursor.Verdict.{Verdict}
 use Rattle.frame.specs.declared.cursor.Section.{Section}
 use Rattle.frame.specs.declared.cursor.Section.the-variants.{Count, Bad}
 
 -- how many bytes name the donor of a node of this kind, where `donors` is 1 as donors are named, else 0
 abbrev pub donorBytes : ℕ → ℕ → ℕ
 donorBytes donors kind = cond (eqb kind 3) donors 0
+
+-- the place after the node at a place, which has `size` bytes beside its donor, where donors are named
+abbrev pub pastNode : List ℕ → ℕ → ℕ → ℕ
+pastNode b size at = at + size + donorBytes 1 (byte b at)
+
+-- r tells whether the node at a place lies within the bytes, and the place after it
+pub record PastNode (b : List ℕ) (size at : ℕ) (r : Verdict) : Type 0 where
+  pub okIs : r .ok ≡ leb (pastNode b size at) (length b)
+  pub nextIs : r .ok ≡ true → r .next .at ≡ pastNode b size at
 
 -- what settles how many bytes a node has: the count of places and the mark of donors are those of the bytes
 pub record NodeSize (b : List ℕ) (places donors : ℕ) : Type 0 where

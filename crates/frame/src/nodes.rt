@@ -1,11 +1,13 @@
 // The count of the nodes and the place after them. Where donors are named an added node has one byte more, its donor.
 use crate::cursor::Cursor;
 use crate::cursor::Section;
+use crate::cursor::Verdict;
 use crate::cursor::wide;
 ghost use mathlib.Core.Path.{_≡_};
-ghost use Prim.Native.Nat.{_+_};
+ghost use Prim.Native.Nat.{_+_, _≤_};
+ghost use lib.ListN.{length};
 ghost use Rattle.model.specs.Bytes.{placesOf};
-ghost use Rattle.frame.specs.Nodes.{NodeSize, NodeCount, NodePlace, NodesOf, donorBytes};
+ghost use Rattle.frame.specs.Nodes.{NodeSize, NodeCount, NodePlace, NodesOf, donorBytes, PastNode};
 
 // How many bytes name the donor of a node of this kind: one where it is added and donors are named, else none.
 pub fn donor_bytes(donors: u8, kind: u8) -> usize
@@ -17,9 +19,42 @@ pub fn donor_bytes(donors: u8, kind: u8) -> usize
     0
 }
 
-// The place after the nodes, node by node from the first, which is at the cursor. More bytes follow each node, so that no place is past the end.
-fn past_nodes(bytes: &[u8], from: Cursor, nodes: u8, places: u8, donors: u8) -> Section
-    requires { ⌜ NodeSize (now bytes) places donors ⌝ }
+// The node at the cursor, where donors are named: the place after it, where that is within the bytes. It has `size` bytes and, where it is
+// added, its donor. The kind is tested, since the next node's place would wait for a number that is computed from it.
+fn past_node(bytes: &[u8], from: Cursor, size: usize) -> Verdict
+    requires { ⌜ (from .at ≤ length (now bytes)) × (1 ≤ size) ⌝ }
+    ensures { λ r. ⌜ PastNode (now (bytes .entry)) size (from .at) r ⌝ }
+{
+    let at = from.at;
+    if bytes.len() - at < size {
+        return Verdict {
+            ok: false,
+            next: from,
+        };
+    }
+    let past = at + size;
+    let kind = from.take(bytes);
+    if kind.value != 3 {
+        return Verdict {
+            ok: true,
+            next: Cursor { at: past },
+        };
+    }
+    if bytes.len() <= past {
+        return Verdict {
+            ok: false,
+            next: from,
+        };
+    }
+    Verdict {
+        ok: true,
+        next: Cursor { at: past + 1 },
+    }
+}
+
+// The place after the nodes, node by node from the first, which is at the cursor, where donors are named.
+fn past_nodes(bytes: &[u8], from: Cursor, nodes: u8, places: u8) -> Section
+    requires { ⌜ NodeSize (now bytes) places 1 ⌝ }
     requires { ⌜ NodeCount (now bytes) nodes × NodePlace (now bytes) 0 (from .at) ⌝ }
     ensures { λ r. ⌜ NodesOf (now (bytes .entry)) r ⌝ }
 {
@@ -27,14 +62,11 @@ fn past_nodes(bytes: &[u8], from: Cursor, nodes: u8, places: u8, donors: u8) -> 
     let mut next = from;
     let mut s = 0;
     while s < nodes {
-        let at = next.at;
-        if bytes.len() - at < size + 1 {
+        let node = past_node(bytes, next, size);
+        if !node.ok {
             return Section::Bad;
         }
-        let kind = next.take(bytes);
-        next = Cursor {
-            at: at + size + donor_bytes(donors, kind.value),
-        };
+        next = node.next;
         s += 1;
     }
     Section::Count {
@@ -59,5 +91,5 @@ pub(crate) fn count_nodes(bytes: &[u8], from: Cursor, places: u8, donors: u8) ->
         };
     }
     let at = from.at;
-    past_nodes(bytes, Cursor { at: at + 1 }, nodes, places, donors)
+    past_nodes(bytes, Cursor { at: at + 1 }, nodes, places)
 }

@@ -2,16 +2,18 @@
 -- Assumes nothing.
 use Prim.Native.Nat.{ℕ, _+_, _*_, _≤_}
 use mathlib.Core.Path.{_≡_, refl, sym, ap, _∙_}
+use mathlib.Core.Bool.{true}
 use native.Mathlib.Omega.{arith}
 use denote.Ref.{now}
 use lib.ListN.{length}
 use borrow.Author.Needs.{needs}
-use Rattle.model.specs.Bytes.{placesOf, nodesOf}
+use Rattle.base.specs.Test.{bit}
+use Rattle.model.specs.Bytes.{namesDonors, placesOf, nodesOf}
 use Rattle.model.proofs.NodePlaceLaws.{node-first, node-plain}
 use Rattle.frame.specs.Place.{after}
 use Rattle.frame.specs.Nodes.{NodeCount}
 use Rattle.frame.proofs.PlaceLaws.{counted, uncounted}
-use Rattle.frame.proofs.FrameLaws.{no-mark, no-nodes}
+use Rattle.frame.proofs.FrameLaws.{no-mark, has-mark, no-nodes}
 use Rattle.frame.proofs.nodes.count_nodes.Statement.{statement}
 use Rattle.frame.proofs.nodes.count_nodes.Tie as tie
 
@@ -55,7 +57,9 @@ past-nodes-requires : tie.Need-past-nodes-requires
 past-nodes-requires c κs =
     let s = c .before .before .before .before .before .before in
     let t = told (c .before) in
-    (s .pre .0, (t .0, record { placeIs = omega (arith, node-first (now (s .args .bytes))); inside = omega arith }))
+    let z = s .pre .0 in
+    let named : namesDonors (now (s .args .bytes)) ≡ true = has-mark _ (z .donorsIs) (c .if1 .left) in
+    (record { placesIs = z .placesIs; placesFew = z .placesFew; donorsIs = sym (ap bit named) }, (t .0, record { placeIs = omega (arith, node-first (now (s .args .bytes))); inside = omega arith }))
 
 returns-3 : tie.Need-returns-3
 returns-3 c = search needs

@@ -105,7 +105,7 @@ after c =
     let right = q .read-side2 .ensures .1 .0 (not-false _ (c .before .if4 .left)) in
     let a = t .before .before .args in
     let words : q .read-side2 .result .next .at ≡ nodeAt (now (a .bytes)) (a .s) + 1 + 2 * placesOf (now (a .bytes)) = omega (arith, k .1, left, right) in
-    node-after _ _ (h .donorsIs) (k .0) words (c .donor-bytes .ensures) .0
+    node-after _ _ (h .donorsIs) (k .0) words (c .donor-bytes .ensures)
 
 add-t26 : tie.Need-add-t26
 add-t26 c =
