@@ -22,17 +22,17 @@ pub fn donor_bytes(donors: u8, kind: u8) -> usize
 // The node at the cursor, where donors are named: the place after it, where that is within the bytes. It has `size` bytes and, where it is
 // added, its donor. The kind is tested, since the next node's place would wait for a number that is computed from it.
 fn past_node(bytes: &[u8], from: Cursor, size: usize) -> Verdict
-    requires { ⌜ (from .at ≤ length (now bytes)) × (1 ≤ size) ⌝ }
+    requires { ⌜ (from .at ≤ length (now bytes)) × (1 ≤ size) × (size ≤ 9) ⌝ }
     ensures { λ r. ⌜ PastNode (now (bytes .entry)) size (from .at) r ⌝ }
 {
     let at = from.at;
-    if bytes.len() - at < size {
+    let past = at + size;
+    if bytes.len() < past {
         return Verdict {
             ok: false,
             next: from,
         };
     }
-    let past = at + size;
     let kind = from.take(bytes);
     if kind.value != 3 {
         return Verdict {

@@ -31,7 +31,7 @@ loop-holds : tie.Need-loop-holds Inv-loop μ-loop
 loop-holds c = (omega arith, c .before .before .pre .1 .1)
 
 past-node-requires : tie.Need-past-node-requires Inv-loop μ-loop
-past-node-requires c κs = let l = c .before in (l .loop .inv .1 .inside, omega arith)
+past-node-requires c κs = search needs
 
 returns : tie.Need-returns Inv-loop μ-loop
 returns c =
