@@ -18,7 +18,7 @@ use Rattle.model.specs.Scheme.{Side, left, right, inForm}
 use Rattle.model.proofs.NodePlaceLaws.{node-next, node-place, node-rises}
 use Rattle.model.proofs.FormLaws.{Parts, parts, places-few, arcs-few}
 use Rattle.frame.specs.Place.{after, fits}
-use Rattle.frame.specs.Nodes.{NodeSize, NodePlace, donorBytes, pastNode, PastNode}
+use Rattle.frame.specs.Nodes.{NodeSize, NodePlace, donorBytes, nodeEnd, PastNode}
 use Rattle.frame.specs.Frame.{markOf, MarksOf, LaidOut}
 use Rattle.frame.specs.declared.cursor.Cursor.{Cursor}
 use Rattle.frame.specs.declared.cursor.Verdict.{Verdict}
@@ -70,13 +70,13 @@ module _ (b : List ℕ) where
   -- the bytes that name a donor
   donor-bytes : {donors : ℕ} (kind : ℕ) → donors ≡ bit (namesDonors b) → donorBytes donors kind ≡ bit (hasDonor b kind)
   unfolding hasDonor _and_
-  donor-bytes {donors} kind e = ap (λ (d : ℕ). cond (eqb kind 3) d 0) e ∙ both (namesDonors b) (eqb kind 3)
+  donor-bytes {donors} kind e = ap (λ (d : ℕ). cond (eqb kind 3) d 0) e ∙ joined (namesDonors b) (eqb kind 3)
     where
-      both : (c d : Bool) → cond d (bit c) 0 ≡ bit (c and d)
-      both true true = refl
-      both true false = refl
-      both false true = refl
-      both false false = refl
+      joined : (c d : Bool) → cond d (bit c) 0 ≡ bit (c and d)
+      joined true true = refl
+      joined true false = refl
+      joined false true = refl
+      joined false false = refl
 
   -- the place after the words of node s and the bytes that name its donor
   pub node-after : {donors kind place extra : ℕ} (s : ℕ) → donors ≡ bit (namesDonors b) → kind ≡ kindAt b s → place ≡ nodeAt b s + 1 + 2 * placesOf b
@@ -87,10 +87,10 @@ module _ (b : List ℕ) where
 
 -- the node at a place, where donors are named: its words, or its donor, may not lie within the bytes
 module _ (b : List ℕ) (size at : ℕ) where
-  outside : (from : Cursor) → length b < pastNode b size at → PastNode b size at (record { ok = false; next = from })
+  outside : (from : Cursor) → length b < nodeEnd b size at → PastNode b size at (record { ok = false; next = from })
   outside from h = record { okIs = sym (lt-leb _ _ h); nextIs = λ e. absurd (false≢true e) }
 
-  within : (past : ℕ) → past ≡ pastNode b size at → past ≤ length b → PastNode b size at (record { ok = true; next = record { at = past } })
+  within : (past : ℕ) → past ≡ nodeEnd b size at → past ≤ length b → PastNode b size at (record { ok = true; next = record { at = past } })
   within past e h = record { okIs = sym (le-leb _ _ (rw e at h)); nextIs = λ q. e }
 
   pub words-cut : (from : Cursor) → length b < at + size → PastNode b size at (record { ok = false; next = from })
@@ -153,17 +153,17 @@ module _ (b : List ℕ) where
 
 -- node s, where donors are named: it is followed by the next one, or does not lie within the bytes
 module _ {b : List ℕ} {places w s at : ℕ} {r : Verdict} (z : NodeSize b places 1) (e : w ≡ places) (p : NodePlace b s at) (n : PastNode b (1 + 2 * w) at r) where
-  next : pastNode b (1 + 2 * w) at ≡ nodeAt b (s + 1)
+  next : nodeEnd b (1 + 2 * w) at ≡ nodeAt b (s + 1)
   next = node-after b s (z .donorsIs) (ap (byte b) (p .placeIs)) (omega (arith, z .placesIs, p .placeIs)) refl
 
   pub node-passed : r .ok ≡ true → NodePlace b (s + 1) (r .next .at)
   node-passed h =
-      let here : r .next .at ≡ pastNode b (1 + 2 * w) at = n .nextIs h in
+      let here : r .next .at ≡ nodeEnd b (1 + 2 * w) at = n .nextIs h in
       record { placeIs = here ∙ next; inside = rw here (leb-true _ _ (sym (n .okIs) ∙ h)) }
 
   pub node-cut : s < nodesOf b → r .ok ≡ false → inForm b ≡ false
   node-cut l h =
-      let out : length b < pastNode b (1 + 2 * w) at = leb-false _ _ (sym (n .okIs) ∙ h) in
+      let out : length b < nodeEnd b (1 + 2 * w) at = leb-false _ _ (sym (n .okIs) ∙ h) in
       no-node b s l (rw next at out)
 
 -- ---- what a layout tells

@@ -18,13 +18,13 @@ abbrev pub donorBytes : ℕ → ℕ → ℕ
 donorBytes donors kind = cond (eqb kind 3) donors 0
 
 -- the place after the node at a place, which has `size` bytes beside its donor, where donors are named
-abbrev pub pastNode : List ℕ → ℕ → ℕ → ℕ
-pastNode b size at = at + size + donorBytes 1 (byte b at)
+abbrev pub nodeEnd : List ℕ → ℕ → ℕ → ℕ
+nodeEnd b size at = at + size + donorBytes 1 (byte b at)
 
 -- r tells whether the node at a place lies within the bytes, and the place after it
 pub record PastNode (b : List ℕ) (size at : ℕ) (r : Verdict) : Type 0 where
-  pub okIs : r .ok ≡ leb (pastNode b size at) (length b)
-  pub nextIs : r .ok ≡ true → r .next .at ≡ pastNode b size at
+  pub okIs : r .ok ≡ leb (nodeEnd b size at) (length b)
+  pub nextIs : r .ok ≡ true → r .next .at ≡ nodeEnd b size at
 
 -- what settles how many bytes a node has: the count of places and the mark of donors are those of the bytes
 pub record NodeSize (b : List ℕ) (places donors : ℕ) : Type 0 where
