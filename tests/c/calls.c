@@ -1,5 +1,5 @@
 /* Scheme check, edit at one dart and at two, load and write through the C interface: the samples P4 to P13, every answer of each
- * call, the order of refusals, what each call leaves in each buffer, and whose tag a new dart takes. */
+ * call, the order of refusals and of the pairs of a refusal 5, what each call leaves in each buffer, and whose tag a new dart takes. */
 #include "gmap.h"
 #include "check.h"
 #include <string.h>
@@ -119,6 +119,31 @@ static void schemes(void)
     memcpy(longer, V, sizeof V);
     expect("a byte too many", gmap_check_scheme(longer, sizeof V + 1), refusal(2));
     expect("600 bytes", gmap_check_scheme(longer, sizeof longer), refusal(2));
+}
+
+/* Node 1 is added, with all dimensions in its right word, in every order. Two of them close a cycle unless they stand side by side, and
+ * the first pair that closes none is refused. */
+static void pairs(void)
+{
+    static const uint8_t tried[3][2] = { { 0, 2 }, { 0, 3 }, { 1, 3 } };
+    for (uint8_t n = 2; n <= 3; n++)
+        for (uint32_t order = 0; order < 1u << 2 * (n + 1); order++) {
+            uint8_t scheme[27] = { n, n + 1 }, at[4], k = n + 1, *word = scheme + 5 + 4 * k;
+            uint32_t seen = 0, first = 0, tries = n == 2 ? 1 : 3;
+            scheme[2 + k] = 2;
+            scheme[3 + k] = 2;
+            scheme[4 + 3 * k] = 3;
+            for (uint8_t p = 0; p < k; p++) {
+                scheme[2 + p] = scheme[4 + k + p] = scheme[4 + 2 * k + p] = p;
+                scheme[5 + 3 * k + p] = 255;
+                word[p] = order >> 2 * p & 3;
+                at[word[p]] = p;
+                seen |= 1u << word[p];
+            }
+            if (seen != (1u << k) - 1) continue;
+            while (first < tries && abs(at[tried[first][0]] - at[tried[first][1]]) > 1) first++;
+            expect("pairs", gmap_check_scheme(scheme, 7 + 5 * k), first < tries ? refused(5, 1, tried[first][0], tried[first][1]) : 0);
+        }
 }
 
 static void edits(void)
@@ -717,6 +742,7 @@ static void loads_of_broken_maps(void)
 int main(void)
 {
     schemes();
+    pairs();
     edits();
     schemes_with_two_hooks();
     schemes_with_donors();

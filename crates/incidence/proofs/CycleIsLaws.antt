@@ -1,33 +1,30 @@
--- The tests of cycles over codes are the model's over arcs, and the stored pairs are those with i + 2 ≤ j ≤ n.
+-- The tests of cycles over codes are the model's over arcs.
 -- Assumes nothing.
-use Prim.Native.Nat.{ℕ, suc, _+_, _*_, _-_, _≤_, _<_}
+use Prim.Native.Nat.{ℕ, suc, _+_, _-_, _≤_, _<_}
 use mathlib.Core.Path.{_≡_, refl, sym, ap, ap₂, _∙_, subst}
 use mathlib.Core.Logic.{_⊎_, inl, inr}
-use mathlib.Core.Bool.{Bool, true, false, not, cond}
-use mathlib.Core.Option.{Option, none}
+use mathlib.Core.Bool.{Bool, false, not, cond}
 use mathlib.Core.List.{List}
 use native.Mathlib.Omega.{arith}
 use lib.ListN.{getD}
 use lib.Dec.{eqb, ltb, leb}
 use borrow.Author.Tests.{lt-ltb, le-ltb, ne-eqb}
 use Rattle.base.specs.Test.{_and_, _or_, _⇒_}
-use Rattle.base.specs.First.{first, someIf, _orElse_}
+use Rattle.base.specs.First.{first, someIf}
 use Rattle.base.proofs.TestLaws.{and-true, or-false, eqb-same}
-use Rattle.base.proofs.FirstLaws.{or-else-last, first-same}
+use Rattle.base.proofs.FirstLaws.{first-same}
 use Rattle.model.specs.Scheme.{Side, left, right, kind, orbitDim}
 use Rattle.model.specs.Conditions.{Arc, absent, explicit, implicit, arcAt, sameArc, atEnd, atPlaces, fourArcs, oneArc, bothImplicit, onCycle, cycleOk}
 use Rattle.model.specs.Conditions.{cycleFault}
 use Rattle.model.specs.Shaped.{Shaped}
 use Rattle.model.specs.declared.Scheme.{Scheme}
-use Rattle.model.specs.declared.Answer.{Answer}
 use Rattle.model.specs.declared.Answer.the-variants.{BadCycle}
 use Rattle.model.proofs.AcceptedLaws as AcceptedLaws
 use Rattle.model.specs.Codes.{arcCode}
 use Rattle.model.specs.Codes.{entry}
 use Rattle.model.specs.Shaped.{Coded}
-use Rattle.incidence.specs.Cycles.{farApart, goesRound, fromNode, fromPlace, cycleBy, pairBy, Coding, pairs, pairCount, atPair, atNode}
+use Rattle.incidence.specs.Cycles.{farApart, goesRound, fromNode, fromPlace, cycleBy, pairBy, Coding, atPair, atNode}
 use Rattle.model.proofs.CodeLaws.{Small, small-arc}
-use Rattle.incidence.proofs.CycleSearchLaws.{pair-small}
 use Rattle.base.proofs.BelowLaws.{one-to-three}
 use Rattle.model.proofs.AcceptedLaws.{node-small}
 
@@ -210,48 +207,13 @@ module _ (S : Scheme) (f : Shaped S) (lefts rights : List ℕ) (cl : Coded S lef
       go (inr (inl e)) = rw (e, onLeft, onRight, same-is s i h a, same-is s j h b)
       go (inr (inr e)) = rw (e, onRight) (sym (and-true (onCycle S right s i j)))
 
--- ---- the stored pairs are those with i + 2 ≤ j ≤ n, in their order
-
-module _ (g : ℕ → ℕ → Bool) (w : ℕ → ℕ → Answer) where
-  abbrev InTurn : ℕ → Option Answer
-  InTurn n = first (suc n) (λ i. first (suc n) (λ j. someIf (leb (i + 2) j and g i j) (w i j)))
-
-  abbrev Stored : ℕ → Option Answer
-  Stored k = someIf (g (getD pairs (2 * k) 0) (getD pairs (2 * k + 1) 0)) (w (getD pairs (2 * k) 0) (getD pairs (2 * k + 1) 0))
-
-  one-pair : InTurn 2 ≡ first 1 Stored
-  unfolding first _orElse_ someIf _and_
-  one-pair = or-else-last (someIf (g 0 2) (w 0 2) orElse none) ∙ or-else-last (someIf (g 0 2) (w 0 2))
-
-  three-pairs : InTurn 3 ≡ first 3 Stored
-  unfolding first _orElse_ someIf _and_
-  three-pairs = or-else-last _ ∙ or-else-last ((someIf (g 0 2) (w 0 2) orElse someIf (g 0 3) (w 0 3)) orElse someIf (g 1 3) (w 1 3))
-
-  pub pairs-are : (n : ℕ) → (n ≡ 2) ⊎ (n ≡ 3) → InTurn n ≡ first (pairCount n) Stored
-  pairs-are n (inl e) = rw e one-pair
-  pairs-are n (inr e) = rw e three-pairs
-
-few-pairs : (n : ℕ) → pairCount n ≤ 3
-few-pairs n = go (eqb n 2)
-  where
-    go : (b : Bool) → cond b 1 3 ≤ 3
-    go true = omega arith
-    go false = omega arith
+-- ---- the first offence
 
 module _ (S : Scheme) (f : Shaped S) (lefts rights : List ℕ) (cl : Coded S left lefts) (cr : Coded S right rights) where
-  -- the first offence at a node, and the first of all
-  node-fault : (s : ℕ) → s < S .nodes
-      → first (suc (S .n)) (λ i. first (suc (S .n)) (λ j. someIf (leb (i + 2) j and not (cycleOk S s i j)) (BadCycle s i j)))
-      ≡ atNode (S .orbit) (S .kinds) lefts rights (S .n) s
-  unfolding atNode atPair
-  node-fault s h =
-      pairs-are (λ i j. not (cycleOk S s i j)) (BadCycle s) (S .n) (f .dimension)
-      ∙ first-same (pairCount (S .n)) _ _ (λ k l.
-      let few = few-pairs (S .n) in
-      let small = pair-small k (omega arith) in
-      ap (λ (b : Bool). someIf (not b) (BadCycle s (getD pairs (2 * k) 0) (getD pairs (2 * k + 1) 0)))
-      (sym (pair-by S f lefts rights cl cr s (getD pairs (2 * k) 0) (getD pairs (2 * k + 1) 0) h (small .0) (small .1))))
-
   pub cycle-is : cycleFault S ≡ first (S .nodes) (atNode (S .orbit) (S .kinds) lefts rights (S .n))
-  unfolding cycleFault
-  cycle-is = first-same (S .nodes) _ _ node-fault
+  unfolding cycleFault atNode atPair
+  cycle-is =
+      let few = AcceptedLaws.small S f in
+      first-same (S .nodes) _ _ (λ s h. first-same (suc (S .n)) _ _ (λ i hi. first-same (suc (S .n)) _ _ (λ j hj.
+      ap (λ (b : Bool). someIf (leb (i + 2) j and not b) (BadCycle s i j))
+      (sym (pair-by S f lefts rights cl cr s i j h (omega arith) (omega arith))))))

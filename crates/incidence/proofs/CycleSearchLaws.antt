@@ -1,62 +1,92 @@
--- The nested search over nodes and pairs: what it knows while it finds nothing, and what it has found where it stops.
+-- The search over nodes and dimension pairs: what it knows while it finds nothing, and what it has found where it stops. At a node it goes through
+-- the pairs by their second dimension, which up to dimension 3 is the order of the pairs.
 -- Assumes nothing.
-use Prim.Native.Nat.{ℕ, zero, suc, _+_, _*_, _≤_, _<_}
+use Prim.Native.Nat.{ℕ, suc, _+_, _≤_, _<_}
 use mathlib.Core.Path.{_≡_, sym, ap, _∙_}
+use mathlib.Core.Logic.{⊎-elim}
 use mathlib.Core.Bool.{Bool, true, false, not}
 use mathlib.Core.Option.{none, some}
-use mathlib.Core.List.{List, [], _∷_}
+use mathlib.Core.List.{List}
 use native.Mathlib.Omega.{arith}
 use lib.ListN.{getD}
+use lib.Dec.{leb}
+use borrow.Author.Tests.{not-true, not-false, le-leb, lt-leb}
+use Rattle.base.specs.Test.{_and_}
 use Rattle.base.specs.First.{first, someIf}
-use Rattle.base.proofs.FirstLaws.{first-hit}
+use Rattle.base.proofs.TestLaws.{not-both}
+use Rattle.base.proofs.BelowLaws.{le-or-lt}
+use Rattle.base.proofs.FirstLaws.{first-none-of, first-hit}
 use Rattle.model.specs.declared.Answer.{Answer}
 use Rattle.model.specs.declared.Answer.the-variants.{Done, BadCycle}
-use Rattle.incidence.specs.Cycles.{pairBy, pairs, pairCount, atPair, atNode, cycleAnswer}
+use Rattle.incidence.specs.Cycles.{pairBy, atPair, atNode, cycleAnswer}
 
--- a list of three pairs of numbers up to 3, in any order
-module _ {a b c d e f : ℕ} (s : (a < 4) × (b < 4) × (c < 4) × (d < 4) × (e < 4) × (f < 4)) where
-  pub first-small : (k : ℕ) → k < 3 → getD (a ∷ b ∷ c ∷ d ∷ e ∷ f ∷ []) (2 * k) 0 < 4
-  first-small zero h = omega (arith, s)
-  first-small (suc zero) h = omega (arith, s)
-  first-small (suc (suc zero)) h = omega (arith, s)
-  first-small (suc (suc (suc k))) h = absurd (omega arith)
+module _ (orbit kinds lefts rights : List ℕ) (s i j : ℕ) where
+  no-pair : j < i + 2 → atPair orbit kinds lefts rights s i j ≡ none
+  unfolding atPair someIf _and_
+  no-pair h = rw (lt-leb (i + 2) j h)
 
-  pub second-small : (k : ℕ) → k < 3 → getD (a ∷ b ∷ c ∷ d ∷ e ∷ f ∷ []) (2 * k + 1) 0 < 4
-  second-small zero h = omega (arith, s)
-  second-small (suc zero) h = omega (arith, s)
-  second-small (suc (suc zero)) h = omega (arith, s)
-  second-small (suc (suc (suc k))) h = absurd (omega arith)
+  pair-fine : pairBy (getD kinds s 0) orbit lefts rights s i j ≡ true → atPair orbit kinds lefts rights s i j ≡ none
+  unfolding atPair someIf
+  pair-fine e = ap (λ (t : Bool). someIf t (BadCycle s i j)) (not-both (leb (i + 2) j) _ (λ h. e))
 
--- a pair of the list has dimensions up to 3
-pub pair-small : (k : ℕ) → k < 3 → (getD pairs (2 * k) 0 < 4) × (getD pairs (2 * k + 1) 0 < 4)
-pair-small k h = (first-small (omega arith) k h, second-small (omega arith) k h)
+  pair-bad : pairBy (getD kinds s 0) orbit lefts rights s i j ≡ false → i + 2 ≤ j → atPair orbit kinds lefts rights s i j ≡ some (BadCycle s i j)
+  unfolding atPair someIf _and_
+  pair-bad e h = rw (le-leb (i + 2) j h, e)
 
-module _ (orbit kinds lefts rights : List ℕ) (s : ℕ) where
-  module _ (k : ℕ) (b : Bool) (e : b ≡ pairBy (getD kinds s 0) orbit lefts rights s (getD pairs (2 * k) 0) (getD pairs (2 * k + 1) 0)) where
-    pub pair-fine : not b ≡ false → atPair orbit kinds lefts rights s k ≡ none
-    unfolding atPair someIf
-    pair-fine f = rw (← e, f)
+-- nothing is found at the pairs of node s with a second dimension below j, nor at those with j and a first below i
+pub record Passed (orbit kinds lefts rights : List ℕ) (s i j : ℕ) : Type 0 where
+  pub lower : (h k : ℕ) → k < j → atPair orbit kinds lefts rights s h k ≡ none
+  pub before : (h : ℕ) → h < i → atPair orbit kinds lefts rights s h j ≡ none
 
-    pub pair-bad : not b ≡ true → atPair orbit kinds lefts rights s k ≡ some (BadCycle s (getD pairs (2 * k) 0) (getD pairs (2 * k + 1) 0))
-    unfolding atPair someIf
-    pair-bad f = rw (← e, f)
+module _ {orbit kinds lefts rights : List ℕ} {s : ℕ} where
+  pub passed-none : Passed orbit kinds lefts rights s 0 2
+  passed-none = record { lower = λ h k l. no-pair _ _ _ _ s h k (omega arith); before = λ h l. absurd (omega arith) }
 
-  module _ (n p k : ℕ) (q : p ≡ pairCount n) (e : first k (atPair orbit kinds lefts rights s) ≡ none) where
-    pub node-fine : k ≤ p → p ≤ k → atNode orbit kinds lefts rights n s ≡ none
+  module _ {i j : ℕ} (p : Passed orbit kinds lefts rights s i j) where
+    pub passed-pair : (b : Bool) → b ≡ pairBy (getD kinds s 0) orbit lefts rights s i j → not b ≡ false → Passed orbit kinds lefts rights s (i + 1) j
+    passed-pair b e f = record {
+      lower = p .lower;
+      before = λ h l. ⊎-elim (λ (ge : i ≤ h). let same : h ≡ i = omega arith in rw same fine) (p .before h) (le-or-lt i h);
+    }
+      where
+        fine : atPair orbit kinds lefts rights s i j ≡ none
+        fine = pair-fine _ _ _ _ s i j (sym e ∙ not-false b f)
+
+    -- no pair with j is left
+    pub passed-dimension : j < i + 2 → Passed orbit kinds lefts rights s 0 (j + 1)
+    passed-dimension l = record {
+      lower = λ h k m. ⊎-elim (λ (ge : j ≤ k). let same : k ≡ j = omega arith in rw same (at-all h)) (p .lower h k) (le-or-lt j k);
+      before = λ h m. absurd (omega arith);
+    }
+      where
+        at-all : (h : ℕ) → atPair orbit kinds lefts rights s h j ≡ none
+        at-all h = ⊎-elim (λ (ge : i ≤ h). no-pair _ _ _ _ s h j (omega arith)) (p .before h) (le-or-lt i h)
+
+    pub passed-node : (n : ℕ) → n < j → atNode orbit kinds lefts rights n s ≡ none
     unfolding atNode
-    node-fine h l = let same : k ≡ pairCount n = omega (arith, q) in ap (λ (m : ℕ). first m (atPair orbit kinds lefts rights s)) (sym same) ∙ e
+    passed-node n l = first-none-of (suc n) _ (λ h m. first-none-of (suc n) _ (λ k o. p .lower h k (omega arith)))
 
-    pub found-pair : (nodes : ℕ) (a : Answer) → k < p → atPair orbit kinds lefts rights s k ≡ some a → s < nodes
-        → first s (atNode orbit kinds lefts rights n) ≡ none → a ≡ cycleAnswer orbit kinds lefts rights n nodes
-    unfolding cycleAnswer atNode
-    found-pair nodes a h f l g =
-        rw (first-hit nodes (atNode orbit kinds lefts rights n) s a l g
-        (first-hit (pairCount n) (atPair orbit kinds lefts rights s) k a (omega (arith, q)) e f))
+    module _ (n : ℕ) (few : n ≤ 3) (h : i + 2 ≤ j) (l : j ≤ n) where
+      -- a pair with a lower first dimension is passed: j is 3 then, and no second dimension is above it
+      earlier : (x : ℕ) → x < i → (y : ℕ) → y < suc n → atPair orbit kinds lefts rights s x y ≡ none
+      earlier x m y o = ⊎-elim (λ (ge : j ≤ y). let same : y ≡ j = omega arith in rw same (p .before x m)) (p .lower x y) (le-or-lt j y)
 
-pub found-no-pair : (orbit kinds lefts rights : List ℕ) (n nodes s : ℕ) → s ≤ nodes → nodes ≤ s
-    → first s (atNode orbit kinds lefts rights n) ≡ none → Done ≡ cycleAnswer orbit kinds lefts rights n nodes
-unfolding cycleAnswer
-found-no-pair orbit kinds lefts rights n nodes s h l e =
-    let same : s ≡ nodes = omega arith in
-    let f : first nodes (atNode orbit kinds lefts rights n) ≡ none = rw same at e in
-    rw f
+      pub found-at-node : (b : Bool) → b ≡ pairBy (getD kinds s 0) orbit lefts rights s i j → not b ≡ true
+          → atNode orbit kinds lefts rights n s ≡ some (BadCycle s i j)
+      unfolding atNode
+      found-at-node b e f =
+          let here = pair-bad _ _ _ _ s i j (sym e ∙ not-true b f) h in
+          first-hit (suc n) _ i _ (omega arith) (first-none-of i _ (λ x m. first-none-of (suc n) _ (earlier x m)))
+          (first-hit (suc n) _ j _ (omega arith) (first-none-of j _ (p .lower i)) here)
+
+module _ (orbit kinds lefts rights : List ℕ) (n nodes s : ℕ) (e : first s (atNode orbit kinds lefts rights n) ≡ none) where
+  pub found-pair : (a : Answer) → s < nodes → atNode orbit kinds lefts rights n s ≡ some a → a ≡ cycleAnswer orbit kinds lefts rights n nodes
+  unfolding cycleAnswer
+  found-pair a l f = rw (first-hit nodes (atNode orbit kinds lefts rights n) s a l e f)
+
+  pub found-no-pair : s ≤ nodes → nodes ≤ s → Done ≡ cycleAnswer orbit kinds lefts rights n nodes
+  unfolding cycleAnswer
+  found-no-pair h l =
+      let same : s ≡ nodes = omega arith in
+      let f : first nodes (atNode orbit kinds lefts rights n) ≡ none = rw same at e in
+      rw f

@@ -1,10 +1,10 @@
--- Cycles, over the codes of arcs and the stored list of dimension pairs.
+-- Cycles, over the codes of arcs.
 -- Assumes nothing.
-use Prim.Native.Nat.{ℕ, _+_, _*_, _-_, _<_}
+use Prim.Native.Nat.{ℕ, suc, _+_, _-_, _<_}
 use mathlib.Core.Path.{_≡_}
 use mathlib.Core.Bool.{Bool, true, false, not, cond}
 use mathlib.Core.Option.{Option, Option·getD}
-use mathlib.Core.List.{List, [], _∷_}
+use mathlib.Core.List.{List}
 use lib.ListN.{getD}
 use lib.Dec.{eqb, ltb, leb}
 use Rattle.base.specs.Test.{_and_, _or_}
@@ -48,21 +48,14 @@ pairBy kind orbit lefts rights s i j =
     (cond (cycleBy orbit lefts s i j) (cycleBy orbit rights s i j)
     (eqb (entry lefts s i) (entry rights s i) and eqb (entry lefts s j) (entry rights s j))))
 
--- the pairs, one after the other; with n = 2 only the first counts
-abbrev pub pairs : List ℕ
-pairs = 0 ∷ 2 ∷ 0 ∷ 3 ∷ 1 ∷ 3 ∷ []
-
-abbrev pub pairCount : ℕ → ℕ
-pairCount n = cond (eqb n 2) 1 3
-
 module _ (orbit kinds lefts rights : List ℕ) where
-  -- the offence of node s at pair k
-  unfoldable pub atPair : ℕ → ℕ → Option Answer
-  atPair s k = someIf (not (pairBy (getD kinds s 0) orbit lefts rights s (getD pairs (2 * k) 0) (getD pairs (2 * k + 1) 0)))
-      (BadCycle s (getD pairs (2 * k) 0) (getD pairs (2 * k + 1) 0))
+  -- the offence of node s at i, j, where i + 2 ≤ j
+  unfoldable pub atPair : ℕ → ℕ → ℕ → Option Answer
+  atPair s i j = someIf (leb (i + 2) j and not (pairBy (getD kinds s 0) orbit lefts rights s i j)) (BadCycle s i j)
 
+  -- its offence at the first such pair with j ≤ n
   unfoldable pub atNode : ℕ → ℕ → Option Answer
-  atNode n s = first (pairCount n) (atPair s)
+  atNode n s = first (suc n) (λ i. first (suc n) (atPair s i))
 
   -- the offence of the least node that has one, at its first pair
   unfoldable pub cycleAnswer : ℕ → ℕ → Answer

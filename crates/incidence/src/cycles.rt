@@ -4,10 +4,7 @@ use model::Answer;
 ghost use mathlib.Core.Path.{_≡_};
 ghost use Prim.Native.Nat.{ℕ, _<_, _≤_};
 ghost use Rattle.model.specs.Codes.{entry};
-ghost use Rattle.incidence.specs.Cycles.{farApart, fromNode, fromPlace, cycleBy, pairBy, pairCount, Coding, cycleAnswer};
-
-// The dimension pairs i, j with i + 2 ≤ j, one after the other, in the order in which they are tried.
-const PAIRS: [usize; 6] = [0, 2, 0, 3, 1, 3];
+ghost use Rattle.incidence.specs.Cycles.{farApart, fromNode, fromPlace, cycleBy, pairBy, Coding, cycleAnswer};
 
 // The code of node s at dimension i.
 fn code(codes: &[u8; 64], s: usize, i: usize) -> usize
@@ -109,17 +106,18 @@ fn pair_ok<'a>(
     code(lefts, s, j) == code(rights, s, j)
 }
 
-// How many of the pairs count: with n = 2 the first alone.
-fn pair_count(n: u8) -> usize
-    ensures { λ r. ⌜ (r ≡ pairCount n) × (r ≤ 3) ⌝ }
+// The highest dimension, n, as one of two numbers that the compiler knows: it then writes the pairs out.
+fn top_of(n: u8) -> usize
+    requires { ⌜ (2 ≤ n) × (n ≤ 3) ⌝ }
+    ensures { λ r. ⌜ r ≡ n ⌝ }
 {
     if n == 2 {
-        return 1;
+        return 2;
     }
     3
 }
 
-// The first offence: the least node, and at it the first pair.
+// The first offence: the least node, and at it the first pair i, j with i + 2 ≤ j ≤ n.
 pub fn cycle_fault<'a>(
     n: u8,
     nodes: usize,
@@ -128,28 +126,30 @@ pub fn cycle_fault<'a>(
     lefts: &'a [u8; 64],
     rights: &'a [u8; 64],
 ) -> Answer
-    requires { ⌜ nodes ≤ 16 ⌝ }
+    requires { ⌜ (2 ≤ n) × (n ≤ 3) × (nodes ≤ 16) ⌝ }
     requires { ⌜ Coding nodes (now lefts) ⌝ }
     requires { ⌜ Coding nodes (now rights) ⌝ }
     ensures { λ r. ⌜ r ≡ cycleAnswer (now (orbit .entry)) (now (kinds .entry)) (now (lefts .entry)) (now (rights .entry)) n nodes ⌝ }
 {
-    let pairs = pair_count(n);
+    let top = top_of(n);
     let mut answer = Answer::Done;
     let mut s = 0;
     'nodes: while s < nodes {
-        let mut k = 0;
-        while k < pairs {
-            let i = PAIRS[2 * k];
-            let j = PAIRS[2 * k + 1];
-            if !pair_ok(kinds[s], orbit, lefts, rights, s, i, j) {
-                answer = Answer::BadCycle {
-                    node: s as u32,
-                    i: i as u32,
-                    j: j as u32,
-                };
-                break 'nodes;
+        let mut j = 2;
+        while j <= top {
+            let mut i = 0;
+            while i + 2 <= j {
+                if !pair_ok(kinds[s], orbit, lefts, rights, s, i, j) {
+                    answer = Answer::BadCycle {
+                        node: s as u32,
+                        i: i as u32,
+                        j: j as u32,
+                    };
+                    break 'nodes;
+                }
+                i += 1;
             }
-            k += 1;
+            j += 1;
         }
         s += 1;
     }
