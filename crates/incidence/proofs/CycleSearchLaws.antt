@@ -10,6 +10,7 @@ use mathlib.Core.List.{List}
 use native.Mathlib.Omega.{arith}
 use lib.ListN.{getD}
 use lib.Dec.{leb}
+use borrow.Author.Count.{below-none, below-more}
 use borrow.Author.Tests.{not-true, not-false, le-leb, lt-leb}
 use Rattle.base.specs.Test.{_and_}
 use Rattle.base.specs.First.{first, someIf}
@@ -40,24 +41,15 @@ pub record Passed (orbit kinds lefts rights : List ℕ) (s i j : ℕ) : Type 0 w
 
 module _ {orbit kinds lefts rights : List ℕ} {s : ℕ} where
   pub passed-none : Passed orbit kinds lefts rights s 0 2
-  passed-none = record { lower = λ h k l. no-pair _ _ _ _ s h k (omega arith); before = λ h l. absurd (omega arith) }
+  passed-none = record { lower = λ h k l. no-pair _ _ _ _ s h k (omega arith); before = below-none _ }
 
   module _ {i j : ℕ} (p : Passed orbit kinds lefts rights s i j) where
     pub passed-pair : (b : Bool) → b ≡ pairBy (getD kinds s 0) orbit lefts rights s i j → not b ≡ false → Passed orbit kinds lefts rights s (i + 1) j
-    passed-pair b e f = record {
-      lower = p .lower;
-      before = λ h l. ⊎-elim (λ (ge : i ≤ h). let same : h ≡ i = omega arith in rw same fine) (p .before h) (le-or-lt i h);
-    }
-      where
-        fine : atPair orbit kinds lefts rights s i j ≡ none
-        fine = pair-fine _ _ _ _ s i j (sym e ∙ not-false b f)
+    passed-pair b e f = record { lower = p .lower; before = below-more _ i (p .before) (pair-fine _ _ _ _ s i j (sym e ∙ not-false b f)) }
 
     -- no pair with j is left
     pub passed-dimension : j < i + 2 → Passed orbit kinds lefts rights s 0 (j + 1)
-    passed-dimension l = record {
-      lower = λ h k m. ⊎-elim (λ (ge : j ≤ k). let same : k ≡ j = omega arith in rw same (at-all h)) (p .lower h k) (le-or-lt j k);
-      before = λ h m. absurd (omega arith);
-    }
+    passed-dimension l = record { lower = λ h. below-more _ j (p .lower h) (at-all h); before = below-none _ }
       where
         at-all : (h : ℕ) → atPair orbit kinds lefts rights s h j ≡ none
         at-all h = ⊎-elim (λ (ge : i ≤ h). no-pair _ _ _ _ s h j (omega arith)) (p .before h) (le-or-lt i h)
@@ -69,7 +61,7 @@ module _ {orbit kinds lefts rights : List ℕ} {s : ℕ} where
     module _ (n : ℕ) (few : n ≤ 3) (h : i + 2 ≤ j) (l : j ≤ n) where
       -- a pair with a lower first dimension is passed: j is 3 then, and no second dimension is above it
       earlier : (x : ℕ) → x < i → (y : ℕ) → y < suc n → atPair orbit kinds lefts rights s x y ≡ none
-      earlier x m y o = ⊎-elim (λ (ge : j ≤ y). let same : y ≡ j = omega arith in rw same (p .before x m)) (p .lower x y) (le-or-lt j y)
+      earlier x m y o = below-more _ j (p .lower x) (p .before x m) y (omega arith)
 
       pub found-at-node : (b : Bool) → b ≡ pairBy (getD kinds s 0) orbit lefts rights s i j → not b ≡ true
           → atNode orbit kinds lefts rights n s ≡ some (BadCycle s i j)
