@@ -13,6 +13,7 @@ use Rattle.model.specs.Codes.{placed, targetsOf}
 use Rattle.model.specs.Scheme as S
 use Rattle.model.specs.Conditions as C
 use Rattle.model.specs.Orbit as O
+use Rattle.model.specs.Count as N
 use Rattle.model.specs.Match as M
 use Rattle.model.specs.Edit as E
 use Rattle.model.specs.File as F
@@ -24,6 +25,7 @@ unfolding _and_ _or_ _⇒_ someIf _orElse_ there allBelow anyBelow countBelow fi
     secondOf S.orbitForm S.wordForm S.wordEmpty S.nodeForm S.donorForm S.secondForm S.arcForm S.arcsForm S.inForm
     farEnd S.wordsOf placed targetsOf S.arcsOf S.schemeOf C.arcsOfDim C.arcAt C.leftArc C.pathFrom C.pathTo S.isHook C.hookOk C.hookFault
     C.incidenceOk C.incidenceFault C.fourArcs C.oneArc C.bothImplicit C.onCycle C.cycleOk C.cycleFault C.schemeFault O.leads O.orbitPath O.orbit
+    N.smallest N.reachedBelow N.cells N.sizesBelow N.allBut N.counts
     M.walk M.opposite M.image M.arcHolds M.eachPair M.onlyPair M.matches E.freeSlot E.rank E.orbitSize E.addedDarts E.deletedDarts E.dartOf E.pairOf
     E.newLink E.newWord E.edited F.liveDarts F.section F.file F.fileForm F.placeOf F.fileMap A.mapFault A.tableFault A.checkTable A.bytesFault A.checkScheme A.fitFault
     A.siteFault A.editFaultAt A.siteDone A.editFault A.editAnswer A.editTable A.editStore A.loadFaultAt A.loadFault A.loadAnswer A.loaded A.loadTable

@@ -1,9 +1,12 @@
 pub mod Computes
 pub mod Samples
+pub mod CountSamples
 pub mod WellFormedLaws
 pub mod AnswerLaws
 pub mod ReachLaws
 pub mod OrbitLaws
+pub mod OrbitClassLaws
+pub mod CountLaws
 pub mod ArcLaws
 pub mod HookLaws
 pub mod CycleLaws
@@ -25,6 +28,7 @@ pub mod CallLaws
 pub mod AlikeLaws
 pub mod AlikeMatch
 pub mod AlikeEdit
+pub mod AlikeCount
 pub mod FileLaws
 pub mod HoldsLaws
 pub mod UnusedLaws

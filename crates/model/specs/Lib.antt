@@ -6,6 +6,7 @@ pub mod Arc
 pub mod Conditions
 pub mod Accepted
 pub mod Orbit
+pub mod Count
 pub mod Site
 pub mod Match
 pub mod Edit
