@@ -72,7 +72,7 @@ pub fn apply(
 {
     orbit::store::unmark(slots, store);
     let k = wide(s.places);
-    let size = orbit::walk(slots, table, &s.orbit, k, store, d);
+    let size = orbit::walk(slots, table, s.orbit, k, store, 0, d);
     let mut cols = [0usize; 16];
     if !matching::assign(
         slots,

@@ -62,6 +62,19 @@ among-all N s end t x l = same-test _ _
     (λ a. lt-ltb 0 (mark s x) (among-at s end x a .0))
     (λ a. let h = ltb-true 0 (mark s x) a in among-of s end x h (t .found x l h .0))
 
+-- the slot at a place is marked
+pub place-marked : {N : ℕ} {s : List ℕ} {end x : ℕ} → Taken N s end → (e : ℕ) → e < end → place N s e ≡ x → marked s x ≡ true
+unfolding marked
+place-marked {N} {s} {end} {x} t e h q = let here : mark s x ≡ e + 1 = ap (mark s) (sym q) ∙ t .back e h in lt-ltb 0 (mark s x) (omega arith)
+
+-- and a marked slot stands at a place
+pub marked-place : {N : ℕ} {s : List ℕ} {end : ℕ} → Taken N s end → (x : ℕ) → x < N → marked s x ≡ true → (e : ℕ) × (e < end) × (place N s e ≡ x)
+unfolding marked
+marked-place {N} {s} t x l a =
+    let one = ltb-true 0 (mark s x) a in
+    let f = t .found x l one in
+    (mark s x - 1, omega (arith, one, f .0), f .1)
+
 -- ---- a word behind the places
 
 module _ (N : ℕ) (s : List ℕ) (i v : ℕ) (behind : 2 * N ≤ i) where
@@ -166,6 +179,10 @@ module _ (N : ℕ) (s : List ℕ) (end y : ℕ) where
 -- the place that was taken holds the slot
 pub pushed-here : (N : ℕ) (s : List ℕ) (end y : ℕ) → Taken N s end → y < N → (s′ : List ℕ) → Pushed N s end y s′ → place N s′ end ≡ y
 pushed-here N s end y t l s′ p = ap (λ (z : List ℕ). place N z end) (p .is) ∙ pushed-place N s end y t l
+
+-- the places before it hold what they held
+pub pushed-places : (N : ℕ) (s : List ℕ) (end y : ℕ) → y < N → (s′ : List ℕ) → Pushed N s end y s′ → (e : ℕ) → e < end → place N s′ e ≡ place N s e
+pushed-places N s end y l s′ p e h = ap (λ (z : List ℕ). place N z e) (p .is) ∙ pushed-place-other N s end y e l (λ q. absurd (omega arith))
 
 -- ---- no marks
 

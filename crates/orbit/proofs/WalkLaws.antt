@@ -2,24 +2,39 @@
 -- Assumes nothing.
 use Prim.Native.Nat.{ℕ, _+_, _*_, _-_, _≤_, _<_}
 use mathlib.Core.Path.{_≡_, refl, sym, ap, _∙_, subst}
-use mathlib.Core.Logic.{_≢_, by-cases}
-use mathlib.Core.Bool.{true}
+use mathlib.Core.Logic.{_≢_, by-cases, ⊎-elim}
+use mathlib.Core.Bool.{Bool, true, false}
 use mathlib.Core.List.{List}
 use native.Mathlib.Decide.{decLt}
 use native.Mathlib.Omega.{arith}
 use lib.ListN.{getD, set}
 use lib.Seq.{getD-set-same, getD-set-other}
 use borrow.Author.Count.{below-more}
-use Rattle.base.proofs.TestLaws.{same-test}
+use borrow.Author.Tests.{le-ltb}
+use Rattle.base.specs.Test.{_or_}
+use Rattle.base.proofs.TestLaws.{same-test, or-left, or-right, or-cases}
 use Rattle.base.proofs.BelowLaws.{count-same}
 use Rattle.model.specs.Map.{Map}
 use Rattle.model.specs.WellFormed.{WellFormed}
 use Rattle.model.specs.Orbit.{orbit, InOrbit, itself, onward}
 use Rattle.model.proofs.OrbitLaws.{reached-dart, orbit-iff}
 use Rattle.orbit.specs.Store.{mark, place, next, marked, among, Taken, Reached, Walked, Kept}
-use Rattle.orbit.specs.Places.{Pushed}
-use Rattle.orbit.specs.Walk.{MoreTaken, Followed, Expanded}
-use Rattle.orbit.proofs.StoreLaws.{place-set-behind, taken-set-behind, pushed-here, pushed-place-other, pushed-other, among-at, among-of, among-all}
+use Rattle.orbit.specs.Places.{Pushed, Blank}
+use Rattle.orbit.specs.Walk.{MoreTaken, Followed, Expanded, Begun, Joined}
+use Rattle.orbit.proofs.StoreLaws.{
+  place-set-behind,
+  taken-set-behind,
+  pushed-here,
+  pushed-places,
+  pushed-other,
+  among-at,
+  among-of,
+  among-all,
+  mark-le,
+  place-marked,
+  marked-place,
+  blank-taken,
+}
 
 -- ---- `follow`
 
@@ -56,7 +71,7 @@ module _ (N : ℕ) (s : List ℕ) (end at y : ℕ) (behind : 2 * N ≤ at) (insi
         (record {
           taken = p .taken;
           longer = omega arith;
-          places = λ j h. ap (λ (z : List ℕ). place N z j) (p .is) ∙ pushed-place-other N s end y j l (λ q. absurd (omega arith));
+          places = pushed-places N s end y l a p;
         })
         (λ j h k. omega arith)
         (λ i h. ap (λ (z : List ℕ). getD z i 0) (p .is) ∙ pushed-other N s end y i (λ q. absurd (omega arith)) (λ q. absurd (omega (arith, p .taken .fits))))
@@ -122,29 +137,40 @@ reached-kept w few low same = record {
   first = λ r b p l f. w .first r (omega arith) p l (rw (same r p b l) at f);
 }
 
-module _ (m : Map) (k : ℕ) (dim : ℕ → ℕ) (d : ℕ) where
-  -- at the loop's head: what stands at a place is in the orbit, reached over a link of one of the first `head` darts, and the links of those lead to places
+-- where no slot is marked, the walk can begin at the first place
+pub blank-begun : (m : Map) (k : ℕ) (dim : ℕ → ℕ) (s : List ℕ) (d : ℕ) → Blank (m .slots) s → d < m .slots → Begun m k dim s 0 d
+blank-begun m k dim s d b l =
+    let t = blank-taken (m .slots) s b in
+    record { taken = t; closed = λ x p h a. absurd (omega (arith, marked-place t x h a .1)); free = b .none d l }
+
+module _ (m : Map) (k : ℕ) (dim : ℕ → ℕ) (d : ℕ) (s₁ : List ℕ) (begin : ℕ) where
+  -- at the loop's head, s₁ being the store in which d took the place `begin`: what stood before it stands there; what stands from it on is in the orbit,
+  -- and the links of those before `head` lead to places; where `begin` is the first place, each other is reached over a link of one before `head`
   pub record Walking (s : List ℕ) (head tail : ℕ) : Type 0 where
     pub taken : Taken (m .slots) s tail
-    pub some : 1 ≤ tail
+    pub some : begin < tail
+    pub begun : begin ≤ head
     pub passed : head ≤ tail
-    pub start : place (m .slots) s 0 ≡ d
-    pub sound : (e : ℕ) → e < tail → InOrbit m k dim d (place (m .slots) s e)
-    pub reached : (e : ℕ) → 1 ≤ e → e < tail → (w : Reached (m .slots) k s head e) × (w .from < head)
-    pub links : (r : ℕ) → r < head → (p : ℕ) → p < k → (next (m .slots) s r p < tail)
+    pub start : place (m .slots) s begin ≡ d
+    pub old : (e : ℕ) → e < begin → place (m .slots) s e ≡ place (m .slots) s₁ e
+    pub sound : (e : ℕ) → begin ≤ e → e < tail → InOrbit m k dim d (place (m .slots) s e)
+    pub reached : begin ≡ 0 → (e : ℕ) → 1 ≤ e → e < tail → (w : Reached (m .slots) k s head e) × (w .from < head)
+    pub links : (r : ℕ) → r < head → begin ≤ r → (p : ℕ) → p < k → (next (m .slots) s r p < tail)
         × (place (m .slots) s (next (m .slots) s r p) ≡ m .link (dim p) (place (m .slots) s r))
 
-  pub walking-first : (s s′ : List ℕ) → Taken (m .slots) s 0 → d < m .slots → Pushed (m .slots) s 0 d s′ → Walking s′ 0 1
-  walking-first s s′ t l p =
-      let here : place (m .slots) s′ 0 ≡ d = pushed-here (m .slots) s 0 d t l s′ p in
+  pub walking-first : (s₀ : List ℕ) → Taken (m .slots) s₀ begin → d < m .slots → Pushed (m .slots) s₀ begin d s₁ → Walking s₁ begin (begin + 1)
+  walking-first s₀ t l p =
+      let here : place (m .slots) s₁ begin ≡ d = pushed-here (m .slots) s₀ begin d t l s₁ p in
       record {
         taken = p .taken;
         some = omega arith;
+        begun = omega arith;
         passed = omega arith;
         start = here;
-        sound = λ e h. let w : e ≡ 0 = omega arith in rw (w, here) itself;
-        reached = λ e h l. absurd (omega arith);
-        links = λ r h. absurd (omega arith);
+        old = λ e h. refl;
+        sound = λ e h b. let w : e ≡ begin = omega arith in rw (w, here) itself;
+        reached = λ z e h b. absurd (omega arith);
+        links = λ r h b. absurd (omega arith);
       }
 
   pub walking-more : (s : List ℕ) (head tail : ℕ) (s′ : List ℕ) (tail′ : ℕ) → k ≤ 4 → head < tail → Walking s head tail
@@ -154,18 +180,20 @@ module _ (m : Map) (k : ℕ) (dim : ℕ → ℕ) (d : ℕ) where
       record {
         taken = g .taken;
         some = omega arith;
+        begun = omega arith;
         passed = omega arith;
-        start = g .places 0 (omega arith) ∙ w .start;
-        sound = λ e h. by-cases (decLt e tail)
-            (λ v. rw (g .places e v) (w .sound e v))
+        start = g .places begin (omega arith) ∙ w .start;
+        old = λ e h. g .places e (omega arith) ∙ w .old e h;
+        sound = λ e b h. by-cases (decLt e tail)
+            (λ v. rw (g .places e v) (w .sound e b v))
             (λ v.
             let n = x .new e (omega arith) h in
             let there : place (m .slots) s′ e ≡ m .link (dim (n .0)) (place (m .slots) s head) =
             ap (place (m .slots) s′) (sym (n .2)) ∙ x .links (n .0) (n .1) .1 in
-            rw there (onward (w .sound head l) (n .0) (n .1) refl));
-        reached = λ e one h. by-cases (decLt e tail)
+            rw there (onward (w .sound head (w .begun) l) (n .0) (n .1) refl));
+        reached = λ z e one h. by-cases (decLt e tail)
             (λ v.
-            let o = w .reached e one v in
+            let o = w .reached z e one v in
             let r = o .0 in (
               record {
                 from = r .from;
@@ -188,56 +216,87 @@ module _ (m : Map) (k : ℕ) (dim : ℕ → ℕ) (d : ℕ) where
                 below = n .1;
                 leads = n .2;
                 first = below-more _ head
-                    (λ q b p c f. absurd (omega (arith, f, x .earlier q p b (omega arith), w .links q b p c .0)))
+                    (λ q b p c f. absurd (omega (arith, f, x .earlier q p b (omega arith), w .links q b (omega arith) p c .0)))
                     (λ p c f. omega (arith, n .3 p c f));
               },
               omega arith,
             ));
         links = below-more _ head
-            (λ r h p b.
+            (λ r h b p c.
             let same : next (m .slots) s′ r p ≡ next (m .slots) s r p = x .earlier r p h (omega arith) in
-            let o = w .links r h p b in
+            let o = w .links r h b p c in
             (omega (arith, o .0), ap (place (m .slots) s′) same ∙ g .places _ (o .0) ∙ o .1 ∙ ap (m .link (dim p)) (sym (g .places r (omega arith)))))
-            (λ p b. let o = x .links p b in (o .0, o .1 ∙ ap (m .link (dim p)) (sym (g .places head l))));
+            (λ b p c. let o = x .links p c in (o .0, o .1 ∙ ap (m .link (dim p)) (sym (g .places head l))));
       }
 
   module _ (n : ℕ) (w : WellFormed n m) (dims : (p : ℕ) → p < k → dim p ≤ n) (h : d < m .slots) (l : m .state d ≡ 1) where
-    -- what stands at a place is a live dart
-    pub walking-live : (s : List ℕ) (head tail e : ℕ) → Walking s head tail → e < tail → m .state (place (m .slots) s e) ≡ 1
-    walking-live s head tail e v b = reached-dart m k dim d n w dims h l (v .sound e b) .1
+    -- what stands at a place from `begin` on is a live dart
+    pub walking-live : (s : List ℕ) (head tail e : ℕ) → Walking s head tail → begin ≤ e → e < tail → m .state (place (m .slots) s e) ≡ 1
+    walking-live s head tail e v f b = reached-dart m k dim d n w dims h l (v .sound e f b) .1
 
     -- every place is passed
-    module _ (s : List ℕ) (head tail : ℕ) (v : Walking s head tail) (all : tail ≤ head) where
+    module _ (s₀ : List ℕ) (c : Begun m k dim s₀ begin d) (p : Pushed (m .slots) s₀ begin d s₁)
+        (s : List ℕ) (head tail : ℕ) (v : Walking s head tail) (all : tail ≤ head) where
+      -- the places before `begin` hold what they held, and what stands there was marked
+      before : (e : ℕ) → e < begin → place (m .slots) s e ≡ place (m .slots) s₀ e
+      before e f = v .old e f ∙ pushed-places (m .slots) s₀ begin d h s₁ p e f
+
+      was-marked : {x : ℕ} (e : ℕ) → e < begin → place (m .slots) s e ≡ x → marked s₀ x ≡ true
+      was-marked e f q = place-marked (c .taken) e f (sym (before e f) ∙ q)
+
+      -- what was marked before stands at a place
+      stood : (x : ℕ) → x < m .slots → marked s₀ x ≡ true → (e : ℕ) × (e < tail) × (place (m .slots) s e ≡ x)
+      stood x b a = let i = marked-place (c .taken) x b a in (i .0, omega (arith, i .1, v .some), before (i .0) (i .1) ∙ i .2)
+
+      -- and so does what is reached
       stands : {x : ℕ} → InOrbit m k dim d x → (e : ℕ) × (e < tail) × (place (m .slots) s e ≡ x)
-      stands itself = (0, v .some, v .start)
+      stands itself = (begin, v .some, v .start)
       stands (onward {x} {y} r p b q) =
           let i = stands r in
-          let o = v .links (i .0) (omega (arith, i .1)) p b in
-          (next (m .slots) s (i .0) p, o .0, o .1 ∙ ap (m .link (dim p)) (i .2) ∙ q)
+          by-cases (decLt (i .0) begin)
+          (λ f.
+          let a = c .closed x p (reached-dart m k dim d n w dims h l r .0) (was-marked (i .0) f (i .2)) b in
+          stood y (reached-dart m k dim d n w dims h l (onward r p b q) .0) (subst (λ (z : ℕ). marked s₀ z ≡ true) q a))
+          (λ f.
+          let o = v .links (i .0) (omega (arith, i .1)) (omega arith) p b in
+          (next (m .slots) s (i .0) p, o .0, o .1 ∙ ap (m .link (dim p)) (i .2) ∙ q))
 
-      is-orbit : (x : ℕ) → x < m .slots → among s tail x ≡ orbit m k dim d x
-      is-orbit x b = same-test _ _
-          (λ a. let u = among-at s tail x a in
-          let f = v .taken .found x b (u .0) in
-          orbit-iff m k dim d n w dims h l x .1 (subst (InOrbit m k dim d) (f .1) (v .sound (mark s x - 1) (omega arith))))
-          (λ o. let i = stands (orbit-iff m k dim d n w dims h l x .0 o) in
-          let mx : mark s x ≡ i .0 + 1 = ap (mark s) (sym (i .2)) ∙ v .taken .back (i .0) (i .1) in
-          among-of s tail x (omega arith) (omega (arith, i .1)))
+      -- a slot is marked just where it was before or is in the orbit
+      is-joined : (x : ℕ) → x < m .slots → marked s x ≡ (marked s₀ x or orbit m k dim d x)
+      is-joined x b = same-test _ _
+          (λ a.
+          let i = marked-place (v .taken) x b a in
+          by-cases (decLt (i .0) begin)
+          (λ f. or-left _ (was-marked (i .0) f (i .2)))
+          (λ f. or-right _ (orbit-iff m k dim d n w dims h l x .1 (subst (InOrbit m k dim d) (i .2) (v .sound (i .0) (omega arith) (i .1))))))
+          (λ o.
+          let i : (e : ℕ) × (e < tail) × (place (m .slots) s e ≡ x) =
+          ⊎-elim (stood x b) (λ q. stands (orbit-iff m k dim d n w dims h l x .0 q)) (or-cases _ _ o) in
+          place-marked (v .taken) (i .0) (i .1) (i .2))
 
-      pub walking-done : Walked m k dim d s tail
-      walking-done = record {
-        some = v .some;
+      -- where no place was taken before, just the orbit is marked
+      is-orbit : begin ≡ 0 → (x : ℕ) → x < m .slots → marked s x ≡ orbit m k dim d x
+      unfolding marked _or_
+      is-orbit z x b =
+          let none : marked s₀ x ≡ false = le-ltb 0 (mark s₀ x) (omega (arith, mark-le (m .slots) s₀ begin (c .taken) x b)) in
+          is-joined x b ∙ ap (λ (a : Bool). a or orbit m k dim d x) none
+
+      is-walked : begin ≡ 0 → Walked m k dim d s tail
+      is-walked z = record {
+        some = omega (arith, v .some);
         fits = v .taken .fits;
         slot = v .taken .slot;
         back = v .taken .back;
-        is = is-orbit;
+        is = λ x b. among-all (m .slots) s tail (v .taken) x b ∙ is-orbit z x b;
         found = λ x b a. v .taken .found x b (among-at s tail x a .0) .1;
-        links = λ r p b. v .links r (omega arith) p;
-        start = v .start;
-        reached = λ e one b. let o = v .reached e one b in reached-kept (o .0) all (omega (arith, b, o .0 .before)) (λ r p c l. refl);
-        counted = count-same (m .slots) (orbit m k dim d) (marked s)
-            (λ x b. sym (is-orbit x b) ∙ among-all (m .slots) s tail (v .taken) x b) ∙ v .taken .total;
+        links = λ r p b. v .links r (omega arith) (omega arith) p;
+        start = ap (place (m .slots) s) (sym z) ∙ v .start;
+        reached = λ e one b. let o = v .reached z e one b in reached-kept (o .0) all (omega (arith, b, o .0 .before)) (λ r p c l. refl);
+        counted = count-same (m .slots) (orbit m k dim d) (marked s) (λ x b. sym (is-orbit z x b)) ∙ v .taken .total;
       }
+
+      pub walking-done : Joined m k dim d s₀ s tail × (begin ≡ 0 → Walked m k dim d s tail)
+      walking-done = (record { taken = v .taken; is = is-joined }, is-walked)
 
 -- ---- after the walk
 

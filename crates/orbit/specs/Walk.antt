@@ -3,12 +3,15 @@
 use Prim.Native.Nat.{ℕ, _*_, _≤_, _<_}
 use mathlib.Core.Path.{_≡_}
 use mathlib.Core.Logic.{_≢_}
+use mathlib.Core.Bool.{true}
 use mathlib.Core.List.{List}
 use lib.ListN.{getD}
+use Rattle.base.specs.Test.{_or_}
 use Rattle.model.specs.Map.{Map, view}
 use Rattle.model.specs.WellFormed.{WellFormed}
+use Rattle.model.specs.Orbit.{orbit}
 use Rattle.table.specs.Words.{Sized}
-use Rattle.orbit.specs.Store.{place, next, Taken}
+use Rattle.orbit.specs.Store.{mark, marked, place, next, Taken}
 
 -- the table is well-formed for some n, for which the first k of `dims` are dimensions
 pub record BeforeWalking (slots : ℕ) (t dims : List ℕ) (k : ℕ) : Type 0 where
@@ -40,3 +43,14 @@ pub record Expanded (m : Map) (k : ℕ) (dim : ℕ → ℕ) (head : ℕ) (s : Li
   pub links : (p : ℕ) → p < k → (next (m .slots) s′ head p < tail′)
       × (place (m .slots) s′ (next (m .slots) s′ head p) ≡ m .link (dim p) (place (m .slots) s head))
   pub earlier : (r p : ℕ) → r < head → p < 4 → next (m .slots) s′ r p ≡ next (m .slots) s r p
+
+-- the darts that took places before are closed under the links of the orbit type, and d is none of them
+pub record Begun (m : Map) (k : ℕ) (dim : ℕ → ℕ) (s : List ℕ) (begin d : ℕ) : Type 0 where
+  pub taken : Taken (m .slots) s begin
+  pub closed : (x p : ℕ) → x < m .slots → marked s x ≡ true → p < k → marked s (m .link (dim p) x) ≡ true
+  pub free : mark s d ≡ 0
+
+-- the orbit of d took places beside the darts that had them
+pub record Joined (m : Map) (k : ℕ) (dim : ℕ → ℕ) (d : ℕ) (s s′ : List ℕ) (end : ℕ) : Type 0 where
+  pub taken : Taken (m .slots) s′ end
+  pub is : (x : ℕ) → x < m .slots → marked s′ x ≡ (marked s x or orbit m k dim d x)

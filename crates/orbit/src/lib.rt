@@ -11,8 +11,7 @@ ghost use Prim.Native.Nat.{_*_, _<_, _≤_};
 ghost use lib.ListN.{getD};
 ghost use Rattle.model.specs.Map.{view, maxSlots};
 ghost use Rattle.orbit.specs.Store.{Taken, Walked, place};
-ghost use Rattle.orbit.specs.Places.{Blank};
-ghost use Rattle.orbit.specs.Walk.{BeforeWalking, Followed, Expanded};
+ghost use Rattle.orbit.specs.Walk.{BeforeWalking, Followed, Expanded, Begun, Joined};
 
 // Slot y takes the place `end`, unless it has a place, and the word `at` becomes the place of y. It returns the new end.
 fn follow(slots: usize, store: &mut [u32], end: usize, at: usize, y: usize) -> usize
@@ -35,16 +34,16 @@ fn follow(slots: usize, store: &mut [u32], end: usize, at: usize, y: usize) -> u
 fn expand(
     slots: usize,
     table: &[u32],
-    dims: &[u8; 4],
+    dims: [u8; 4],
     k: usize,
     store: &mut [u32],
     head: usize,
     tail: usize,
 ) -> usize
-    requires { ⌜ BeforeWalking slots (now table) (now dims) k ⌝ }
+    requires { ⌜ BeforeWalking slots (now table) dims k ⌝ }
     requires { ⌜ Taken slots (now store) tail ⌝ }
     requires { ⌜ (head < tail) × (view slots (now table) .state (place slots (now store) head) ≡ 1) ⌝ }
-    ensures { λ r. ⌜ Expanded (view slots (now (table .entry))) k (λ p. getD (now (dims .entry)) p 0) head (now (store .entry)) tail (now (store .exit)) r ⌝ }
+    ensures { λ r. ⌜ Expanded (view slots (now (table .entry))) k (λ p. getD dims p 0) head (now (store .entry)) tail (now (store .exit)) r ⌝ }
 {
     let x = word(store, slots + head);
     let at = 4 * slots + 4 * head;
@@ -63,24 +62,25 @@ fn expand(
     end
 }
 
-// The orbit of d by the first k dimensions of dims takes the first places. It returns its size.
+// The orbit of d by the first k dimensions of dims takes the places from `begin` on. It returns the new end.
 pub fn walk(
     slots: usize,
     table: &[u32],
-    dims: &[u8; 4],
+    dims: [u8; 4],
     k: usize,
     store: &mut [u32],
+    begin: usize,
     d: usize,
 ) -> usize
-    requires { ⌜ BeforeWalking slots (now table) (now dims) k ⌝ }
+    requires { ⌜ BeforeWalking slots (now table) dims k ⌝ }
     requires { ⌜ (d < slots) × (view slots (now table) .state d ≡ 1) ⌝ }
-    requires { ⌜ Blank slots (now store) ⌝ }
-    ensures { λ r. ⌜ Walked (view slots (now (table .entry))) k (λ p. getD (now (dims .entry)) p 0) d (now (store .exit)) r ⌝ }
-    ensures { λ r. ⌜ Taken slots (now (store .exit)) r ⌝ }
+    requires { ⌜ Begun (view slots (now table)) k (λ p. getD dims p 0) (now store) begin d ⌝ }
+    ensures { λ r. ⌜ Joined (view slots (now (table .entry))) k (λ p. getD dims p 0) d (now (store .entry)) (now (store .exit)) r ⌝ }
+    ensures { λ r. ⌜ (begin ≡ 0 → Walked (view slots (now (table .entry))) k (λ p. getD dims p 0) d (now (store .exit)) r) ⌝ }
 {
-    push(slots, store, 0, d);
-    let mut tail = 1;
-    let mut head = 0;
+    push(slots, store, begin, d);
+    let mut tail = begin + 1;
+    let mut head = begin;
     while head < tail {
         tail = expand(slots, table, dims, k, store, head, tail);
         head += 1;

@@ -1,4 +1,4 @@
--- `orbit::expand` meets its contract. The loop's invariant is the contract itself, at the first p links.
+-- `orbit::expand` meets its contract. The loop's invariant is the contract itself, at the first p links. The argument `t3` is `dims`.
 -- Assumes nothing.
 use Prim.Native.Nat.{_-_, _≤_, _<_}
 use mathlib.Core.Path.{_≡_, ap, _∙_}
@@ -13,11 +13,11 @@ use Rattle.orbit.proofs.expand.Statement.{statement}
 use Rattle.orbit.proofs.expand.Tie as tie
 
 abbrev Inv-loop : tie.InvT-loop
-Inv-loop slots table dims k store₀ head tail x at end₀ p₀ store end p =
+Inv-loop slots table k store₀ head tail dims x at end₀ p₀ store end p =
     Expanded (view slots table) p (λ q. getD dims q 0) head store₀ tail store end × (p ≤ k)
 
 abbrev μ-loop : tie.MeasureT-loop
-μ-loop slots table dims k store₀ head tail x at end₀ p₀ store end p = k - p
+μ-loop slots table k store₀ head tail dims x at end₀ p₀ store end p = k - p
 
 abbrev start : tie.After-word Inv-loop μ-loop → tie.Start Inv-loop μ-loop
 start c = c .before .before .before .before
@@ -34,11 +34,11 @@ x-slot c = let b = start c in let a = b .args in omega (arith, x-is c, b .pre .1
 position : (c : tie.Else1 Inv-loop μ-loop) → c .before .before .loop .p < start (c .before .before .before) .args .k
 position c = omega (arith, c .before .before .loop .inv .1, c .if1 .left)
 
-dim-le : (c : tie.Else1 Inv-loop μ-loop) → getD (now (start (c .before .before .before) .args .dims)) (c .before .before .loop .p) 0 ≤ 3
+dim-le : (c : tie.Else1 Inv-loop μ-loop) → getD (start (c .before .before .before) .args .t3) (c .before .before .loop .p) 0 ≤ 3
 dim-le c = let r = start (c .before .before .before) .pre .0 in omega (arith, r .dim (c .before .before .loop .p) (position c), r .small)
 
 y-slot : (c : tie.Else1 Inv-loop μ-loop) → let a = start (c .before .before .before) .args in
-    view (a .slots) (now (a .table)) .link (getD (now (a .dims)) (c .before .before .loop .p) 0) (c .before .before .before .word .result) < a .slots
+    view (a .slots) (now (a .table)) .link (getD (a .t3) (c .before .before .loop .p) 0) (c .before .before .before .word .result) < a .slots
 y-slot c =
     let w = c .before .before .before in
     let b = start w in
@@ -70,23 +70,21 @@ same-length c = omega arith
 returns : tie.Need-returns Inv-loop μ-loop
 returns c = rw (← c .if1 .taken) (c .before .before .loop .inv .0)
 
-element-copy-out-i : tie.Need-element-copy-out-i Inv-loop μ-loop
-element-copy-out-i c = omega arith
+array-read-i : tie.Need-array-read-i Inv-loop μ-loop
+array-read-i c = omega arith
 
 cast-i : tie.Need-cast-i Inv-loop μ-loop
-cast-i c = omega (arith, dim-le (c .before))
+cast-i c = omega (arith, dim-le c)
 
 link-requires : tie.Need-link-requires Inv-loop μ-loop
-link-requires c κs =
-    let l = c .before in
-    (start (l .before .before .before) .pre .0 .sized, (x-slot (l .before .before .before), dim-le l))
+link-requires c κs = (start (c .before .before .before) .pre .0 .sized, (x-slot (c .before .before .before), dim-le c))
 
 add-follow : tie.Need-add-follow Inv-loop μ-loop
 add-follow c = omega arith
 
 follow-requires : tie.Need-follow-requires Inv-loop μ-loop
 follow-requires c κs =
-    let l = c .before .before .before in
+    let l = c .before .before in
     let b = start (l .before .before .before) in
     (b .pre .0 .sized .few, (l .before .before .loop .inv .0 .grown .taken, (omega (arith, y-slot l, c .before .link .ensures), omega arith, omega arith)))
 
@@ -99,7 +97,7 @@ loop-less c = omega arith
 loop-again : tie.Need-loop-again Inv-loop μ-loop
 loop-again c =
     let k = c .before .before .before .before in
-    let l = k .before .before in (
+    let l = k .before in (
       expanded-more _ _ _ _ _ _ _ _ _ _ _ _ (omega arith) (x-is (l .before .before .before)) (k .link .ensures)
           (l .before .before .loop .inv .0) (c .before .before .follow .ensures),
       omega (arith, position l),
@@ -116,5 +114,5 @@ returns-2 c =
 
 pub expand-spec : {M : Type 1} → statement M
 expand-spec =
-    tie.close (tie.spec Inv-loop μ-loop add-word word-requires mul-at mul-at-2 add-at loop-holds same-length returns element-copy-out-i cast-i
+    tie.close (tie.spec Inv-loop μ-loop add-word word-requires mul-at mul-at-2 add-at loop-holds same-length returns array-read-i cast-i
     link-requires add-follow follow-requires add-p loop-less loop-again same-length-2 returns-2)
