@@ -1,0 +1,3 @@
+pub mod FreshLaws
+pub mod WalksLaws
+pub mod ColumnLaws
