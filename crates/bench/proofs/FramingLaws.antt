@@ -11,6 +11,7 @@ use borrow.Author.Tests.{leb-true, eqb-true, le-leb, eq-eqb}
 use Rattle.base.specs.Digits.{numberAt}
 use Rattle.base.proofs.TestLaws.{and-left, and-right, and-of, true-or-false}
 use Rattle.model.specs.File.{twoAt}
+use Rattle.program.specs.Opening.{longestFile}
 use Rattle.bench.specs.Bench.{mapLength, schemeLength, dartCount, framed, longestScheme, mostDarts}
 use Rattle.bench.specs.Input.{countAt, Laid, FramingOf}
 use Rattle.bench.specs.declared.framing.Framing.{Framing}
@@ -34,13 +35,13 @@ module _ (b : List ℕ) (map scheme darts : ℕ) (x : map ≡ countAt b 0) (y : 
   unfolding countAt
   dart-count = ap₂ (λ (j k : ℕ). twoAt b (4 + j + k)) map-length scheme-length ∙ sym z
 
-  pub fault : (map ≤ 14345 → scheme ≤ longestScheme → darts ≤ mostDarts → length b ≡ 6 + map + scheme + 2 * darts → ⊥) → framed b ≡ false
+  pub fault : (map ≤ longestFile → scheme ≤ longestScheme → darts ≤ mostDarts → length b ≡ 6 + map + scheme + 2 * darts → ⊥) → framed b ≡ false
   unfolding framed
   fault f = ⊎-elim
       (λ t.
       let size : length b ≡ 6 + mapLength b + schemeLength b + 2 * dartCount b = eqb-true _ _ (and-right _ _ t) in
       absurd (f
-      (subst (λ (k : ℕ). k ≤ 14345) map-length (leb-true _ _ (and-left _ _ (and-left _ _ (and-left _ _ t)))))
+      (subst (λ (k : ℕ). k ≤ longestFile) map-length (leb-true _ _ (and-left _ _ (and-left _ _ (and-left _ _ t)))))
       (subst (λ (k : ℕ). k ≤ longestScheme) scheme-length (leb-true _ _ (and-right _ _ (and-left _ _ (and-left _ _ t)))))
       (subst (λ (k : ℕ). k ≤ mostDarts) dart-count (leb-true _ _ (and-right _ _ (and-left _ _ t))))
       (omega (arith, size, map-length, scheme-length, dart-count))))

@@ -9,8 +9,8 @@ use Rattle.model.specs.Answer.{number}
 use Rattle.model.specs.declared.Answer.{Answer}
 use Rattle.numbers.specs.Places.{Put}
 use Rattle.numbers.proofs.PlaceLaws.{put-then}
-use Rattle.lines.specs.Lines.{decimal, space, lineFeed}
-use Rattle.lines.proofs.LineLaws.{digits}
+use Rattle.program.specs.Lines.{decimal, space, lineFeed}
+use Rattle.program.proofs.LineLaws.{digits}
 use Rattle.bench.specs.Bench.{liveWord, unusedWord, shown, dartLine, lastLine}
 
 pub dart-length : (d : ℕ) (a : Answer) → length (dartLine d a) ≡ digits d + digits (number a) + digits (shown a 0) + digits (shown a 1) + digits (shown a 2) + 5

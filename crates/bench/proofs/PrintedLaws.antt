@@ -2,89 +2,60 @@
 -- Assumes nothing.
 use Prim.Native.Nat.{ℕ, _+_, _*_, _≤_, _<_}
 use mathlib.Core.Path.{_≡_, refl, sym, ap, ap₂, _∙_}
-use mathlib.Core.Bool.{Bool, true, false, cond}
+use mathlib.Core.Bool.{Bool, false, cond}
 use mathlib.Core.List.{List, _++_}
 use native.Mathlib.Omega.{arith}
-use lib.ListN.{length, replicate}
-use lib.Dec.{eqb, leb}
-use borrow.Author.Tests.{le-leb, lt-leb, eq-eqb, ne-eqb}
-use Rattle.base.specs.Test.{_and_}
+use lib.ListN.{length}
+use lib.Dec.{eqb}
+use borrow.Author.Tests.{eq-eqb, ne-eqb}
 use Rattle.base.specs.Below.{countBelow}
-use Rattle.base.specs.First.{someIf, _orElse_}
 use Rattle.base.proofs.BelowLaws.{count-le}
 use Rattle.base.proofs.ListLaws.{sets-start}
 use Rattle.model.specs.Answer.{number}
-use Rattle.model.specs.Map.{tableSize, view, live, unused, maxSlots}
-use Rattle.model.specs.Calls.{sizesOk, loadFaultAt, loadFault, loadAnswer}
-use Rattle.bench.specs.Bench.{lastLine, mapLength, mapBytes, framed, mapDimension, mapSlots, mapLoaded, mapAnswer, tableAfter, runLines, printed}
-use Rattle.bench.specs.Bench.{mostDarts}
-use Rattle.lines.specs.Lines.{refusedLine}
-use Rattle.lines.proofs.LineLaws.{refused-few}
-use Rattle.model.specs.declared.Answer.the-variants.{BadCall}
-use Rattle.model.proofs.SizeLaws.{sizes-iff}
+use Rattle.model.specs.Map.{view, live, unused, maxSlots}
+use Rattle.program.specs.Lines.{refusedLine}
+use Rattle.program.specs.Opening.{MapOpen}
+use Rattle.program.proofs.LineLaws.{refused-few}
+use Rattle.bench.specs.Bench.{mostDarts, lastLine, mapBytes, framed, mapSlots, mapAnswer, tableAfter, runLines, printed}
 use Rattle.numbers.specs.Places.{Put}
 use Rattle.numbers.proofs.PlaceLaws.{put-then}
 use Rattle.bench.specs.Input.{Laid}
 use Rattle.bench.specs.Session.{dartLines, longest, Printed, Wrote}
 use Rattle.bench.specs.declared.framing.Layout.{Layout}
 use Rattle.bench.proofs.FramingLaws.{laid-framed, dart-count}
-use Rattle.bench.proofs.SessionLaws.{is-map}
 use Rattle.bench.proofs.ShortLaws.{last-few}
-use Rattle.base.proofs.TestLaws.{impossible, and-no-right}
 
 pub printed-fault : (b : List ℕ) → framed b ≡ false → printed b ≡ refusedLine 11
-unfolding printed _and_
+unfolding printed
 printed-fault b e = rw e refl
 
--- a table of too many slots is refused
-many-slots : (n N : ℕ) (t b : List ℕ) → maxSlots < N → loadAnswer n N t b ≡ BadCall
-unfolding loadAnswer loadFault loadFaultAt someIf _orElse_ _and_
-many-slots n N t b h =
-    let over : sizesOk n N t ≡ false = impossible _ (λ e. omega (arith, sizes-iff n N t .0 e .few)) in
-    rw over refl
-
 module _ (b : List ℕ) (l : Layout) (laid : Laid b l) where
-  pub printed-small : l .map < 3 → printed b ≡ refusedLine 11
+  printed-framed : printed b ≡ cond (eqb (number (mapAnswer b)) 0) (runLines b) (refusedLine (number (mapAnswer b)))
   unfolding printed
-  printed-small h =
-      let short : leb 3 (mapLength b) ≡ false = rw (is-map b l laid) (lt-leb 3 (l .map) h) in
-      rw (short, and-no-right (framed b) refl) refl
+  printed-framed = rw (laid-framed b l laid) refl
 
-  module _ (long : 3 ≤ l .map) where
-    printed-accepted : printed b ≡ cond (eqb (number (mapAnswer b)) 0) (runLines b) (refusedLine (number (mapAnswer b)))
-    unfolding printed _and_
-    printed-accepted =
-        let fits : leb 3 (mapLength b) ≡ true = rw (is-map b l laid) (le-leb 3 (l .map) long) in
-        rw (laid-framed b l laid, fits) refl
+  pub printed-refused : (k : ℕ) → (k ≡ number (mapAnswer b)) × (k ≡ 0 → ⊥) → printed b ≡ refusedLine k
+  printed-refused k x =
+      let refused : eqb (number (mapAnswer b)) 0 ≡ false = ne-eqb _ _ (λ z. x .1 (x .0 ∙ z)) in
+      printed-framed ∙ ap (λ (t : Bool). cond t (runLines b) (refusedLine (number (mapAnswer b)))) refused ∙ ap refusedLine (sym (x .0))
 
-    pub printed-refused : (number (mapAnswer b) ≡ 0 → ⊥) → printed b ≡ refusedLine (number (mapAnswer b))
-    printed-refused f = printed-accepted ∙ ap (λ (t : Bool). cond t (runLines b) (refusedLine (number (mapAnswer b)))) (ne-eqb (number (mapAnswer b)) 0 f)
+  pub printed-run : number (mapAnswer b) ≡ 0 → printed b ≡ dartLines b (l .darts)
+      ++ lastLine (countBelow (mapSlots b) (live (view (mapSlots b) (tableAfter b (l .darts)))))
+      (countBelow (mapSlots b) (unused (view (mapSlots b) (tableAfter b (l .darts)))))
+  unfolding runLines dartLines
+  printed-run e =
+      printed-framed ∙ ap (λ (t : Bool). cond t (runLines b) (refusedLine (number (mapAnswer b)))) (eq-eqb (number (mapAnswer b)) 0 e)
+      ∙ ap (λ (k : ℕ). dartLines b k ++ lastLine (countBelow (mapSlots b) (live (view (mapSlots b) (tableAfter b k))))
+      (countBelow (mapSlots b) (unused (view (mapSlots b) (tableAfter b k)))))
+      (dart-count b (l .map) (l .scheme) (l .darts) (laid .map) (laid .scheme) (laid .darts))
 
-    pub printed-many : maxSlots < mapSlots b → printed b ≡ refusedLine 1
-    unfolding mapAnswer mapLoaded
-    printed-many h =
-        let one : number (mapAnswer b) ≡ 1 = ap number bad in
-        printed-refused (λ z. absurd (omega arith)) ∙ ap refusedLine one
-      where
-        bad : mapAnswer b ≡ BadCall
-        bad = rw (many-slots (mapDimension b) (mapSlots b) (replicate (tableSize (mapSlots b)) 0) (mapBytes b) h) refl
-
-    pub printed-run : number (mapAnswer b) ≡ 0 → printed b ≡ dartLines b (l .darts)
-        ++ lastLine (countBelow (mapSlots b) (live (view (mapSlots b) (tableAfter b (l .darts)))))
-        (countBelow (mapSlots b) (unused (view (mapSlots b) (tableAfter b (l .darts)))))
-    unfolding runLines dartLines
-    printed-run e =
-        printed-accepted ∙ ap (λ (t : Bool). cond t (runLines b) (refusedLine (number (mapAnswer b)))) (eq-eqb (number (mapAnswer b)) 0 e)
-        ∙ ap (λ (k : ℕ). dartLines b k ++ lastLine (countBelow (mapSlots b) (live (view (mapSlots b) (tableAfter b k))))
-        (countBelow (mapSlots b) (unused (view (mapSlots b) (tableAfter b k)))))
-        (dart-count b (l .map) (l .scheme) (l .darts) (laid .map) (laid .scheme) (laid .darts))
-
-    -- the same, of the counts that were taken
-    pub printed-session : (N : ℕ) (t : List ℕ) (x y : ℕ) → number (mapAnswer b) ≡ 0 → N ≡ mapSlots b → t ≡ tableAfter b (l .darts)
-        → x ≡ countBelow N (live (view N t)) → y ≡ countBelow N (unused (view N t)) → printed b ≡ dartLines b (l .darts) ++ lastLine x y
-    printed-session N t x y z e f u w =
-        printed-run z ∙ sym (ap₂ (λ (i j : ℕ). dartLines b (l .darts) ++ lastLine i j)
-        (u ∙ ap₂ (λ (M : ℕ) (q : List ℕ). countBelow M (live (view M q))) e f) (w ∙ ap₂ (λ (M : ℕ) (q : List ℕ). countBelow M (unused (view M q))) e f))
+  -- the same, of the counts that were taken
+  pub printed-session : (n N : ℕ) (t : List ℕ) (x y : ℕ) → MapOpen (mapBytes b) n N → t ≡ tableAfter b (l .darts)
+      → x ≡ countBelow N (live (view N t)) → y ≡ countBelow N (unused (view N t)) → printed b ≡ dartLines b (l .darts) ++ lastLine x y
+  printed-session n N t x y m f u w =
+      let e = m .named .slots in
+      printed-run (m .done) ∙ sym (ap₂ (λ (i j : ℕ). dartLines b (l .darts) ++ lastLine i j)
+      (u ∙ ap₂ (λ (M : ℕ) (q : List ℕ). countBelow M (live (view M q))) e f) (w ∙ ap₂ (λ (M : ℕ) (q : List ℕ). countBelow M (unused (view M q))) e f))
 
 -- ---- written
 

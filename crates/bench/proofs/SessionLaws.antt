@@ -1,4 +1,4 @@
--- A session step by step: the parts of the input, the map that is loaded and checked, and one edit after the other.
+-- A session step by step: the parts of the input, the map that is open, and one edit after the other.
 -- Assumes nothing.
 use Prim.Native.Nat.{ℕ, _+_, _*_, _-_, _≤_, _<_}
 use mathlib.Core.Path.{_≡_, refl, sym, ap, ap₂, _∙_}
@@ -7,9 +7,8 @@ use mathlib.Core.List.{List}
 use native.Mathlib.Numerals.{add-one}
 use native.Mathlib.Omega.{arith}
 use lib.Dec.{eqb}
-use lib.ListN.{length, getD, take, drop, replicate, length-replicate, replicate-append-replicate}
-use lib.Seq.{getD-take, getD-drop, take-at}
-use borrow.Author.Tests.{eq-eqb, ne-eqb}
+use lib.ListN.{length, take, drop, replicate, length-replicate, replicate-append-replicate}
+use lib.Seq.{take-at}
 use Rattle.base.specs.Test.{_and_}
 use Rattle.base.specs.Below.{countBelow}
 use Rattle.base.specs.Digits.{numberAt}
@@ -18,19 +17,20 @@ use Rattle.base.proofs.BelowLaws.{count-step}
 use Rattle.base.proofs.ListLaws.{joined-step}
 use Rattle.model.specs.Map.{tableSize, maxSlots}
 use Rattle.model.specs.File.{twoAt}
-use Rattle.model.specs.Answer.{number}
-use Rattle.model.specs.Calls.{zeros, sizesOk, checkTable, loadAnswer, loadTable, editAnswer, editTable, editStore}
+use Rattle.model.specs.Calls.{zeros, sizesOk, editAnswer, editTable, editStore}
 use Rattle.bench.specs.Bench.{mapLength, schemeLength, dartLine, dartAt, answerAt, mapBytes, schemeBytes, mapDimension, mapSlots}
-use Rattle.bench.specs.Bench.{mapLoaded, mapAnswer, tableAfter}
+use Rattle.bench.specs.Bench.{tableAfter}
 use Rattle.model.specs.declared.Darts.{Darts}
 use Rattle.model.specs.declared.Darts.the-variants.{One}
 use Rattle.model.specs.declared.Answer.{Answer}
 use Rattle.model.proofs.AnswerLaws.{answers-same}
 use Rattle.numbers.specs.Places.{Put}
 use Rattle.numbers.proofs.PlaceLaws.{put-then}
-use Rattle.demands.specs.Promises.{TableChecked, MapEdited, FileLoaded}
+use Rattle.demands.specs.Promises.{MapEdited}
+use Rattle.program.specs.Opening.{openTable, MapOpen}
+use Rattle.program.proofs.OpeningLaws.{open-long, open-words}
 use Rattle.bench.specs.Input.{countAt, Laid}
-use Rattle.bench.specs.Session.{Asked, Stands, dartLines}
+use Rattle.bench.specs.Session.{Stands, dartLines}
 use Rattle.bench.specs.declared.framing.Layout.{Layout}
 use Rattle.bench.proofs.FramingLaws.{count-of, map-length, scheme-length}
 use Rattle.bench.proofs.ShortLaws.{line-short}
@@ -65,49 +65,21 @@ module _ (b : List ℕ) (l : Layout) (k : Laid b l) where
       count-of b from v f ∙ ap (λ (i : ℕ). twoAt b i) e
       ∙ ap₂ (λ (i m : ℕ). twoAt b (6 + i + m + 2 * j)) (sym is-map) (sym is-scheme)
 
-  module _ (long : 3 ≤ l .map) where
-    byte-here : (i : ℕ) → i < 3 → getD (mapBytes b) i 0 ≡ getD b (2 + i) 0
-    unfolding mapBytes
-    byte-here i h = rw (getD-take (mapLength b) (drop 2 b) i 0 (rw is-map (omega arith)), getD-drop 2 b i 0) refl
+-- ---- the map is open
 
-    pub slots-here : (v : ℕ) → v ≡ numberAt 2 b 3 → v ≡ mapSlots b
-    unfolding mapSlots countAt
-    slots-here v e = count-of b 3 v e ∙ ap₂ (λ (i j : ℕ). i + 256 * j) (sym (byte-here 1 (omega arith))) (sym (byte-here 2 (omega arith)))
+module _ (b : List ℕ) (n N : ℕ) (m : MapOpen (mapBytes b) n N) where
+  pub stands-long : (t s : List ℕ) → Stands b N 0 t s → length t ≡ tableSize N
+  unfolding tableAfter
+  stands-long t s x = ap length (x .table) ∙ open-long (mapBytes b) n N m
 
-    pub dimension-here : (v : ℕ) → v ≡ getD b 2 0 → v ≡ mapDimension b
-    unfolding mapDimension
-    dimension-here v e = e ∙ sym (byte-here 0 (omega arith))
-
-    pub asked-of : (n N : ℕ) → n ≡ getD b 2 0 → N ≡ mapSlots b → N ≤ maxSlots → Asked b n N
-    asked-of n N e f h = record { dimension = dimension-here n e; slots = f; few = h }
-
--- ---- the map is loaded and checked
-
-module _ (b : List ℕ) (n N : ℕ) (asked : Asked b n N) where
-  load-moved : {A : Type 0} (f : ℕ → ℕ → List ℕ → List ℕ → A) (t part : List ℕ) → t ≡ replicate (tableSize N) 0 → part ≡ mapBytes b
-      → f n N t part ≡ f (mapDimension b) (mapSlots b) (replicate (tableSize (mapSlots b)) 0) (mapBytes b)
-  load-moved f t part e p =
-      ap₂ (λ (x y : List ℕ). f n N x y) e p ∙ ap₂ (λ (i j : ℕ). f i j (replicate (tableSize j) 0) (mapBytes b)) (asked .dimension) (asked .slots)
-
-  pub load-map : (t part : List ℕ) (r : Answer) (t′ : List ℕ) → t ≡ replicate (tableSize N) 0 → part ≡ mapBytes b
-      → FileLoaded n N t part r t′ → (r ≡ mapLoaded b) × (t′ ≡ tableAfter b 0)
-  unfolding mapLoaded tableAfter
-  load-map t part r t′ e p x = (answers-same (x .answer) ∙ load-moved loadAnswer t part e p, x .table ∙ load-moved loadTable t part e p)
-
-  -- a map that is not loaded is not checked
-  pub load-refused : (r : Answer) (k : ℕ) → r ≡ mapLoaded b → k ≡ number r → (k ≡ 0 → ⊥) → r ≡ mapAnswer b
-  unfolding mapAnswer
-  load-refused r k e f fault =
-      let refused : eqb (number (mapLoaded b)) 0 ≡ false = ne-eqb _ _ (λ z. fault (f ∙ ap number e ∙ z)) in
-      e ∙ rw refused refl
-
-  pub load-checked : (r : Answer) (k : ℕ) (t : List ℕ) (c : Answer) → r ≡ mapLoaded b → k ≡ number r → k ≡ 0 → t ≡ tableAfter b 0
-      → TableChecked n N t c → c ≡ mapAnswer b
-  unfolding mapAnswer
-  load-checked r k t c e f z at x =
-      let done : eqb (number (mapLoaded b)) 0 ≡ true = eq-eqb _ _ (ap number (sym e) ∙ sym f ∙ z) in
-      answers-same (x .answer) ∙ ap (checkTable n N) at ∙ ap₂ (λ (i j : ℕ). checkTable i j (tableAfter b 0)) (asked .dimension) (asked .slots)
-      ∙ rw done refl
+  -- the start of a table that a file was opened in, and a store that is empty
+  pub stands-open : (f t u s : List ℕ) (w : ℕ) → f ≡ mapBytes b → length t ≡ tableSize maxSlots → u ≡ openTable f t → w ≡ tableSize N
+      → s ≡ replicate (16 * N) 0 → Stands b N 0 (take w u) s
+  unfolding tableAfter
+  stands-open f t u s w e long g h store = record {
+    table = ap₂ (λ (k : ℕ) (l : List ℕ). take k l) h (g ∙ ap (λ (l : List ℕ). openTable l t) e) ∙ open-words (mapBytes b) n N m t long;
+    store = store;
+  }
 
 -- ---- an edit
 
@@ -139,13 +111,13 @@ going-none b l N t s out x = record {
   short = omega arith;
 }
 
-module _ (b : List ℕ) (l : Layout) (laid : Laid b l) (n N : ℕ) (asked : Asked b n N) (k : ℕ) (t s out₀ out : List ℕ) (from at : ℕ)
+module _ (b : List ℕ) (l : Layout) (laid : Laid b l) (n N : ℕ) (m : MapOpen (mapBytes b) n N) (k : ℕ) (t s out₀ out : List ℕ) (from at : ℕ)
     (g : Going b l N k t s out₀ out from at) (v : ℕ) (read : v ≡ numberAt 2 b from) where
   moved : {A : Type 0} (f : ℕ → ℕ → List ℕ → List ℕ → List ℕ → Darts → A)
       → f n N t s (schemeBytes b) (One v) ≡ f (mapDimension b) (mapSlots b) (tableAfter b k) (replicate (16 * mapSlots b) 0) (schemeBytes b) (One (dartAt b k))
   moved f =
       ap₂ (λ (x y : List ℕ). f n N x y (schemeBytes b) (One v)) (g .stands .table) (g .stands .store)
-      ∙ ap₂ (λ (i j : ℕ). f i j (tableAfter b k) (replicate (16 * j) 0) (schemeBytes b) (One v)) (asked .dimension) (asked .slots)
+      ∙ ap₂ (λ (i j : ℕ). f i j (tableAfter b k) (replicate (16 * j) 0) (schemeBytes b) (One v)) (m .named .dimension) (m .named .slots)
       ∙ ap (λ (d : ℕ). f (mapDimension b) (mapSlots b) (tableAfter b k) (replicate (16 * mapSlots b) 0) (schemeBytes b) (One d))
       (dart-here b l laid k v from (g .place) read)
 

@@ -25,8 +25,8 @@ use Rattle.model.proofs.SizeLaws.{sizes-iff}
 use Rattle.model.proofs.CallLaws.{granted}
 use Rattle.model.proofs.SchemeLaws.{nodes-few}
 use Rattle.demands.proofs.RefusalLaws.{edit-within}
-use Rattle.lines.proofs.DecimalLaws.{decimal-short}
-use Rattle.lines.proofs.LineLaws.{digits}
+use Rattle.program.proofs.DecimalLaws.{decimal-short}
+use Rattle.program.proofs.LineLaws.{digits}
 use Rattle.bench.proofs.LineLaws.{dart-length, last-length}
 
 -- ---- the line of an edit

@@ -9,12 +9,13 @@ use Rattle.base.specs.Test.{_and_}
 use Rattle.base.specs.Below.{countBelow}
 use Rattle.base.specs.Lists.{joined}
 use Rattle.model.specs.Answer.{number, values}
-use Rattle.model.specs.Map.{view, tableSize, live, unused}
+use Rattle.model.specs.Map.{view, live, unused}
 use Rattle.model.specs.File.{twoAt}
-use Rattle.model.specs.Calls.{checkTable, editAnswer, editTable, loadAnswer, loadTable}
+use Rattle.model.specs.Calls.{editAnswer, editTable}
 use Rattle.model.specs.declared.Darts.the-variants.{One}
 use Rattle.model.specs.declared.Answer.{Answer}
-use Rattle.lines.specs.Lines.{decimal, space, lineFeed, refusedLine}
+use Rattle.program.specs.Lines.{decimal, space, lineFeed, refusedLine}
+use Rattle.program.specs.Opening.{longestFile, fileDimension, fileSlots, fileTable, openAnswer}
 
 -- ---- lines
 
@@ -68,29 +69,26 @@ module _ (b : List ℕ) where
 
   -- the counts are within their limits, and nothing is missing or left over
   unfoldable pub framed : Bool
-  framed = leb mapLength 14345 and leb schemeLength longestScheme and leb dartCount mostDarts
+  framed = leb mapLength longestFile and leb schemeLength longestScheme and leb dartCount mostDarts
       and eqb (length b) (6 + mapLength + schemeLength + 2 * dartCount)
 
   -- ---- the run
 
   -- n and N as the map file has them
-  unfoldable pub mapDimension : ℕ
-  mapDimension = getD mapBytes 0 0
+  abbrev pub mapDimension : ℕ
+  mapDimension = fileDimension mapBytes
 
-  unfoldable pub mapSlots : ℕ
-  mapSlots = twoAt mapBytes 1
+  abbrev pub mapSlots : ℕ
+  mapSlots = fileSlots mapBytes
 
-  unfoldable pub mapLoaded : Answer
-  mapLoaded = loadAnswer mapDimension mapSlots (replicate (tableSize mapSlots) 0) mapBytes
+  -- what the opening of the map answers
+  abbrev pub mapAnswer : Answer
+  mapAnswer = openAnswer mapBytes
 
   -- the table after the first k edits
   unfoldable pub tableAfter : ℕ → List ℕ
-  tableAfter zero = loadTable mapDimension mapSlots (replicate (tableSize mapSlots) 0) mapBytes
+  tableAfter zero = fileTable mapBytes
   tableAfter (suc k) = editTable mapDimension mapSlots (tableAfter k) (replicate (16 * mapSlots) 0) schemeBytes (One (dartAt k))
-
-  -- what the check of the table answers where the map is loaded, else what the load answers
-  unfoldable pub mapAnswer : Answer
-  mapAnswer = cond (eqb (number mapLoaded) 0) (checkTable mapDimension mapSlots (tableAfter 0)) mapLoaded
 
   unfoldable pub answerAt : ℕ → Answer
   answerAt k = editAnswer mapDimension mapSlots (tableAfter k) (replicate (16 * mapSlots) 0) schemeBytes (One (dartAt k))
@@ -100,6 +98,4 @@ module _ (b : List ℕ) where
       ++ lastLine (countBelow mapSlots (live (view mapSlots (tableAfter dartCount)))) (countBelow mapSlots (unused (view mapSlots (tableAfter dartCount))))
 
   unfoldable pub printed : List ℕ
-  printed = cond (framed and leb 3 mapLength)
-      (cond (eqb (number mapAnswer) 0) runLines (refusedLine (number mapAnswer)))
-      (refusedLine 11)
+  printed = cond framed (cond (eqb (number mapAnswer) 0) runLines (refusedLine (number mapAnswer))) (refusedLine 11)

@@ -6,6 +6,7 @@ use mathlib.Core.Bool.{false}
 use mathlib.Core.List.{List}
 use lib.ListN.{length}
 use Rattle.model.specs.File.{twoAt}
+use Rattle.program.specs.Opening.{longestFile}
 use Rattle.bench.specs.Bench.{framed, longestScheme, mostDarts}
 use Rattle.bench.specs.declared.framing.Layout.{Layout}
 use Rattle.bench.specs.declared.framing.Framing.{Framing}
@@ -20,7 +21,7 @@ pub record Laid (b : List ℕ) (l : Layout) : Type 0 where
   pub map : l .map ≡ countAt b 0
   pub scheme : l .scheme ≡ countAt b (2 + l .map)
   pub darts : l .darts ≡ countAt b (4 + l .map + l .scheme)
-  pub mapFits : l .map ≤ 14345
+  pub mapFits : l .map ≤ longestFile
   pub schemeFits : l .scheme ≤ longestScheme
   pub dartsFit : l .darts ≤ mostDarts
   pub size : length b ≡ 6 + l .map + l .scheme + 2 * l .darts

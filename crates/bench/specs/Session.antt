@@ -5,19 +5,12 @@ use mathlib.Core.Path.{_≡_}
 use mathlib.Core.List.{List, _++_}
 use lib.ListN.{length, drop, replicate}
 use Rattle.base.specs.Lists.{joined}
-use Rattle.model.specs.Map.{maxSlots}
-use Rattle.bench.specs.Bench.{dartLine, dartAt, answerAt, mapDimension, mapSlots, tableAfter, printed}
+use Rattle.bench.specs.Bench.{dartLine, dartAt, answerAt, tableAfter, printed}
 use Rattle.numbers.specs.Places.{Put}
 
 -- no output is longer: 1,024 lines of at most 23 bytes each, and a last one of at most 22
 abbrev pub longest : ℕ
 longest = 23574
-
--- n and N are those of the map file, and the kernel takes so many slots
-pub record Asked (b : List ℕ) (n N : ℕ) : Type 0 where
-  pub dimension : n ≡ mapDimension b
-  pub slots : N ≡ mapSlots b
-  pub few : N ≤ maxSlots
 
 -- the table t and the store s are as they stand after the first k edits
 pub record Stands (b : List ℕ) (N k : ℕ) (t s : List ℕ) : Type 0 where

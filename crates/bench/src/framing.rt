@@ -1,5 +1,6 @@
 // The framing of the input: map file, scheme and dart list, each after a two-byte count, and nothing after them.
 use numbers::Cursor;
+use program::opening::LONGEST_FILE;
 ghost use Rattle.bench.specs.Input.{FramingOf};
 
 // The greatest length of a scheme.
@@ -44,7 +45,7 @@ pub fn frame(input: &[u8]) -> Framing
     if left - map - scheme != 2 * darts {
         return Framing::Fault;
     }
-    if 14345 < map {
+    if LONGEST_FILE < map {
         return Framing::Fault;
     }
     if LONGEST_SCHEME < scheme {

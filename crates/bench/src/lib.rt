@@ -6,19 +6,18 @@ mod writer;
 
 use framing::Framing;
 use framing::frame;
-use lines::refused_line;
 use model::MAX_SLOTS;
-use numbers::Cursor;
+use program::lines::refused_line;
+use program::opening::Opened;
+use program::opening::TABLE;
+use program::opening::open;
 use session::session;
-use table::words::RECORD;
 use table::words::size;
 ghost use Prim.Native.Nat.{_≤_};
 ghost use lib.ListN.{length};
 ghost use Rattle.bench.specs.Session.{longest, Printed};
 
-// The words of a table and of a store for the greatest number of slots.
-const TABLE: usize = RECORD * MAX_SLOTS as usize;
-
+// The words of a store for the greatest number of slots.
 const STORE: usize = 16 * MAX_SLOTS as usize;
 
 // Prints to the start of `out`, and gives the number of bytes.
@@ -29,24 +28,24 @@ pub fn run(input: &[u8], out: &mut [u8]) -> usize
     let Framing::Framed(layout) = frame(input) else {
         return refused_line(out, 0, 11);
     };
-    if layout.map < 3 {
-        return refused_line(out, 0, 11);
-    }
-    let place = Cursor { at: 3 };
-    let slots = place.two(input).value;
-    if MAX_SLOTS < slots {
-        return refused_line(out, 0, 1);
-    }
+    let end = 2 + layout.map;
+    let file = &input[2..end];
     let mut table = [0u32; TABLE];
-    let mut store = [0u32; STORE];
-    let words = size(slots);
-    let places = 16 * (slots as usize);
-    session(
-        input,
-        layout,
-        slots,
-        &mut table[..words],
-        &mut store[..places],
-        out,
-    )
+    match open(file, &mut table) {
+        Opened::Refused(k) => refused_line(out, 0, k),
+        Opened::Map { n, slots } => {
+            let mut store = [0u32; STORE];
+            let words = size(slots);
+            let places = 16 * (slots as usize);
+            session(
+                input,
+                layout,
+                n,
+                slots,
+                &mut table[..words],
+                &mut store[..places],
+                out,
+            )
+        }
+    }
 }

@@ -1,9 +1,7 @@
-// A session on a map: it is loaded, checked, edited at each dart in turn, and counted.
+// A session on a map that is open: it is edited at each dart in turn, and counted.
 use crate::framing::Layout;
 use crate::writer::dart_line;
 use crate::writer::last_line;
-use lines::answer::number;
-use lines::refused_line;
 use model::Answer;
 use model::Darts;
 use numbers::Cursor;
@@ -11,36 +9,16 @@ use table::words::state;
 ghost use mathlib.Core.Path.{_≡_};
 ghost use Prim.Native.Nat.{_+_, _*_, _≤_};
 ghost use lib.Dec.{eqb};
-ghost use lib.ListN.{length, replicate};
+ghost use lib.ListN.{length};
 ghost use Rattle.base.specs.Below.{countBelow};
-ghost use Rattle.model.specs.Map.{tableSize, view, maxSlots};
+ghost use Rattle.model.specs.Map.{view};
 ghost use Rattle.model.specs.Calls.{editAnswer, editTable, editStore};
-ghost use Rattle.bench.specs.Bench.{schemeBytes, mapAnswer, mapSlots, tableAfter};
+ghost use Rattle.bench.specs.Bench.{mapBytes, schemeBytes, tableAfter};
 ghost use Rattle.numbers.specs.Places.{Put};
 ghost use Rattle.table.specs.Words.{Sized};
+ghost use Rattle.program.specs.Opening.{MapOpen};
 ghost use Rattle.bench.specs.Input.{Laid};
-ghost use Rattle.bench.specs.Session.{Asked, Stands, dartLines, longest, Wrote};
-
-fn wide(b: u8) -> u32
-    ensures { λ r. ⌜ r ≡ b ⌝ }
-{
-    b as u32
-}
-
-// Loads the map, and checks it where it is loaded.
-fn load(input: &[u8], layout: Layout, n: u32, slots: u32, table: &mut [u32]) -> Answer
-    requires { ⌜ Laid (now input) layout ⌝ }
-    requires { ⌜ Asked (now input) n slots ⌝ }
-    requires { ⌜ now table ≡ replicate (tableSize slots) 0 ⌝ }
-    ensures { λ r. ⌜ (r ≡ mapAnswer (now (input .entry))) × (now (table .exit) ≡ tableAfter (now (input .entry)) 0) ⌝ }
-{
-    let end = 2 + layout.map;
-    let answer = kernel::load(n, slots, table, &input[2..end]);
-    if number(answer) != 0 {
-        return answer;
-    }
-    kernel::check_table(n, slots, table)
-}
+ghost use Rattle.bench.specs.Session.{Stands, dartLines, longest, Wrote};
 
 // Edits the map at a dart.
 fn edit(
@@ -73,7 +51,7 @@ fn edits(
     out: &mut [u8],
 ) -> usize
     requires { ⌜ Laid (now input) layout ⌝ }
-    requires { ⌜ Asked (now input) n slots ⌝ }
+    requires { ⌜ MapOpen (mapBytes (now input)) n slots ⌝ }
     requires { ⌜ Stands (now input) slots 0 (now table) (now store) ⌝ }
     requires { ⌜ 23 * layout .darts ≤ length (now out) ⌝ }
     ensures { λ r. ⌜ Put (now (out .entry)) 0 (dartLines (now (input .entry)) (layout .darts)) (now (out .exit)) r ⌝ }
@@ -112,27 +90,22 @@ fn tally(slots: usize, table: &[u32], s: u32) -> u32
     found
 }
 
-// The session on an input whose map has at least three bytes, with an empty table and store for its slots.
+// The session on an input whose map is open in the table, with an empty store for its slots.
 pub fn session(
     input: &[u8],
     layout: Layout,
+    n: u32,
     slots: u32,
     table: &mut [u32],
     store: &mut [u32],
     out: &mut [u8],
 ) -> usize
     requires { ⌜ Laid (now input) layout ⌝ }
-    requires { ⌜ (3 ≤ layout .map) × (slots ≡ mapSlots (now input)) × (slots ≤ maxSlots) ⌝ }
-    requires { ⌜ (now table ≡ replicate (tableSize slots) 0) × (now store ≡ replicate (16 * slots) 0) ⌝ }
+    requires { ⌜ MapOpen (mapBytes (now input)) n slots ⌝ }
+    requires { ⌜ Stands (now input) slots 0 (now table) (now store) ⌝ }
     requires { ⌜ longest ≤ length (now out) ⌝ }
     ensures { λ r. ⌜ Wrote (now (input .entry)) (now (out .entry)) r (now (out .exit)) ⌝ }
 {
-    let n = wide(input[2]);
-    let answer = load(input, layout, n, slots, table);
-    let k = number(answer);
-    if k != 0 {
-        return refused_line(out, 0, k);
-    }
     let at = edits(input, layout, n, slots, table, store, out);
     let size = slots as usize;
     let live = tally(size, table, 1);

@@ -1,10 +1,10 @@
 // The lines of the bench program.
 use crate::answer::shown;
-use lines::answer::number;
-use lines::decimal;
-use lines::field;
-use lines::text;
 use model::Answer;
+use program::answer::number;
+use program::lines::decimal;
+use program::lines::field;
+use program::lines::text;
 ghost use Prim.Native.Nat.{_+_, _≤_};
 ghost use lib.ListN.{length};
 ghost use Rattle.numbers.specs.Places.{Put};

@@ -7,6 +7,7 @@ use native.Mathlib.Omega.{arith}
 use lib.ListN.{length}
 use borrow.Author.Needs.{needs}
 use denote.Ref.{now}
+use Rattle.program.specs.Opening.{longestFile}
 use Rattle.bench.specs.Bench.{framed, longestScheme, mostDarts}
 use Rattle.bench.proofs.FramingLaws.{count-of, fault}
 use Rattle.bench.proofs.framing.frame.Statement.{statement}
@@ -14,7 +15,7 @@ use Rattle.bench.proofs.framing.frame.Tie as tie
 
 -- the three counts are read, and one of them, or the length, is wrong
 ended : (c : tie.After-two3) → let second = c .before .before .before in let first = second .before .before .before in
-    (first .two .result .value ≤ 14345 → second .two2 .result .value ≤ longestScheme → c .two3 .result .value ≤ mostDarts
+    (first .two .result .value ≤ longestFile → second .two2 .result .value ≤ longestScheme → c .two3 .result .value ≤ mostDarts
     → length (now (first .before .before .before .args .input)) ≡ 6 + first .two .result .value + second .two2 .result .value + 2 * c .two3 .result .value → ⊥)
     → framed (now (first .before .before .before .args .input)) ≡ false
 ended c f =

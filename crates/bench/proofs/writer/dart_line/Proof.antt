@@ -8,7 +8,7 @@ use borrow.Author.Needs.{needs}
 use Rattle.model.specs.Answer.{number}
 use Rattle.bench.specs.Bench.{shown, dartLine}
 use Rattle.model.specs.declared.Answer.{Answer}
-use Rattle.lines.proofs.LineLaws.{digits}
+use Rattle.program.proofs.LineLaws.{digits}
 use Rattle.bench.proofs.LineLaws.{dart-length, dart-put}
 use Rattle.bench.specs.declared.answer.Values.{Values}
 use Rattle.bench.proofs.writer.dart_line.Statement.{statement}

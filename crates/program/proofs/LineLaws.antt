@@ -7,8 +7,8 @@ use native.Mathlib.Omega.{arith}
 use lib.ListN.{length, length-append}
 use Rattle.numbers.specs.Places.{Put}
 use Rattle.numbers.proofs.PlaceLaws.{put-then}
-use Rattle.lines.specs.Lines.{decimal, space, lineFeed, refusedWord, refusedLine}
-use Rattle.lines.proofs.DecimalLaws.{decimal-short}
+use Rattle.program.specs.Lines.{decimal, space, lineFeed, refusedWord, refusedLine}
+use Rattle.program.proofs.DecimalLaws.{decimal-short}
 
 -- how many digits v has
 abbrev pub digits : ℕ → ℕ

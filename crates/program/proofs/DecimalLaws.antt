@@ -11,7 +11,7 @@ use lib.Dec.{ltb}
 use lib.ListN.{length, length-append}
 use borrow.Author.Tests.{lt-ltb, le-ltb, ltb-true, ltb-false}
 use Rattle.base.proofs.TestLaws.{true-or-false}
-use Rattle.lines.specs.Lines.{spelled, decimal}
+use Rattle.program.specs.Lines.{spelled, decimal}
 
 tenth : (k v : ℕ) → v < 10 ^ suc k → v / 10 < 10 ^ k
 tenth k v h = div-lt-iff-lt-mul {k = 10} {x = v} {y = 10 ^ k} (omega arith) .1 (rw pow-suc at h)

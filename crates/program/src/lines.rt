@@ -1,12 +1,10 @@
 // The line writer: fixed bytes and numbers in decimal go to a place of the output, and the place after them comes back.
-pub mod answer;
-
 ghost use mathlib.Core.Path.{_≡_};
 ghost use mathlib.Core.List.{_++_};
 ghost use Prim.Native.Nat.{_+_, _%_, _≤_};
 ghost use lib.ListN.{length};
 ghost use Rattle.numbers.specs.Places.{Put};
-ghost use Rattle.lines.specs.Lines.{decimal as decimalOf, refusedLine};
+ghost use Rattle.program.specs.Lines.{decimal as decimalOf, refusedLine};
 
 // Fixed bytes.
 pub fn text(out: &mut [u8], at: usize, bytes: &[u8]) -> usize

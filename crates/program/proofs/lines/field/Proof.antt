@@ -1,12 +1,12 @@
--- `lines::field` meets its contract.
+-- `program::lines::field` meets its contract.
 -- Assumes nothing.
 use borrow.Author.Needs.{needs}
 use denote.Ref.{now}
-use Rattle.lines.specs.Lines.{decimal}
+use Rattle.program.specs.Lines.{decimal}
 use Rattle.numbers.proofs.PlaceLaws.{put-then}
-use Rattle.lines.proofs.WriterLaws.{room-first, room-left}
-use Rattle.lines.proofs.field.Statement.{statement}
-use Rattle.lines.proofs.field.Tie as tie
+use Rattle.program.proofs.WriterLaws.{room-first, room-left}
+use Rattle.program.proofs.lines.field.Statement.{statement}
+use Rattle.program.proofs.lines.field.Tie as tie
 
 text-requires : tie.Need-text-requires
 text-requires c κs = let s = c .before .before .before in room-first (now (s .args .out)) _ (now (s .args .lead)) _ (s .pre)

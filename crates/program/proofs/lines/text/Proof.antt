@@ -1,4 +1,4 @@
--- `lines::text` meets its contract. The loop's invariant: the first i bytes are written.
+-- `program::lines::text` meets its contract. The loop's invariant: the first i bytes are written.
 -- Assumes nothing.
 use Prim.Native.Nat.{_-_, _≤_}
 use mathlib.Core.Path.{_≡_, refl}
@@ -6,9 +6,9 @@ use native.Mathlib.Omega.{arith}
 use lib.ListN.{length, take, length-set}
 use lib.Seq.{sets}
 use borrow.Author.Needs.{needs}
-use Rattle.lines.proofs.WriterLaws.{text-more, text-all}
-use Rattle.lines.proofs.text.Statement.{statement}
-use Rattle.lines.proofs.text.Tie as tie
+use Rattle.program.proofs.WriterLaws.{text-more, text-all}
+use Rattle.program.proofs.lines.text.Statement.{statement}
+use Rattle.program.proofs.lines.text.Tie as tie
 
 abbrev Inv-loop : tie.InvT-loop
 Inv-loop out₀ at bytes i₀ out i = (i ≤ length bytes) × (length out ≡ length out₀) × (out ≡ sets out₀ at (take i bytes))

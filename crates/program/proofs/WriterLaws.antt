@@ -10,8 +10,8 @@ use lib.Seq.{sets, take-suc, length-take-le, take-length}
 use Rattle.base.proofs.ListLaws.{sets-sets}
 use Rattle.numbers.specs.Places.{Put}
 use Rattle.numbers.proofs.PlaceLaws.{put-then, put-length}
-use Rattle.lines.specs.Lines.{decimal}
-use Rattle.lines.proofs.DecimalLaws.{decimal-one, decimal-more}
+use Rattle.program.specs.Lines.{decimal}
+use Rattle.program.proofs.DecimalLaws.{decimal-one, decimal-more}
 
 -- one byte more of s
 pub text-more : (l : List ℕ) (at : ℕ) (s l' : List ℕ) (i : ℕ) → i < length s → l' ≡ sets l at (take i s)

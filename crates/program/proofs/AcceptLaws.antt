@@ -1,14 +1,14 @@
--- The refusals of the bench program's map: loading it and then checking it refuses with 1, 11 and 7 in this order.
+-- The refusals of a map file that is opened: 11 where it names no n and N, and then, by its load and the check, 1, 11 and 7 in this order.
 -- Assumes nothing.
 use Prim.Native.Nat.{ℕ}
 use mathlib.Core.Path.{_≡_, refl, ap, _∙_}
 use mathlib.Core.Bool.{Bool, true, false, not, cond}
 use mathlib.Core.Option.{Option·getD}
 use mathlib.Core.List.{List}
-use lib.ListN.{replicate}
-use lib.Dec.{eqb}
+use lib.ListN.{length}
+use lib.Dec.{eqb, leb}
 use Rattle.base.specs.First.{someIf, _orElse_}
-use Rattle.model.specs.Map.{tableSize, view}
+use Rattle.model.specs.Map.{view}
 use Rattle.model.specs.WellFormed.{wellFormed}
 use Rattle.model.specs.File.{fileForm, fileMap}
 use Rattle.model.specs.Answer.{number}
@@ -17,7 +17,7 @@ use Rattle.model.specs.declared.Answer.{Answer}
 use Rattle.model.specs.declared.Answer.the-variants.{Done, BadCall, BadTable, BadFile}
 use Rattle.model.proofs.AlikeLaws.{words-formed}
 use Rattle.model.proofs.HoldsLaws.{dimension-small, load-table, load-slotted}
-use Rattle.bench.specs.Bench.{mapBytes, mapDimension, mapSlots, mapLoaded, mapAnswer, tableAfter}
+use Rattle.program.specs.Opening.{emptyTable, fileDimension, fileSlots, fileLoaded, fileTable, openAnswer}
 
 -- the first of three refusals
 abbrev firstOf : Bool → Bool → Bool → Answer
@@ -41,18 +41,27 @@ composed false form well c h = refl
 composed true false well c h = refl
 composed true true well c h = h refl refl
 
-module _ (b : List ℕ) where
+module _ (f : List ℕ) where
   abbrev n : ℕ
-  n = mapDimension b
+  n = fileDimension f
 
   abbrev N : ℕ
-  N = mapSlots b
+  N = fileSlots f
 
-  abbrev t : List ℕ
-  t = replicate (tableSize N) 0
+  -- the load and the check, of a file that names n and N
+  taken-refusals : cond (eqb (number (fileLoaded f)) 0) (checkTable n N (fileTable f)) (fileLoaded f)
+      ≡ firstOf (sizesOk n N (emptyTable N)) (fileForm n N f) (wellFormed n (fileMap n N f))
+  unfolding fileLoaded fileTable loadAnswer loadFault loadFaultAt
+  taken-refusals = composed (sizesOk n N (emptyTable N)) (fileForm n N f) (wellFormed n (fileMap n N f)) _ (check-loaded n N (emptyTable N) f)
 
   -- written out, to be read beside the order of the rules
-  pub map-refusals : mapAnswer b ≡ Option·getD (someIf (not (sizesOk n N t)) BadCall orElse someIf (not (fileForm n N (mapBytes b))) BadFile
-      orElse someIf (not (wellFormed n (fileMap n N (mapBytes b)))) BadTable) Done
-  unfolding mapAnswer mapLoaded tableAfter loadAnswer loadFault loadFaultAt
-  map-refusals = composed (sizesOk n N t) (fileForm n N (mapBytes b)) (wellFormed n (fileMap n N (mapBytes b))) _ (check-loaded n N t (mapBytes b))
+  pub open-refusals : openAnswer f ≡ Option·getD (someIf (not (leb 3 (length f))) BadFile orElse someIf (not (sizesOk n N (emptyTable N))) BadCall
+      orElse someIf (not (fileForm n N f)) BadFile orElse someIf (not (wellFormed n (fileMap n N f))) BadTable) Done
+  unfolding openAnswer someIf _orElse_
+  open-refusals = go (leb 3 (length f))
+    where
+      go : (long : Bool) → cond long (cond (eqb (number (fileLoaded f)) 0) (checkTable n N (fileTable f)) (fileLoaded f)) BadFile
+          ≡ Option·getD (someIf (not long) BadFile orElse someIf (not (sizesOk n N (emptyTable N))) BadCall
+          orElse someIf (not (fileForm n N f)) BadFile orElse someIf (not (wellFormed n (fileMap n N f))) BadTable) Done
+      go true = taken-refusals
+      go false = refl

@@ -1,4 +1,4 @@
--- `lines::decimal` meets its contract. The measure is the number itself, of which each call drops the last digit.
+-- `program::lines::decimal` meets its contract. The measure is the number itself, of which each call drops the last digit.
 -- Assumes nothing.
 use Prim.Native.Nat.{ℕ, _+_, _≤_, _<_}
 use native.Mathlib.Omega.{arith}
@@ -7,14 +7,14 @@ use borrow.Author.Needs.{needs}
 use borrow.Fn.Kinds.{In}
 use borrow.Fn.PlainCycle.{Measures, is, falls, and}
 use denote.Ref.{now}
-use Rattle.lines.proofs.DecimalLaws.{decimal-some}
-use Rattle.lines.proofs.WriterLaws.{tens-room, last-room, put-last, put-only}
-use Rattle.lines.proofs.+decimal.Lts-decimal as decimal-lts
-use Rattle.lines.proofs.+decimal.{statement}
-use Rattle.lines.proofs.decimal.Kinds as decimal-kinds
-use Rattle.lines.proofs.decimal.Reads as decimal
-use Rattle.lines.proofs.digit.Reads as digit-reads
-use Rattle.lines.proofs.+decimal.Tie.{close}
+use Rattle.program.proofs.DecimalLaws.{decimal-some}
+use Rattle.program.proofs.WriterLaws.{tens-room, last-room, put-last, put-only}
+use Rattle.program.proofs.lines.+decimal.Lts-decimal as decimal-lts
+use Rattle.program.proofs.lines.+decimal.{statement}
+use Rattle.program.proofs.lines.decimal.Kinds as decimal-kinds
+use Rattle.program.proofs.lines.decimal.Reads as decimal
+use Rattle.program.proofs.lines.digit.Reads as digit-reads
+use Rattle.program.proofs.lines.+decimal.Tie.{close}
 
 abbrev μ-decimal : Measures 1 decimal-kinds.ps ℕ
 μ-decimal κs a = a .1 .1 .0

@@ -1,10 +1,10 @@
--- `lines::refused_line` meets its contract: its two parts are the line.
+-- `program::lines::refused_line` meets its contract: its two parts are the line.
 -- Assumes nothing.
 use native.Mathlib.Omega.{arith}
 use borrow.Author.Needs.{needs}
-use Rattle.lines.proofs.LineLaws.{refused-length, refused-put}
-use Rattle.lines.proofs.refused_line.Statement.{statement}
-use Rattle.lines.proofs.refused_line.Tie as tie
+use Rattle.program.proofs.LineLaws.{refused-length, refused-put}
+use Rattle.program.proofs.lines.refused_line.Statement.{statement}
+use Rattle.program.proofs.lines.refused_line.Tie as tie
 
 slice-aggregate-field : tie.Need-slice-aggregate-field
 slice-aggregate-field c = search needs

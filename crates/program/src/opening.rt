@@ -1,0 +1,64 @@
+// Opening a map file by the n and the number of slots that it names itself.
+use crate::answer::number;
+use model::MAX_SLOTS;
+use numbers::Cursor;
+use table::words::RECORD;
+use table::words::size;
+ghost use mathlib.Core.Path.{_≡_};
+ghost use lib.ListN.{length};
+ghost use Rattle.model.specs.Answer.{number as numberOf};
+ghost use Rattle.model.specs.Map.{tableSize, maxSlots};
+ghost use Rattle.model.specs.Calls.{loadTable};
+ghost use Rattle.program.specs.Opening.{Named, openAnswer, openTable, OpenedAs};
+
+// The greatest length of a map file.
+pub const LONGEST_FILE: usize = 14345;
+
+// The words of a table for the greatest number of slots.
+pub const TABLE: usize = RECORD * MAX_SLOTS as usize;
+
+// A map that is open, or the number of the refusal.
+pub enum Opened {
+    Map { n: u32, slots: u32 },
+    Refused(u32),
+}
+
+// Loads the file's map in a table for its slots, and checks it where it is loaded; gives the number of the answer.
+fn load(file: &[u8], n: u32, slots: u32, table: &mut [u32]) -> u32
+    requires { ⌜ Named (now file) n slots ⌝ }
+    requires { ⌜ length (now table) ≡ tableSize slots ⌝ }
+    ensures { λ r. ⌜ r ≡ numberOf (openAnswer (now (file .entry))) ⌝ }
+    ensures { λ _. ⌜ now (table .exit) ≡ loadTable n slots (now (table .entry)) (now (file .entry)) ⌝ }
+{
+    let loaded = number(kernel::load(n, slots, table, file));
+    if loaded != 0 {
+        return loaded;
+    }
+    number(kernel::check_table(n, slots, table))
+}
+
+// Loads the file's map at the start of a table for the greatest number of slots, by the n and the number of slots that the file names, and
+// checks it.
+pub fn open(file: &[u8], table: &mut [u32]) -> Opened
+    requires { ⌜ length (now table) ≡ tableSize maxSlots ⌝ }
+    ensures { λ r. ⌜ OpenedAs (now (file .entry)) r ⌝ }
+    ensures { λ _. ⌜ now (table .exit) ≡ openTable (now (file .entry)) (now (table .entry)) ⌝ }
+{
+    if file.len() < 3 {
+        return Opened::Refused(11);
+    }
+    let start = Cursor { at: 0 };
+    let first = start.one(file);
+    let n = first.value;
+    let next = first.next;
+    let slots = next.two(file).value;
+    if MAX_SLOTS < slots {
+        return Opened::Refused(1);
+    }
+    let words = size(slots);
+    let k = load(file, n, slots, &mut table[..words]);
+    if k != 0 {
+        return Opened::Refused(k);
+    }
+    Opened::Map { n: n, slots: slots }
+}
