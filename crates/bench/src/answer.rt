@@ -28,6 +28,18 @@ pub fn shown(a: Answer) -> Values
             added: 0,
             deleted: 0,
         },
+        Answer::Counted {
+            live,
+            vertices,
+            edges,
+            faces: _,
+            pieces: _,
+            volumes: _,
+        } => Values {
+            orbit: live,
+            added: vertices,
+            deleted: edges,
+        },
         _ => Values {
             orbit: 0,
             added: 0,

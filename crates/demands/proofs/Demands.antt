@@ -13,7 +13,7 @@ use Rattle.model.specs.Scheme.{inForm, schemeOf}
 use Rattle.model.specs.Accepted.{Accepted}
 use Rattle.model.specs.Answer.{number, values, Answers}
 use Rattle.model.specs.Calls.{bytesFault, checkScheme}
-use Rattle.model.specs.Sequence.{Request, tableCheck, schemeCheck, edit, load, write, Outcome, outcomeOf, outcome, Event, knownOf, AlikeEvents}
+use Rattle.model.specs.Sequence.{Request, tableCheck, schemeCheck, edit, count, load, write, Outcome, outcomeOf, outcome, Event, knownOf, AlikeEvents}
 use Rattle.model.specs.declared.Answer.{Answer}
 use Rattle.model.specs.declared.Answer.the-variants.{Done}
 use Rattle.model.proofs.AnswerLaws.{answers-same}
@@ -25,8 +25,8 @@ use Rattle.demands.specs.Refusals.{Refusal, FirstOf}
 use Rattle.demands.specs.Ours.{ours}
 use Rattle.demands.specs.Runs.{Allowed}
 use Rattle.demands.specs.Demands.{Demand1, Demand2, Demand3}
-use Rattle.demands.proofs.OrderLaws.{table-order, scheme-order, edit-order, load-order, write-order}
-use Rattle.demands.proofs.RefusalLaws.{done-none, bytes-within, refused-edit, edit-one, edit-others, load-one, load-eleven, refused-write}
+use Rattle.demands.proofs.OrderLaws.{table-order, scheme-order, edit-order, count-order, load-order, write-order}
+use Rattle.demands.proofs.RefusalLaws.{done-none, bytes-within, refused-edit, edit-one, edit-others, count-one, count-others, load-one, load-eleven, refused-write}
 use Rattle.demands.proofs.AdmitLaws.{no-match, nine-is, free-applicable, edit-done}
 use Rattle.demands.proofs.RunLaws.{AlikeCall, alike-runs}
 use Rattle.demands.proofs.FileDemandLaws.{load-filed, write-done, written-loaded, accepted-written}
@@ -42,11 +42,14 @@ demand1 = record {
   tableOrder = λ n N t r p. order-of _ _ (p .answer) (table-order n N t);
   schemeOrder = λ b r p. order-of _ _ (p .answer) (scheme-order b);
   editOrder = λ n N t store b d r t′ store′ p. order-of _ _ (p .answer) (edit-order n N t store b d);
+  countOrder = λ n N t store r store′ p. order-of _ _ (p .answer) (count-order n N t store);
   loadOrder = λ n N t b r t′ p. order-of _ _ (p .answer) (load-order n N t b);
   writeOrder = λ n N t out r out′ p. order-of _ _ (p .answer) (write-order n N t out);
   refusedEdit = λ n N t store b d r t′ store′ p h. p .table ∙ refused-edit n N t store b d (λ e. h (p .answer .sameNumber ∙ e));
   editAfterOne = λ n N t store b d r t′ store′ p e. p .cleared ∙ edit-one n N t store b d (sym (p .answer .sameNumber) ∙ e);
   editAfterOthers = λ n N t store b d r t′ store′ p h. p .cleared ∙ edit-others n N t store b d (λ e. h (p .answer .sameNumber ∙ e));
+  countAfterOne = λ n N t store r store′ p e. p .cleared ∙ count-one n N t store true (sym (p .answer .sameNumber) ∙ e);
+  countAfterOthers = λ n N t store r store′ p h. p .cleared ∙ count-others n N t store true (λ e. h (p .answer .sameNumber ∙ e));
   loadAfterOne = λ n N t b r t′ p e. p .table ∙ load-one n N t b (sym (p .answer .sameNumber) ∙ e);
   loadAfterEleven = λ n N t b r t′ p e. p .table ∙ load-eleven n N t b (sym (p .answer .sameNumber) ∙ e);
   loadDone = load-filed;
@@ -94,6 +97,7 @@ unfolding outcomeOf
 outcome-is n N t tableCheck l o p = λ i. record { answer = answers-same (p .0 .answer) i; table = p .1 i; lent = p .2 i }
 outcome-is n N t (schemeCheck b) l o p = λ i. record { answer = answers-same (p .0 .answer) i; table = p .1 i; lent = p .2 i }
 outcome-is n N t (edit b d) l o p = λ i. record { answer = answers-same (p .answer) i; table = p .table i; lent = p .cleared i }
+outcome-is n N t count l o p = λ i. record { answer = answers-same (p .0 .answer) i; table = p .1 i; lent = p .0 .cleared i }
 outcome-is n N t (load b) l o p = λ i. record { answer = answers-same (p .0 .answer) i; table = p .0 .table i; lent = p .1 i }
 outcome-is n N t write l o p = λ i. record { answer = answers-same (p .0 .answer) i; table = p .1 i; lent = p .0 .output i }
 

@@ -7,7 +7,7 @@ use Rattle.model.specs.Answer.{Answers}
 use Rattle.model.specs.declared.Darts.{Darts}
 use Rattle.model.specs.declared.Answer.{Answer}
 use Rattle.model.proofs.AnswerLaws.{answers-same}
-use Rattle.demands.specs.Promises.{TableChecked, SchemeChecked, MapEdited, FileLoaded, FileWritten}
+use Rattle.demands.specs.Promises.{TableChecked, SchemeChecked, MapEdited, MapCounted, FileLoaded, FileWritten}
 
 one-answer : {r r₂ a : Answer} → Answers r a → Answers r₂ a → r ≡ r₂
 one-answer p q = answers-same p ∙ sym (answers-same q)
@@ -21,6 +21,10 @@ one-scheme-check p q = one-answer (p .answer) (q .answer)
 pub one-edit : {n N : ℕ} {t store b : List ℕ} {d : Darts} {r r₂ : Answer} {t′ t₂ store′ store₂ : List ℕ}
     → MapEdited n N t store b d r t′ store′ → MapEdited n N t store b d r₂ t₂ store₂ → (r ≡ r₂) × (t′ ≡ t₂) × (store′ ≡ store₂)
 one-edit p q = (one-answer (p .answer) (q .answer), p .table ∙ sym (q .table), p .cleared ∙ sym (q .cleared))
+
+pub one-count : {n N : ℕ} {t store : List ℕ} {r r₂ : Answer} {store′ store₂ : List ℕ}
+    → MapCounted n N t store r store′ → MapCounted n N t store r₂ store₂ → (r ≡ r₂) × (store′ ≡ store₂)
+one-count p q = (one-answer (p .answer) (q .answer), p .cleared ∙ sym (q .cleared))
 
 pub one-load : {n N : ℕ} {t b : List ℕ} {r r₂ : Answer} {t′ t₂ : List ℕ} → FileLoaded n N t b r t′ → FileLoaded n N t b r₂ t₂ → (r ≡ r₂) × (t′ ≡ t₂)
 one-load p q = (one-answer (p .answer) (q .answer), p .table ∙ sym (q .table))

@@ -1,6 +1,6 @@
 -- Demand 1: each call answers with the first refusal of its list that applies, number and values, and is done where none does.
 -- Assumes nothing.
-use Prim.Native.Nat.{ℕ, _*_, _<_}
+use Prim.Native.Nat.{ℕ, _+_, _*_, _≤_, _<_}
 use mathlib.Core.Path.{_≡_, refl, sym, ap, _∙_, subst}
 use mathlib.Core.Logic.{inl, inr, _↔_}
 use mathlib.Core.Bool.{Bool, true, false, not, true≢false}
@@ -8,12 +8,15 @@ use mathlib.Core.Option.{Option, none, some, Option·getD}
 use mathlib.Core.List.{List, [], _∷_}
 use lib.ListN.{length}
 use lib.Dec.{eqb, ltb}
-use borrow.Author.Tests.{eqb-true, eq-eqb, ltb-true, lt-ltb}
+use borrow.Author.Tests.{eqb-true, eq-eqb, ne-eqb, ltb-true, lt-ltb}
+use native.Mathlib.Omega.{arith}
 use Rattle.base.specs.Below.{countBelow}
 use Rattle.base.specs.First.{someIf, _orElse_}
-use Rattle.base.proofs.TestLaws.{and-left, and-right, and-of}
+use Rattle.base.proofs.TestLaws.{and-left, and-right, and-of, same-test}
+use Rattle.base.proofs.BelowLaws.{count-same}
 use Rattle.base.proofs.FirstLaws.{or-else-last}
-use Rattle.model.specs.Map.{view, unused}
+use Rattle.model.specs.Map.{Map, view, unused}
+use Rattle.model.specs.Count.{smallest, cells, allBut, all, counts}
 use Rattle.model.specs.WellFormed.{WellFormed}
 use Rattle.model.specs.Scheme.{inForm, schemeOf}
 use Rattle.model.specs.Accepted.{Accepted}
@@ -23,18 +26,20 @@ use Rattle.model.specs.File.{file, fileForm}
 use Rattle.model.specs.Answer.{number, values}
 use Rattle.model.specs.Site.{Site, Sound}
 use Rattle.model.specs.Calls.{Sizes, sizesOk, mapFault, tableFault, checkTable, bytesFault, checkScheme, takes, fitFault, siteFault, siteDone}
-use Rattle.model.specs.Calls.{siteOf, storedOk, editFaultAt, editFault, editAnswer, loadFaultAt, loadFault, loadAnswer, writeFaultAt, writeFault, writeAnswer}
+use Rattle.model.specs.Calls.{siteOf, storedOk, editFaultAt, editFault, editAnswer, countFaultAt, countDone, countFault, countAnswer}
+use Rattle.model.specs.Calls.{loadFaultAt, loadFault, loadAnswer, writeFaultAt, writeFault, writeAnswer}
 use Rattle.model.specs.declared.Darts.{Darts}
 use Rattle.model.specs.declared.Answer.{Answer}
-use Rattle.model.specs.declared.Answer.the-variants.{Done, BadHook, BadIncidence}
+use Rattle.model.specs.declared.Answer.the-variants.{Done, BadHook, BadIncidence, ShortOutput}
 use Rattle.model.proofs.WellFormedLaws.{wellFormed-iff}
 use Rattle.model.proofs.SizeLaws.{sizes-iff}
+use Rattle.model.proofs.CountLaws.{smallest-iff, all-but-small}
 use Rattle.model.proofs.SchemeLaws.{shaped}
 use Rattle.model.proofs.AcceptedLaws.{accepted, noted-at, noted-none}
 use Rattle.model.proofs.CallLaws.{darts-alone}
 use Rattle.demands.specs.Refusals.{Refusal, bare, FirstOf, Nothing, hookRefusal, incidenceRefusal, cycleRefusal, schemeRefusals}
-use Rattle.demands.specs.Refusals.{Matched, Crowded, tableRefusals, editRefusals, loadRefusals, writeRefusals}
-use Rattle.demands.specs.Demands.{Counted}
+use Rattle.demands.specs.Refusals.{Matched, Crowded, tableRefusals, editRefusals, countRefusals, loadRefusals, writeRefusals}
+use Rattle.demands.specs.Demands.{Counted, Cells, Numbers}
 use Rattle.demands.proofs.FaultLaws.{hook-found, hook-nowhere, incidence-found, incidence-nowhere, cycle-found, cycle-nowhere}
 use Rattle.demands.proofs.FaultLaws.{many-iff, taken-iff, darts-iff, orbit-of, site-one, matched-iff}
 
@@ -150,13 +155,52 @@ module _ (n N : ℕ) (t out : List ℕ) where
   write-order = table-chain n N t _ _ _ _ (λ s w. order-found 12 _ (ltb (length out) (length (file n (view N t))))
       ((λ e. ltb-true _ _ e), (λ e. lt-ltb _ _ e)) _ _ refl refl (λ no. (refl, refl)))
 
-module _ (n N : ℕ) (t store b : List ℕ) (d : Darts) where
-  sizes-store : (storedOk n N t store ≡ true) ↔ (Sizes n N t × (length store ≡ 16 * N))
-  sizes-store = (
-    (λ e. (sizes-iff n N t .0 (and-left _ _ e), eqb-true _ _ (and-right _ _ e))),
-    (λ p. and-of (sizes-iff n N t .1 (p .0)) (eq-eqb _ _ (p .1))),
-  )
+sizes-store : (n N : ℕ) (t store : List ℕ) → (storedOk n N t store ≡ true) ↔ (Sizes n N t × (length store ≡ 16 * N))
+sizes-store n N t store = (
+  (λ e. (sizes-iff n N t .0 (and-left _ _ e), eqb-true _ _ (and-right _ _ e))),
+  (λ p. and-of (sizes-iff n N t .1 (p .0)) (eq-eqb _ _ (p .1))),
+)
 
+-- the computed cells are the cells
+cells-are : (m : Map) (k : ℕ) (dim : ℕ → ℕ) (n : ℕ) → WellFormed n m → ((p : ℕ) → p < k → dim p ≤ n) → Cells m k dim (cells m k dim)
+unfolding cells
+cells-are m k dim n w dims = record { smallest = smallest m k dim; is = λ x h. smallest-iff m k dim n w dims x h; many = refl }
+
+-- and no other number of them is
+pub cells-only : (m : Map) (k : ℕ) (dim : ℕ → ℕ) (n : ℕ) → WellFormed n m → ((p : ℕ) → p < k → dim p ≤ n) → {c : ℕ} → Cells m k dim c → c ≡ cells m k dim
+unfolding cells
+cells-only m k dim n w dims C = C .many ∙ count-same (m .slots) _ _ (λ x h.
+    let i = smallest-iff m k dim n w dims x h in
+    same-test _ _ (λ e. i .1 (C .is x h .0 e)) (λ e. C .is x h .1 (i .0 e)))
+
+numbers-are : (n N : ℕ) (t : List ℕ) → WellFormed n (view N t) → Numbers n N t (counts n (view N t))
+unfolding counts
+numbers-are n N t w =
+    let m = view N t in
+    record {
+      six = refl;
+      darts = refl;
+      vertices = cells-are m n (allBut 0) n w (all-but-small n 0);
+      edges = cells-are m n (allBut 1) n w (all-but-small n 1);
+      faces = cells-are m n (allBut 2) n w (all-but-small n 2);
+      pieces = cells-are m (n + 1) all n w (λ p h. omega arith);
+      volumes = λ e. rw (eq-eqb n 3 e) (cells-are m n (allBut 3) n w (all-but-small n 3));
+      flat = λ e. rw (ne-eqb n 3 (λ u. absurd (omega arith))) refl;
+    }
+
+module _ (n N : ℕ) (t store : List ℕ) where
+  -- where the numbers are asked for in no output, 12 is not given
+  count-found : WellFormed n (view N t)
+      → FirstOf [] (Numbers n N t) (Option·getD (someIf (not true) ShortOutput) (countDone (counts n (view N t))))
+  unfolding FirstOf someIf countDone counts
+  count-found w = (refl, numbers-are n N t w)
+
+  pub count-order : FirstOf (countRefusals n N t store) (Numbers n N t) (countAnswer n N t store true)
+  unfolding countAnswer countFault countFaultAt
+  count-order = order-test 1 _ (Numbers n N t) _ (sizes-store n N t store) _ _ _ refl refl
+      (λ s. order-test 7 [] (Numbers n N t) _ (wellFormed-iff n (view N t)) _ _ _ refl refl count-found)
+
+module _ (n N : ℕ) (t store b : List ℕ) (d : Darts) where
   dimension-iff : (eqb (schemeOf b .n) n ≡ true) ↔ (schemeOf b .n ≡ n)
   dimension-iff = (eqb-true _ _, eq-eqb _ _)
 
@@ -176,7 +220,7 @@ module _ (n N : ℕ) (t store b : List ℕ) (d : Darts) where
 
   pub edit-order : FirstOf (editRefusals n N t store b d) (Counted N t b d) (editAnswer n N t store b d)
   unfolding editAnswer editFault editFaultAt siteFault
-  edit-order = order-test 1 _ (Counted N t b d) _ sizes-store _ _ _ refl refl
+  edit-order = order-test 1 _ (Counted N t b d) _ (sizes-store n N t store) _ _ _ refl refl
       (λ s. bytes-order b _ (Counted N t b d) _ _ (takes d b) (taken-iff d b) (λ taken. taken .0)
       (λ taken a. order-test 6 _ (Counted N t b d) _ dimension-iff _ _ _ refl refl
       (λ same. order-test 7 _ (Counted N t b d) _ (wellFormed-iff n (view N t)) _ _ _ refl refl

@@ -2,7 +2,7 @@
 -- Assumes nothing.
 use Prim.Native.Nat.{ℕ}
 use mathlib.Core.List.{List}
-use Rattle.model.specs.Sequence.{Request, tableCheck, schemeCheck, edit, load, write, Outcome, Event}
+use Rattle.model.specs.Sequence.{Request, tableCheck, schemeCheck, edit, count, load, write, Outcome, Event}
 use Rattle.demands.specs.Kernel.{Kernel, Refines}
 use Rattle.demands.specs.Runs.{Allowed, Run, end, next}
 use Rattle.demands.specs.Demands.{Demand1, FileAccepted, Demand2, Demand3}
@@ -13,11 +13,14 @@ module _ (K L : Kernel) (R : Refines K L) where
     tableOrder = λ n N t r p. D .tableOrder n N t r (R .tableCheck n N t r p);
     schemeOrder = λ b r p. D .schemeOrder b r (R .schemeCheck b r p);
     editOrder = λ n N t store b d r t′ store′ p. D .editOrder n N t store b d r t′ store′ (R .edit n N t store b d r t′ store′ p);
+    countOrder = λ n N t store r store′ p. D .countOrder n N t store r store′ (R .count n N t store r store′ p);
     loadOrder = λ n N t b r t′ p. D .loadOrder n N t b r t′ (R .load n N t b r t′ p);
     writeOrder = λ n N t out r out′ p. D .writeOrder n N t out r out′ (R .write n N t out r out′ p);
     refusedEdit = λ n N t store b d r t′ store′ p. D .refusedEdit n N t store b d r t′ store′ (R .edit n N t store b d r t′ store′ p);
     editAfterOne = λ n N t store b d r t′ store′ p. D .editAfterOne n N t store b d r t′ store′ (R .edit n N t store b d r t′ store′ p);
     editAfterOthers = λ n N t store b d r t′ store′ p. D .editAfterOthers n N t store b d r t′ store′ (R .edit n N t store b d r t′ store′ p);
+    countAfterOne = λ n N t store r store′ p. D .countAfterOne n N t store r store′ (R .count n N t store r store′ p);
+    countAfterOthers = λ n N t store r store′ p. D .countAfterOthers n N t store r store′ (R .count n N t store r store′ p);
     loadAfterOne = λ n N t b r t′ p. D .loadAfterOne n N t b r t′ (R .load n N t b r t′ p);
     loadAfterEleven = λ n N t b r t′ p. D .loadAfterEleven n N t b r t′ (R .load n N t b r t′ p);
     loadDone = λ n N t b r t′ p. D .loadDone n N t b r t′ (R .load n N t b r t′ p);
@@ -51,6 +54,7 @@ module _ (K L : Kernel) (R : Refines K L) where
   refined-call n N t tableCheck l o p = (R .tableCheck n N t (o .answer) (p .0), p .1, p .2)
   refined-call n N t (schemeCheck b) l o p = (R .schemeCheck b (o .answer) (p .0), p .1, p .2)
   refined-call n N t (edit b d) l o p = R .edit n N t l b d (o .answer) (o .table) (o .lent) p
+  refined-call n N t count l o p = (R .count n N t l (o .answer) (o .lent) (p .0), p .1)
   refined-call n N t (load b) l o p = (R .load n N t b (o .answer) (o .table) (p .0), p .1)
   refined-call n N t write l o p = (R .write n N t l (o .answer) (o .lent) (p .0), p .1)
 

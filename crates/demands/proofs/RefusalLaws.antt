@@ -9,7 +9,8 @@ use mathlib.Core.List.{List}
 use native.Mathlib.Omega.{arith}
 use Rattle.base.specs.First.{someIf, _orElse_, there}
 use Rattle.base.proofs.FirstLaws.{first-at, when-at, some-not-none}
-use Rattle.model.specs.Map.{tableOf}
+use Rattle.model.specs.Map.{view, tableOf}
+use Rattle.model.specs.WellFormed.{wellFormed}
 use Rattle.model.specs.Answer.{number}
 use Rattle.model.specs.Scheme.{schemeOf}
 use Rattle.model.specs.Conditions.{hookFault, incidenceFault, cycleFault, schemeFault, noted}
@@ -18,12 +19,13 @@ use Rattle.model.specs.File.{fileForm, fileMap}
 use Rattle.model.specs.Site.{Site}
 use Rattle.model.specs.Calls.{zeros, sizesOk, mapFault, tableFault, bytesFault, fitFault, siteFault, siteOf, storedOk, takes}
 use Rattle.model.specs.Calls.{siteDone, editFaultAt, editFault, editAnswer, editTable, editStore}
+use Rattle.model.specs.Calls.{countFaultAt, countDone, countFault, countAnswer, countStore}
 use Rattle.model.specs.Calls.{loadFaultAt, loadFault, loadAnswer, loaded, loadTable, writeFaultAt, writeFault, writeAnswer, writeOut}
 use Rattle.model.proofs.HoldsLaws.{load-table}
 use Rattle.model.specs.declared.Scheme.{Scheme}
 use Rattle.model.specs.declared.Darts.{Darts}
 use Rattle.model.specs.declared.Answer.{Answer}
-use Rattle.model.specs.declared.Answer.the-variants.{Done, BadCall, BadForm, BadHook, BadIncidence, BadFile}
+use Rattle.model.specs.declared.Answer.the-variants.{Done, BadCall, BadForm, BadHook, BadIncidence, BadTable, BadFile, ShortOutput}
 
 pub cond-true : {A : Type 0} (s : Bool) (a b : A) → s ≡ true → cond s a b ≡ a
 cond-true s a b e = rw e
@@ -152,6 +154,28 @@ module _ (n N : ℕ) (t store b : List ℕ) (d : Darts) where
   pub edit-others : (number (editAnswer n N t store b d) ≡ 1 → ⊥) → editStore n N t store b d ≡ zeros store
   unfolding editAnswer editStore editFault editFaultAt editRest siteDone
   edit-others h = cond-true (storedOk n N t store) (zeros store) store (other-right (storedOk n N t store) editRest _ 10 edit-rest refl h)
+
+-- ---- a count
+
+module _ (n N : ℕ) (t store : List ℕ) (enough : Bool) where
+  countRest : Option Answer
+  countRest = someIf (not (wellFormed n (view N t))) BadTable orElse someIf (not enough) ShortOutput
+
+  count-rest : Within 2 12 countRest
+  unfolding countRest
+  count-rest = within-or 2 12 _ _ (within-test 2 12 _ _ (omega arith) (omega arith)) (within-test 2 12 _ _ (omega arith) (omega arith))
+
+  pub count-within : Within 1 12 (countFault n N t store enough)
+  unfolding countFault countFaultAt countRest
+  count-within = within-or 1 12 _ _ (within-test 1 12 _ _ (omega arith) (omega arith)) (within-more 2 12 (omega arith) (omega arith) count-rest)
+
+  pub count-one : number (countAnswer n N t store enough) ≡ 1 → countStore n N t store ≡ store
+  unfolding countAnswer countStore countFault countFaultAt countRest countDone
+  count-one e = cond-false (storedOk n N t store) (zeros store) store (one-wrong (storedOk n N t store) countRest _ 12 count-rest refl e)
+
+  pub count-others : (number (countAnswer n N t store enough) ≡ 1 → ⊥) → countStore n N t store ≡ zeros store
+  unfolding countAnswer countStore countFault countFaultAt countRest countDone
+  count-others h = cond-true (storedOk n N t store) (zeros store) store (other-right (storedOk n N t store) countRest _ 12 count-rest refl h)
 
 -- ---- a load
 

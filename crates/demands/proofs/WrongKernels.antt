@@ -4,6 +4,7 @@
 -- flanges are sewn; one takes them in the wrong order, and works on the other piece where the first is kept and the second dropped.
 -- One more gives new darts the tag of the first hook's dart, whatever their donors are, and is refuted where an edge's other end is renewed.
 -- Kernels that demand 1 shuts out: one whose load refuses a broken map, and one whose load leaves a word of an unused record.
+-- Two more are shut out by how they count: one counts a cell at each of its darts, and one counts volumes with n = 2.
 -- In the kernel that was licensed before, a new dart kept the tag of its slot, which it had from an earlier job: there the label does not follow the metal.
 -- Assumes nothing.
 use Prim.Native.Nat.{ℕ, zero, suc, _<_}
@@ -16,33 +17,39 @@ use lib.ListN.{getD, take, replicate}
 use lib.Dec.{eqb}
 use borrow.Author.Tests.{eqb-false, eq-eqb, not-true}
 use Rattle.base.specs.Test.{_or_, _⇒_}
-use Rattle.base.specs.Below.{allBelow}
+use Rattle.base.specs.Below.{allBelow, countBelow}
 use Rattle.base.specs.First.{there}
 use Rattle.base.proofs.TestLaws.{or-false, if-so}
 use Rattle.base.proofs.BelowLaws.{all-at}
 use Rattle.model.specs.Map.{State, Link, Tag, fieldAt, put, view, live, unused, tableOf, tableSize}
+use Rattle.model.specs.WellFormed.{wellFormed}
+use Rattle.model.specs.Count.{cells, allBut}
 use Rattle.model.specs.Scheme.{schemeOf}
 use Rattle.model.specs.Site.{siteAt}
 use Rattle.model.specs.Edit.{edited}
 use Rattle.model.specs.Answer.{number, values}
 use Rattle.model.specs.File.{darts, slotAt}
 use Rattle.model.specs.Calls.{checkTable, firstDart, secondDart, editFault, editAnswer, editTable, editStore, loadAnswer, loadTable}
-use Rattle.model.specs.Sequence.{Request, tableCheck, schemeCheck, edit, load, write, Outcome, fileOf, knownAfter}
+use Rattle.model.specs.Calls.{countDone, countAnswer, countStore}
+use Rattle.model.specs.Sequence.{Request, tableCheck, schemeCheck, edit, count, load, write, Outcome, fileOf, knownAfter}
 use Rattle.model.specs.declared.Scheme.{Scheme}
 use Rattle.model.specs.declared.Darts.{Darts}
 use Rattle.model.specs.declared.Darts.the-variants.{One, Two}
 use Rattle.model.specs.declared.Answer.{Answer}
-use Rattle.model.specs.declared.Answer.the-variants.{Done, Edited, BadCall, BadTable, NoMatch}
+use Rattle.model.specs.declared.Answer.the-variants.{Done, Edited, Counted, BadCall, BadTable, NoMatch}
+use Rattle.model.proofs.WellFormedLaws.{wellFormed-iff}
+use Rattle.model.proofs.CountLaws.{all-but-small}
 use Rattle.model.proofs.Computes.{computes}
 use Rattle.model.proofs.Samples.{dart, e8, unusedSlots, vBytes, wBytes, store8, vDarts, eFile, brokenFile, fDarts, sewBytes, store4}
 use Rattle.model.proofs.Samples.{renewBytes, renewed}
 use Rattle.demands.specs.Kernel.{Kernel}
 use Rattle.demands.specs.Ours.{ours}
 use Rattle.demands.specs.Runs.{Allowed, AlikeRuns}
-use Rattle.demands.specs.Refusals.{FirstOf, Nothing, loadRefusals, siteOver}
-use Rattle.demands.specs.Demands.{Demand1, Demand2, Demand3}
+use Rattle.demands.specs.Refusals.{FirstOf, Nothing, countRefusals, loadRefusals, siteOver}
+use Rattle.demands.specs.Demands.{Numbers, Demand1, Demand2, Demand3}
 use Rattle.demands.specs.Labels.{Tagged, LabelsFollow}
 use Rattle.demands.proofs.AdmitLaws.{free-applicable, done-is}
+use Rattle.demands.proofs.OrderLaws.{cells-only}
 use Rattle.demands.proofs.RunLaws.{AlikeCall, alike-runs}
 
 -- ---- the kernels
@@ -53,11 +60,13 @@ refusing = record {
   TableCheck = λ n N t r. r ≡ BadCall;
   SchemeCheck = λ b r. r ≡ BadCall;
   Edit = λ n N t store b d r t′ store′. (r ≡ BadCall) × (t′ ≡ t) × (store′ ≡ store);
+  Count = λ n N t store r store′. (r ≡ BadCall) × (store′ ≡ store);
   Load = λ n N t b r t′. (r ≡ BadCall) × (t′ ≡ t);
   Write = λ n N t out r out′. (r ≡ BadCall) × (out′ ≡ out);
   checksTable = λ n N t. (BadCall, refl);
   checksScheme = λ b. (BadCall, refl);
   edits = λ n N t store b d. (BadCall, t, store, (refl, refl, refl));
+  counts = λ n N t store. (BadCall, store, (refl, refl));
   loads = λ n N t b. (BadCall, t, (refl, refl));
   writes = λ n N t out. (BadCall, out, (refl, refl));
 }
@@ -70,12 +79,32 @@ module _ (answer : ℕ → ℕ → List ℕ → List ℕ → List ℕ → Darts 
     TableCheck = ours .TableCheck;
     SchemeCheck = ours .SchemeCheck;
     Edit = λ n N t store b d r t′ store′. (r ≡ answer n N t store b d) × (t′ ≡ table n N t store b d) × (store′ ≡ editStore n N t store b d);
+    Count = ours .Count;
     Load = λ n N t b r t′. (r ≡ loadsAs n N t b) × (t′ ≡ leaves n N t b);
     Write = ours .Write;
     checksTable = ours .checksTable;
     checksScheme = ours .checksScheme;
     edits = λ n N t store b d. (answer n N t store b d, table n N t store b d, editStore n N t store b d, (refl, refl, refl));
+    counts = ours .counts;
     loads = λ n N t b. (loadsAs n N t b, leaves n N t b, (refl, refl));
+    writes = ours .writes;
+  }
+
+-- ours, but for what counts answer
+module _ (answer : ℕ → ℕ → List ℕ → List ℕ → Answer) where
+  abbrev pub counting : Kernel
+  counting = record {
+    TableCheck = ours .TableCheck;
+    SchemeCheck = ours .SchemeCheck;
+    Edit = ours .Edit;
+    Count = λ n N t store r store′. (r ≡ answer n N t store) × (store′ ≡ countStore n N t store);
+    Load = ours .Load;
+    Write = ours .Write;
+    checksTable = ours .checksTable;
+    checksScheme = ours .checksScheme;
+    edits = ours .edits;
+    counts = λ n N t store. (answer n N t store, countStore n N t store, (refl, refl));
+    loads = ours .loads;
     writes = ours .writes;
   }
 
@@ -170,6 +199,16 @@ strict = loading (λ n N t b. cond (eqb (number (loadAnswer n N t b)) 0) (checkT
 -- a load leaves the tag of slot 7 as it was
 abbrev pub leaving : Kernel
 leaving = loading loadAnswer (λ n N t b. put (loadTable n N t b) Tag 7 (fieldAt t Tag 7))
+
+-- a cell is counted at each of its darts
+abbrev pub each-dart : Kernel
+each-dart = counting (λ n N t store. cond (eqb (number (countAnswer n N t store true)) 0)
+    (let d = countBelow N (live (view N t)) in Counted d d d d d (cond (eqb n 3) d 0)) (countAnswer n N t store true))
+
+-- volumes are counted with n = 2 too, where they are the pieces
+abbrev pub thick : Kernel
+thick = counting (λ n N t store. cond (eqb (number (countAnswer n N t store true)) 0)
+    (let v = values (countAnswer n N t store true) in countDone (take 5 v ++ getD v 4 0 ∷ [])) (countAnswer n N t store true))
 
 -- ---- the samples
 
@@ -363,6 +402,39 @@ not-leaving D =
     let zero : _≡_ {A = ℕ} 904 0 = sym left-tag ∙ filed .zero 7 (omega arith) not-there Tag in
     omega arith
 
+-- ---- none of the counts meets demand 1
+
+-- what is returned where E is counted
+module _ (K : Kernel) (D : Demand1 K) where
+  e-numbers : (r : Answer) (store′ : List ℕ) → K .Count 2 8 e8 store8 r store′ → number r ≡ 0 → Numbers 2 8 e8 (values r)
+  unfolding FirstOf
+  e-numbers r store′ p z = go (D .countOrder 2 8 e8 store8 r store′ p)
+    where
+      go : FirstOf (countRefusals 2 8 e8 store8) (Numbers 2 8 e8) r → Numbers 2 8 e8 (values r)
+      go (inl q) = absurd (omega (arith, q .0))
+      go (inr (_, inl q)) = absurd (omega (arith, q .0))
+      go (inr (_, inr (_, q))) = q .1
+
+e-well : wellFormed 2 (view 8 e8) ≡ true
+unfolding computes
+e-well = refl
+
+-- E has one edge
+e-edges : cells (view 8 e8) 2 (allBut 1) ≡ 1
+unfolding computes
+e-edges = refl
+
+pub not-each-dart : Demand1 each-dart → ⊥
+unfolding computes
+not-each-dart D =
+    let numbers = e-numbers each-dart D (Counted 2 2 2 2 2 0) _ (refl, refl) refl in
+    let edges : _≡_ {A = ℕ} 2 1 = cells-only _ 2 (allBut 1) 2 (wellFormed-iff 2 (view 8 e8) .0 e-well) (all-but-small 2 1) (numbers .edges) ∙ e-edges in
+    omega arith
+
+pub not-thick : Demand1 thick → ⊥
+unfolding computes
+not-thick D = let volumes : _≡_ {A = ℕ} 1 0 = e-numbers thick D (Counted 2 2 1 1 1 1) _ (refl, refl) refl .flat refl in omega arith
+
 -- ---- a kernel that gives one answer to everything
 
 -- what demand 3 says of sequences holds of it ..
@@ -370,6 +442,7 @@ left-alone : (n N : ℕ) (t : List ℕ) (q : Request) (l : List ℕ) (o : Outcom
 left-alone n N t tableCheck l o p = (p .0, p .1)
 left-alone n N t (schemeCheck b) l o p = (p .0, p .1)
 left-alone n N t (edit b d) l o p = (p .0, p .1)
+left-alone n N t count l o p = (p .0 .0, p .1)
 left-alone n N t (load b) l o p = (p .0 .0, p .0 .1)
 left-alone n N t write l o p = (p .0 .0, p .1)
 
@@ -377,6 +450,7 @@ no-file : (q : Request) (o : Outcome) → o .answer ≡ BadCall → fileOf q o �
 no-file tableCheck o e = refl
 no-file (schemeCheck b) o e = refl
 no-file (edit b d) o e = refl
+no-file count o e = refl
 no-file (load b) o e = refl
 no-file write o e = ap (λ (r : Answer). take (getD (values r) 0 0) (o .lent)) e
 
@@ -385,6 +459,7 @@ no-more-known : (known : Bool) (q : Request) (a : Answer) → a ≡ BadCall → 
 no-more-known known tableCheck a e k = sym (or-false known) ∙ subst (λ (r : Answer). (known or eqb (number r) 0) ≡ true) e k
 no-more-known known (schemeCheck b) a e k = k
 no-more-known known (edit b d) a e k = k
+no-more-known known count a e k = k
 no-more-known known (load b) a e k = absurd (true≢false (sym k))
 no-more-known known write a e k = k
 

@@ -2,17 +2,19 @@
 -- so does what a program in C sees of it (proofs/Exports.antt); kernels that demand 2 shuts out are in proofs/WrongKernels.antt.
 -- That no call faults or runs on is no statement here: it is part of what proving a function means.
 -- Assumes nothing.
-use Prim.Native.Nat.{ℕ, _*_, _≤_, _<_}
+use Prim.Native.Nat.{ℕ, _+_, _*_, _≤_, _<_}
 use mathlib.Core.Path.{_≡_}
 use mathlib.Core.Logic.{_↔_}
 use mathlib.Core.Bool.{Bool, true}
 use mathlib.Core.List.{List, [], _∷_, _++_}
 use lib.ListN.{length, getD, take, drop, replicate}
 use Rattle.base.specs.Below.{countBelow}
-use Rattle.model.specs.Map.{Map, Field, State, Link, Tag, fieldAt, tableSize, view, tableOf, unused}
+use Rattle.model.specs.Map.{Map, Field, State, Link, Tag, fieldAt, tableSize, view, tableOf, live, unused}
 use Rattle.model.specs.WellFormed.{WellFormed}
 use Rattle.model.specs.Scheme.{inForm, schemeOf}
 use Rattle.model.specs.Accepted.{Accepted}
+use Rattle.model.specs.Orbit.{InOrbit}
+use Rattle.model.specs.Count.{allBut, all}
 use Rattle.model.specs.Site.{Site, LiveDart}
 use Rattle.model.specs.Edit.{orbitSize, addedDarts, deletedDarts}
 use Rattle.model.specs.Rewriting.{Rewriting}
@@ -24,7 +26,7 @@ use Rattle.model.specs.declared.Darts.{Darts}
 use Rattle.model.specs.declared.Answer.{Answer}
 use Rattle.demands.specs.Kernel.{Kernel}
 use Rattle.demands.specs.Runs.{AlikeRuns}
-use Rattle.demands.specs.Refusals.{FirstOf, Nothing, tableRefusals, schemeRefusals, editRefusals, loadRefusals, writeRefusals}
+use Rattle.demands.specs.Refusals.{FirstOf, Nothing, tableRefusals, schemeRefusals, editRefusals, countRefusals, loadRefusals, writeRefusals}
 use Rattle.demands.specs.Refusals.{AsMany, Orbit, siteOver, Matched}
 
 -- ---- demand 1
@@ -36,6 +38,23 @@ counts E = orbitSize E ∷ addedDarts E ∷ deletedDarts E ∷ []
 -- what an edit that is done returns
 abbrev pub Counted : ℕ → List ℕ → List ℕ → Darts → List ℕ → Type 0
 Counted N t b D v = (O : ℕ → Bool) × Orbit N t b D O × (v ≡ counts (siteOver N t b D O))
+
+-- c is the number of orbits of a type, each counted by its smallest dart: a live one from which no smaller one is reached
+pub record Cells (m : Map) (k : ℕ) (dim : ℕ → ℕ) (c : ℕ) : Type 0 where
+  pub smallest : ℕ → Bool
+  pub is : (x : ℕ) → x < m .slots → (smallest x ≡ true) ↔ ((m .state x ≡ 1) × ((y : ℕ) → y < x → InOrbit m k dim x y → ⊥))
+  pub many : c ≡ countBelow (m .slots) smallest
+
+-- what a count that is done returns: live darts, vertices, edges, faces, pieces, volumes
+pub record Numbers (n N : ℕ) (t v : List ℕ) : Type 0 where
+  pub six : length v ≡ 6
+  pub darts : getD v 0 0 ≡ countBelow N (live (view N t))
+  pub vertices : Cells (view N t) n (allBut 0) (getD v 1 0)
+  pub edges : Cells (view N t) n (allBut 1) (getD v 2 0)
+  pub faces : Cells (view N t) n (allBut 2) (getD v 3 0)
+  pub pieces : Cells (view N t) (n + 1) all (getD v 4 0)
+  pub volumes : n ≡ 3 → Cells (view N t) n (allBut 3) (getD v 5 0)
+  pub flat : n ≡ 2 → getD v 5 0 ≡ 0
 
 -- the table t′ holds the records of a file's bytes b, and nothing else
 pub record Filed (n N : ℕ) (b t′ : List ℕ) : Type 0 where
@@ -54,6 +73,8 @@ pub record Demand1 (K : Kernel) : Type 0 where
   pub schemeOrder : (b : List ℕ) (r : Answer) → K .SchemeCheck b r → FirstOf (schemeRefusals (inForm b ≡ true) b []) Nothing r
   pub editOrder : (n N : ℕ) (t store b : List ℕ) (D : Darts) (r : Answer) (t′ store′ : List ℕ) → K .Edit n N t store b D r t′ store′
       → FirstOf (editRefusals n N t store b D) (Counted N t b D) r
+  pub countOrder : (n N : ℕ) (t store : List ℕ) (r : Answer) (store′ : List ℕ) → K .Count n N t store r store′
+      → FirstOf (countRefusals n N t store) (Numbers n N t) r
   pub loadOrder : (n N : ℕ) (t b : List ℕ) (r : Answer) (t′ : List ℕ) → K .Load n N t b r t′ → FirstOf (loadRefusals n N t b) Nothing r
   pub writeOrder : (n N : ℕ) (t out : List ℕ) (r : Answer) (out′ : List ℕ) → K .Write n N t out r out′
       → FirstOf (writeRefusals n N t out) (λ v. v ≡ length (file n (view N t)) ∷ []) r
@@ -63,6 +84,10 @@ pub record Demand1 (K : Kernel) : Type 0 where
   pub editAfterOne : (n N : ℕ) (t store b : List ℕ) (D : Darts) (r : Answer) (t′ store′ : List ℕ) → K .Edit n N t store b D r t′ store′
       → number r ≡ 1 → store′ ≡ store
   pub editAfterOthers : (n N : ℕ) (t store b : List ℕ) (D : Darts) (r : Answer) (t′ store′ : List ℕ) → K .Edit n N t store b D r t′ store′
+      → (number r ≡ 1 → ⊥) → store′ ≡ replicate (length store) 0
+  -- so does the store of a count, which has no record to change
+  pub countAfterOne : (n N : ℕ) (t store : List ℕ) (r : Answer) (store′ : List ℕ) → K .Count n N t store r store′ → number r ≡ 1 → store′ ≡ store
+  pub countAfterOthers : (n N : ℕ) (t store : List ℕ) (r : Answer) (store′ : List ℕ) → K .Count n N t store r store′
       → (number r ≡ 1 → ⊥) → store′ ≡ replicate (length store) 0
   -- a load refused with 1 leaves the table as it was, one refused with 11 leaves it all zero, and one that is done leaves the file's records
   pub loadAfterOne : (n N : ℕ) (t b : List ℕ) (r : Answer) (t′ : List ℕ) → K .Load n N t b r t′ → number r ≡ 1 → t′ ≡ t

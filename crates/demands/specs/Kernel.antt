@@ -11,12 +11,14 @@ pub record Kernel : Type 1 where
   pub TableCheck : (n N : ℕ) (t : List ℕ) (r : Answer) → Type 0
   pub SchemeCheck : (b : List ℕ) (r : Answer) → Type 0
   pub Edit : (n N : ℕ) (t store b : List ℕ) (D : Darts) (r : Answer) (t′ store′ : List ℕ) → Type 0
+  pub Count : (n N : ℕ) (t store : List ℕ) (r : Answer) (store′ : List ℕ) → Type 0
   pub Load : (n N : ℕ) (t b : List ℕ) (r : Answer) (t′ : List ℕ) → Type 0
   pub Write : (n N : ℕ) (t out : List ℕ) (r : Answer) (out′ : List ℕ) → Type 0
   -- every argument has an outcome: a kernel that allowed none would meet every demand
   pub checksTable : (n N : ℕ) (t : List ℕ) → (r : Answer) × TableCheck n N t r
   pub checksScheme : (b : List ℕ) → (r : Answer) × SchemeCheck b r
   pub edits : (n N : ℕ) (t store b : List ℕ) (D : Darts) → (r : Answer) × (t′ : List ℕ) × (store′ : List ℕ) × Edit n N t store b D r t′ store′
+  pub counts : (n N : ℕ) (t store : List ℕ) → (r : Answer) × (store′ : List ℕ) × Count n N t store r store′
   pub loads : (n N : ℕ) (t b : List ℕ) → (r : Answer) × (t′ : List ℕ) × Load n N t b r t′
   pub writes : (n N : ℕ) (t out : List ℕ) → (r : Answer) × (out′ : List ℕ) × Write n N t out r out′
 
@@ -26,5 +28,6 @@ pub record Refines (K L : Kernel) : Type 0 where
   pub schemeCheck : (b : List ℕ) (r : Answer) → K .SchemeCheck b r → L .SchemeCheck b r
   pub edit : (n N : ℕ) (t store b : List ℕ) (D : Darts) (r : Answer) (t′ store′ : List ℕ) → K .Edit n N t store b D r t′ store′
       → L .Edit n N t store b D r t′ store′
+  pub count : (n N : ℕ) (t store : List ℕ) (r : Answer) (store′ : List ℕ) → K .Count n N t store r store′ → L .Count n N t store r store′
   pub load : (n N : ℕ) (t b : List ℕ) (r : Answer) (t′ : List ℕ) → K .Load n N t b r t′ → L .Load n N t b r t′
   pub write : (n N : ℕ) (t out : List ℕ) (r : Answer) (out′ : List ℕ) → K .Write n N t out r out′ → L .Write n N t out r out′

@@ -4,9 +4,11 @@
 -- Assumes nothing.
 use Prim.Native.Nat.{ℕ}
 use mathlib.Core.Path.{_≡_}
+use mathlib.Core.Bool.{true}
 use mathlib.Core.List.{List}
 use Rattle.model.specs.Answer.{Answers}
-use Rattle.model.specs.Calls.{checkTable, checkScheme, editAnswer, editTable, editStore, loadAnswer, loadTable, writeAnswer, writeOut}
+use Rattle.model.specs.Calls.{checkTable, checkScheme, editAnswer, editTable, editStore, countAnswer, countStore}
+use Rattle.model.specs.Calls.{loadAnswer, loadTable, writeAnswer, writeOut}
 use Rattle.model.specs.declared.Darts.{Darts}
 use Rattle.model.specs.declared.Answer.{Answer}
 
@@ -20,6 +22,10 @@ pub record MapEdited (n N : ℕ) (t store b : List ℕ) (D : Darts) (r : Answer)
   pub answer : Answers r (editAnswer n N t store b D)
   pub table : t′ ≡ editTable n N t store b D
   pub cleared : store′ ≡ editStore n N t store b D
+
+pub record MapCounted (n N : ℕ) (t store : List ℕ) (r : Answer) (store′ : List ℕ) : Type 0 where
+  pub answer : Answers r (countAnswer n N t store true)
+  pub cleared : store′ ≡ countStore n N t store
 
 pub record FileLoaded (n N : ℕ) (t b : List ℕ) (r : Answer) (t′ : List ℕ) : Type 0 where
   pub answer : Answers r (loadAnswer n N t b)

@@ -140,6 +140,9 @@ editRefusals n N t store b D = bare 1 (Sizes n N t × (length store ≡ 16 * N) 
     ∷ schemeRefusals (Taken D b) b (bare 6 (schemeOf b .n ≡ n → ⊥) ∷ bare 7 (WellFormed n (view N t) → ⊥) ∷ bare 8 (LiveDarts N t D → ⊥)
     ∷ bare 9 (Matched N t b D → ⊥) ∷ bare 10 (Crowded N t b D) ∷ [])
 
+abbrev pub countRefusals : ℕ → ℕ → List ℕ → List ℕ → List Refusal
+countRefusals n N t store = bare 1 (Sizes n N t × (length store ≡ 16 * N) → ⊥) ∷ bare 7 (WellFormed n (view N t) → ⊥) ∷ []
+
 abbrev pub loadRefusals : ℕ → ℕ → List ℕ → List ℕ → List Refusal
 loadRefusals n N t b = bare 1 (Sizes n N t → ⊥) ∷ bare 11 (fileForm n N b ≡ true → ⊥) ∷ []
 

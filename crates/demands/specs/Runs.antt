@@ -6,7 +6,7 @@ use mathlib.Core.Bool.{Bool, true}
 use mathlib.Core.List.{List, [], _∷_, Forall₂}
 use Rattle.model.specs.Map.{view}
 use Rattle.model.specs.Alike.{Alike}
-use Rattle.model.specs.Sequence.{BothHold, Request, tableCheck, schemeCheck, edit, load, write, SameCall, Outcome, Event}
+use Rattle.model.specs.Sequence.{BothHold, Request, tableCheck, schemeCheck, edit, count, load, write, SameCall, Outcome, Event}
 use Rattle.model.specs.Sequence.{knownOf, AlikeEvents}
 use Rattle.demands.specs.Kernel.{Kernel}
 
@@ -15,6 +15,7 @@ abbrev pub Allowed : Kernel → ℕ → ℕ → List ℕ → Request → List �
 Allowed K n N t tableCheck l o = K .TableCheck n N t (o .answer) × (o .table ≡ t) × (o .lent ≡ l)
 Allowed K n N t (schemeCheck b) l o = K .SchemeCheck b (o .answer) × (o .table ≡ t) × (o .lent ≡ l)
 Allowed K n N t (edit b D) l o = K .Edit n N t l b D (o .answer) (o .table) (o .lent)
+Allowed K n N t count l o = K .Count n N t l (o .answer) (o .lent) × (o .table ≡ t)
 Allowed K n N t (load b) l o = K .Load n N t b (o .answer) (o .table) × (o .lent ≡ l)
 Allowed K n N t write l o = K .Write n N t l (o .answer) (o .lent) × (o .table ≡ t)
 

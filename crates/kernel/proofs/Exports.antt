@@ -1,14 +1,17 @@
 -- What a program in C sees of the kernel meets the demands: each call's number and values come back from its word.
 -- Assumes nothing.
-use Prim.Native.Nat.{ℕ, _<_}
+use Prim.Native.Nat.{ℕ, _≤_, _<_}
 use mathlib.Core.Path.{_≡_, refl, sym, ap, _∙_}
+use mathlib.Core.Bool.{true}
 use mathlib.Core.Option.{Option, none, some, Option·getD}
 use mathlib.Core.List.{List}
 use native.Mathlib.Omega.{arith}
-use lib.ListN.{length}
+use lib.ListN.{length, replicate}
+use lib.Dec.{leb}
 use Rattle.model.specs.Scheme.{inForm}
 use Rattle.model.specs.Answer.{number, values, Answers}
 use Rattle.model.specs.Calls.{tableFault, checkTable, bytesFault, checkScheme, siteDone, editFault, editAnswer, editTable, editStore}
+use Rattle.model.specs.Calls.{countSize, countAnswer, countStore, countOut}
 use Rattle.model.specs.Calls.{loadFault, loadAnswer, loadTable, writeFault, writeAnswer, writeOut}
 use Rattle.model.specs.declared.Darts.{Darts}
 use Rattle.model.specs.declared.Answer.{Answer}
@@ -21,10 +24,12 @@ use Rattle.demands.proofs.RefineLaws.{refined1, refined2, refined3}
 use Rattle.demands.proofs.Demands.{demand1, demand2, demand3}
 use Rattle.demands.proofs.Labels.{labels-follow}
 use Rattle.word.specs.Word.{packed, Small, wordNumber, wordValues}
-use Rattle.kernel.specs.Exports.{PackedEdit, PackedLoad, PackedWrite, Unpacked, SeenTableCheck, SeenSchemeCheck, SeenEdit, SeenLoad, SeenWrite}
+use Rattle.kernel.specs.Exports.{PackedEdit, PackedCount, PackedLoad, PackedWrite, Unpacked}
+use Rattle.kernel.specs.Exports.{SeenTableCheck, SeenSchemeCheck, SeenEdit, SeenCount, SeenLoad, SeenWrite}
 use Rattle.word.proofs.WordLaws.{number-back, values-back}
 use Rattle.kernel.proofs.CallLaws.{check-small}
 use Rattle.kernel.proofs.SmallLaws.{scheme-small, edit-small}
+use Rattle.kernel.proofs.CountCallLaws.{count-shown}
 use Rattle.kernel.proofs.FileCallLaws.{load-small, write-small}
 
 -- ---- one outcome
@@ -32,6 +37,10 @@ use Rattle.kernel.proofs.FileCallLaws.{load-small, write-small}
 pub one-packed-edit : {n N : ℕ} {t store b : List ℕ} {d : Darts} {w w₂ : ℕ} {t′ t₂ store′ store₂ : List ℕ}
     → PackedEdit n N t store b d w t′ store′ → PackedEdit n N t store b d w₂ t₂ store₂ → (w ≡ w₂) × (t′ ≡ t₂) × (store′ ≡ store₂)
 one-packed-edit p q = (p .word ∙ sym (q .word), p .table ∙ sym (q .table), p .cleared ∙ sym (q .cleared))
+
+pub one-packed-count : {n N : ℕ} {t store out : List ℕ} {w w₂ : ℕ} {store′ store₂ out′ out₂ : List ℕ}
+    → PackedCount n N t store out w store′ out′ → PackedCount n N t store out w₂ store₂ out₂ → (w ≡ w₂) × (store′ ≡ store₂) × (out′ ≡ out₂)
+one-packed-count p q = (p .word ∙ sym (q .word), p .cleared ∙ sym (q .cleared), p .output ∙ sym (q .output))
 
 pub one-packed-load : {n N : ℕ} {t b : List ℕ} {w w₂ : ℕ} {t′ t₂ : List ℕ} → PackedLoad n N t b w t′ → PackedLoad n N t b w₂ t₂ → (w ≡ w₂) × (t′ ≡ t₂)
 one-packed-load p q = (p .word ∙ sym (q .word), p .table ∙ sym (q .table))
@@ -72,16 +81,16 @@ pub write-length : (n N : ℕ) (t out : List ℕ) → number (writeAnswer n N t 
 unfolding writeAnswer
 write-length n N t out = done-length (writeFault n N t out) _ (write-within n N t out) (omega arith)
 
--- what the word of an answer holds is that answer
-module _ (k : ℕ) (a : Answer) (small : Small a) (long : number a ≡ 0 → length (values a) ≡ k) where
+-- what the word of an answer holds is that answer, where all its values stand there
+module _ (k : ℕ) (a : Answer) (few : k ≤ 3) (small : Small a) (long : number a ≡ 0 → length (values a) ≡ k) where
   back : {w : ℕ} {r : Answer} → w ≡ packed a → Unpacked k w r → Answers r a
   back e u = record {
     sameNumber = u .sameNumber ∙ ap wordNumber e ∙ number-back a small;
-    sameValues = u .sameValues ∙ ap (wordValues k) e ∙ values-back a k small long;
+    sameValues = u .sameValues ∙ ap (wordValues k) e ∙ values-back a k few small long;
   }
 
   pub unpacks : Unpacked k (packed a) a
-  unpacks = record { sameNumber = sym (number-back a small); sameValues = sym (values-back a k small long) }
+  unpacks = record { sameNumber = sym (number-back a small); sameValues = sym (values-back a k few small long) }
 
 -- ---- the kernel that C sees
 
@@ -90,13 +99,14 @@ exported = record {
   TableCheck = SeenTableCheck;
   SchemeCheck = SeenSchemeCheck;
   Edit = SeenEdit;
+  Count = SeenCount;
   Load = SeenLoad;
   Write = SeenWrite;
   checksTable = λ n N t. (
     checkTable n N t,
-    record { word = packed (checkTable n N t); promised = refl; answer = unpacks 0 _ (check-small n N t) (table-length n N t) },
+    record { word = packed (checkTable n N t); promised = refl; answer = unpacks 0 _ (omega arith) (check-small n N t) (table-length n N t) },
   );
-  checksScheme = λ b. (checkScheme b, record { word = packed (checkScheme b); promised = refl; answer = unpacks 0 _ (scheme-small b) (scheme-length b) });
+  checksScheme = λ b. (checkScheme b, record { word = packed (checkScheme b); promised = refl; answer = unpacks 0 _ (omega arith) (scheme-small b) (scheme-length b) });
   edits = λ n N t store b d. (
     editAnswer n N t store b d,
     editTable n N t store b d,
@@ -104,16 +114,31 @@ exported = record {
     record {
       word = packed (editAnswer n N t store b d);
       promised = record { word = refl; table = refl; cleared = refl };
-      answer = unpacks 3 _ (edit-small n N t store b d) (edit-length n N t store b d);
+      answer = unpacks 3 _ (omega arith) (edit-small n N t store b d) (edit-length n N t store b d);
     },
   );
+  counts = λ n N t store.
+      let out : List ℕ = replicate countSize 0 in
+      let seen = count-shown n N t store out (omega arith) in (
+        countAnswer n N t store true,
+        countStore n N t store,
+        record {
+          word = packed (countAnswer n N t store (leb countSize (length out)));
+          out = out;
+          out′ = countOut n N t store out;
+          room = omega arith;
+          promised = record { word = refl; cleared = refl; output = refl };
+          sameNumber = seen .0;
+          sameValues = seen .1;
+        },
+      );
   loads = λ n N t b. (
     loadAnswer n N t b,
     loadTable n N t b,
     record {
       word = packed (loadAnswer n N t b);
       promised = record { word = refl; table = refl };
-      answer = unpacks 0 _ (load-small n N t b) (load-length n N t b);
+      answer = unpacks 0 _ (omega arith) (load-small n N t b) (load-length n N t b);
     },
   );
   writes = λ n N t out. (
@@ -122,26 +147,36 @@ exported = record {
     record {
       word = packed (writeAnswer n N t out);
       promised = record { word = refl; output = refl };
-      answer = unpacks 1 _ (write-small n N t out) (write-length n N t out);
+      answer = unpacks 1 _ (omega arith) (write-small n N t out) (write-length n N t out);
     },
   );
 }
 
 exported-ours : Refines exported ours
 exported-ours = record {
-  tableCheck = λ n N t r s. record { answer = back 0 _ (check-small n N t) (table-length n N t) (s .promised) (s .answer) };
-  schemeCheck = λ b r s. record { answer = back 0 _ (scheme-small b) (scheme-length b) (s .promised) (s .answer) };
+  tableCheck = λ n N t r s. record { answer = back 0 _ (omega arith) (check-small n N t) (table-length n N t) (s .promised) (s .answer) };
+  schemeCheck = λ b r s. record { answer = back 0 _ (omega arith) (scheme-small b) (scheme-length b) (s .promised) (s .answer) };
   edit = λ n N t store b d r t′ store′ s. record {
-    answer = back 3 _ (edit-small n N t store b d) (edit-length n N t store b d) (s .promised .word) (s .answer);
+    answer = back 3 _ (omega arith) (edit-small n N t store b d) (edit-length n N t store b d) (s .promised .word) (s .answer);
     table = s .promised .table;
     cleared = s .promised .cleared;
   };
+  count = λ n N t store r store′ s.
+      let seen = count-shown n N t store (s .out) (s .room) in
+      let number-is = s .sameNumber ∙ ap wordNumber (s .promised .word) ∙ sym (seen .0) in
+      record {
+        answer = record {
+          sameNumber = number-is;
+          sameValues = s .sameValues ∙ rw (s .promised .word, s .promised .output) (sym (seen .1));
+        };
+        cleared = s .promised .cleared;
+      };
   load = λ n N t b r t′ s. record {
-    answer = back 0 _ (load-small n N t b) (load-length n N t b) (s .promised .word) (s .answer);
+    answer = back 0 _ (omega arith) (load-small n N t b) (load-length n N t b) (s .promised .word) (s .answer);
     table = s .promised .table;
   };
   write = λ n N t out r out′ s. record {
-    answer = back 1 _ (write-small n N t out) (write-length n N t out) (s .promised .word) (s .answer);
+    answer = back 1 _ (omega arith) (write-small n N t out) (write-length n N t out) (s .promised .word) (s .answer);
     output = s .promised .output;
   };
 }

@@ -1,6 +1,6 @@
 -- The stages of an edit, refusal by refusal.
 -- Assumes nothing.
-use Prim.Native.Nat.{ℕ, suc, _*_, _-_}
+use Prim.Native.Nat.{ℕ, suc, _-_}
 use mathlib.Core.Path.{_≡_, refl, sym, ap, _∙_, subst}
 use mathlib.Core.Logic.{_⊎_, ⊎-elim, by-cases}
 use mathlib.Core.Bool.{Bool, true, false, not}
@@ -10,11 +10,10 @@ use native.Mathlib.Decide.{ℕ-discrete}
 use native.Mathlib.Omega.{arith}
 use types.Run.{OneOf}
 use lib.ListN.{length}
-use lib.Dec.{eqb}
 use borrow.Author.Tests.{eqb-true, eqb-false, eq-eqb, ne-eqb, ltb-true, ltb-false, lt-ltb, le-ltb, not-true, not-false}
 use Rattle.base.specs.First.{someIf, _orElse_, there}
 use Rattle.base.specs.Test.{_and_}
-use Rattle.base.proofs.TestLaws.{and-of, and-same, and-no-left, and-no-right, same-test}
+use Rattle.base.proofs.TestLaws.{and-same, same-test}
 use Rattle.base.proofs.ListLaws.{length-list}
 use Rattle.model.specs.Answer.{number}
 use Rattle.model.specs.Map.{view}
@@ -23,7 +22,7 @@ use Rattle.model.specs.Conditions.{schemeFault}
 use Rattle.model.specs.Twice.{twiceOf}
 use Rattle.model.specs.Accepted.{Accepted}
 use Rattle.model.specs.Site.{siteAt}
-use Rattle.model.specs.Calls.{zeros, sizesOk, bytesFault, firstDart, secondDart, asMany, takes, storedOk}
+use Rattle.model.specs.Calls.{zeros, bytesFault, firstDart, secondDart, asMany, takes, storedOk}
 use Rattle.model.specs.Calls.{editFaultAt, editFault, editAnswer, editTable, editStore}
 use Rattle.model.specs.declared.Scheme.{Scheme}
 use Rattle.model.specs.declared.Darts.{Darts}
@@ -174,27 +173,19 @@ module _ (D : Darts) (b : List ℕ) (S : Scheme) (f : bytesFault (takes D b) b �
 -- ---- the call
 
 module _ (n N : ℕ) (t store b : List ℕ) (d : Darts) where
-  unsized : storedOk n N t store ≡ false → MapEdited n N t store b d BadCall t store
+  pub edit-unfit : storedOk n N t store ≡ false → MapEdited n N t store b d BadCall t store
   unfolding editAnswer editTable editStore editFault editFaultAt someIf _orElse_ there
-  unsized e = record { answer = answers-of (rw e refl); table = rw e refl; cleared = rw e refl }
+  edit-unfit e = record { answer = answers-of (rw e refl); table = rw e refl; cleared = rw e refl }
 
-  pub edit-bad-sizes : sizesOk n N t ≡ false → MapEdited n N t store b d BadCall t store
-  edit-bad-sizes e = unsized (and-no-left (eqb (length store) (16 * N)) e)
-
-  pub edit-bad-store : (length store ≡ 16 * N → ⊥) → MapEdited n N t store b d BadCall t store
-  edit-bad-store h = unsized (and-no-right (sizesOk n N t) (ne-eqb (length store) (16 * N) h))
-
-  pub edit-staged : sizesOk n N t ≡ true → length store ≡ 16 * N → (r : Answer) (t′ store′ : List ℕ) → Staged n N t b d r t′ → store′ ≡ zeros store
+  pub edit-staged : storedOk n N t store ≡ true → (r : Answer) (t′ store′ : List ℕ) → Staged n N t b d r t′ → store′ ≡ zeros store
       → MapEdited n N t store b d r t′ store′
   unfolding editAnswer editTable editStore editFault editFaultAt someIf _orElse_
-  edit-staged e l r t′ store′ s z =
-      let q : storedOk n N t store ≡ true = and-of e (eq-eqb (length store) (16 * N) l) in
-      record { answer = answers-of (s .answer ∙ rw q refl); table = s .table ∙ rw q refl; cleared = z ∙ rw q refl }
+  edit-staged q r t′ store′ s z = record { answer = answers-of (s .answer ∙ rw q refl); table = s .table ∙ rw q refl; cleared = z ∙ rw q refl }
 
--- 0 is none of the numbers 1 to 14, those of the answers that are not done
-pub not-zero : OneOf (1 ∷ 2 ∷ 3 ∷ 4 ∷ 5 ∷ 6 ∷ 7 ∷ 8 ∷ 9 ∷ 10 ∷ 11 ∷ 12 ∷ 13 ∷ 14 ∷ []) 0 → ⊥
+-- 0 is none of the numbers 1 to 15, those of the other answers than Done
+pub not-zero : OneOf (1 ∷ 2 ∷ 3 ∷ 4 ∷ 5 ∷ 6 ∷ 7 ∷ 8 ∷ 9 ∷ 10 ∷ 11 ∷ 12 ∷ 13 ∷ 14 ∷ 15 ∷ []) 0 → ⊥
 not-zero = ⊎-elim no (⊎-elim no (⊎-elim no (⊎-elim no (⊎-elim no (⊎-elim no (⊎-elim no
-    (⊎-elim no (⊎-elim no (⊎-elim no (⊎-elim no (⊎-elim no (⊎-elim no no))))))))))))
+    (⊎-elim no (⊎-elim no (⊎-elim no (⊎-elim no (⊎-elim no (⊎-elim no (⊎-elim no no)))))))))))))
   where
     no : {k : ℕ} → _≡_ {A = ℕ} 0 (suc k) → ⊥
     no e = omega arith

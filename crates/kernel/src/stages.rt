@@ -1,15 +1,17 @@
-// An edit behind the test of its sizes: refusals 2 to 5, then the edit at its darts.
+// A call behind the test of its sizes: an edit's refusals 2 to 5, then the edit at its darts; a count's refusals 7 and 12, then the count.
 use edit::site::apply_at;
 use model::Answer;
 use model::Darts;
+use table::Finding;
 ghost use mathlib.Core.Path.{_≡_};
 ghost use mathlib.Core.Logic.{_⊎_};
 ghost use Prim.Native.Nat.{_*_};
 ghost use lib.ListN.{length};
 ghost use Rattle.table.specs.Words.{Sized};
 ghost use Rattle.base.specs.Test.{_and_};
+ghost use Rattle.model.specs.Map.{view};
 ghost use Rattle.model.specs.Calls.{firstDart, secondDart};
-ghost use Rattle.kernel.specs.Stages.{manyBy, Staged};
+ghost use Rattle.kernel.specs.Stages.{manyBy, Staged, countStaged};
 
 fn wide(x: u32) -> usize
     ensures { λ r. ⌜ r ≡ x ⌝ }
@@ -89,5 +91,36 @@ pub(crate) fn staged(
     match answer {
         Answer::Done => apply_at(n, slots, table, store, s, tree, first(darts), second(darts)),
         _ => answer,
+    }
+}
+
+// Refusals 7 and 12, and the count.
+pub(crate) fn counted(
+    n: u32,
+    slots: usize,
+    table: &[u32],
+    store: &mut [u32],
+    enough: bool,
+) -> Answer
+    requires { ⌜ (n ≡ 2) ⊎ (n ≡ 3) ⌝ }
+    requires { ⌜ Sized slots (now table) ⌝ }
+    requires { ⌜ length (now store) ≡ 16 * slots ⌝ }
+    ensures { λ r. ⌜ r ≡ countStaged n (view slots (now (table .entry))) enough ⌝ }
+{
+    let found = table::survey(n, slots, table);
+    let Finding::Live(live) = found else {
+        return Answer::BadTable;
+    };
+    if !enough {
+        return Answer::ShortOutput;
+    }
+    let c = count::count(n, slots, table, store, live);
+    Answer::Counted {
+        live: c[0],
+        vertices: c[1],
+        edges: c[2],
+        faces: c[3],
+        pieces: c[4],
+        volumes: c[5],
     }
 }

@@ -11,14 +11,16 @@ use borrow.Author.Tests.{eqb-true, ltb-true}
 use Rattle.base.specs.Test.{_and_}
 use Rattle.base.specs.First.{someIf, there, _orElse_}
 use Rattle.base.proofs.TestLaws.{same-test, and-left, and-right, and-same}
-use Rattle.base.proofs.FirstLaws.{or-else-same, getD-same}
+use Rattle.base.proofs.FirstLaws.{or-else-none, or-else-same, getD-same}
 use Rattle.model.specs.Map.{Map, view, tableOf}
 use Rattle.model.specs.WellFormed.{WellFormed, wellFormed}
 use Rattle.model.specs.Scheme.{schemeOf, orbitDim}
+use Rattle.model.specs.Count.{counts}
 use Rattle.model.specs.Edit.{edited}
 use Rattle.model.specs.File.{file, fileForm, fileMap}
 use Rattle.model.specs.Site.{Site, siteWith, Sound}
 use Rattle.model.specs.Calls.{sizesOk, mapFault, tableFault, checkTable, firstDart, secondDart, isDart, fitFault, siteFault, siteDone, siteOf}
+use Rattle.model.specs.Calls.{countFaultAt, countDone, countFault, countAnswer}
 use Rattle.model.specs.Calls.{editFaultAt, editFault, editAnswer, editTable, editStore}
 use Rattle.model.specs.Calls.{loadFaultAt, loadFault, loadAnswer, loaded, loadTable, writeFaultAt, writeFault, writeAnswer, writeOut}
 use Rattle.model.specs.Alike.{Alike}
@@ -35,6 +37,7 @@ use Rattle.model.proofs.HoldsLaws.{holds-slotted, dimension-small, tabl
 use Rattle.model.proofs.AlikeLaws.{alike-refl, alike-sym, alike-trans, words-alike, well-alike, same-live, same-room, same-orbit}
 use Rattle.model.proofs.AlikeMatch.{moved, same-matches}
 use Rattle.model.proofs.AlikeEdit.{same-size, same-added, same-deleted, edited-alike}
+use Rattle.model.proofs.AlikeCount.{same-counts}
 use Rattle.model.proofs.FileLaws.{same-file}
 
 -- ---- two tables
@@ -100,9 +103,9 @@ module _ (n N : ℕ) (t t′ : List ℕ) (a : AlikeTables n N t t′) where
           (λ q. ap₂ (λ (c k : ℕ). someIf (ltb c k) NoRoom) (same-room m m′ (a .alike) (S .n) (g .well) well′) (same-added E m′ (a .alike)))
           ∙ ap fitFault same-site
 
-      counts : siteDone E ≡ siteDone E′
+      same-done : siteDone E ≡ siteDone E′
       unfolding siteDone
-      counts =
+      same-done =
           (λ i. Edited (same-size E m′ (a .alike) i) (same-added E m′ (a .alike) i) (same-deleted E m′ (a .alike) i)) ∙ ap siteDone same-site
 
     same-dart-test : (x : ℕ) → isDart m x ≡ isDart m′ x
@@ -129,7 +132,7 @@ module _ (n N : ℕ) (t t′ : List ℕ) (a : AlikeTables n N t t′) where
 
     pub same-edit : editAnswer n N t store b d ≡ editAnswer n N t′ store′ b d
     unfolding editAnswer
-    same-edit = getD-same _ _ same-fault (λ q. counts (sound n N t store b d q) (granted n N t store b d q .dimension))
+    same-edit = getD-same _ _ same-fault (λ q. same-done (sound n N t store b d q) (granted n N t store b d q .dimension))
 
     edited-like : editFault n N t store b d ≡ none → Alike (edited E) (edited E′)
     edited-like q =
@@ -156,6 +159,26 @@ module _ (n N : ℕ) (t t′ : List ℕ) (a : AlikeTables n N t t′) where
     -- both stores come back zero; where their length is wrong each stays as it was (`store-kept`)
     pub same-store : length store ≡ 16 * N → editStore n N t store b d ≡ editStore n N t′ store′ b d
     same-store k = store-zero n N t store b d (a .one .sizes) k ∙ sym (store-zero n N t′ store′ b d (a .other .sizes) (sym e ∙ k))
+
+  -- ---- a count
+
+  module _ (store store′ : List ℕ) (e : length store ≡ length store′) (enough : Bool) where
+    same-count-fault : countFault n N t store enough ≡ countFault n N t′ store′ enough
+    unfolding countFault countFaultAt
+    same-count-fault = ap₂ (λ (s w : Bool). someIf (not s) BadCall orElse someIf (not w) BadTable orElse someIf (not enough) ShortOutput)
+        (ap₂ (λ (s : Bool) (k : ℕ). s and eqb k (16 * N)) same-sizes e) same-well
+
+    -- the cells are counted where the map has been found well-formed
+    cells-same : countFault n N t store enough ≡ none → counts n m ≡ counts n m′
+    unfolding countFault countFaultAt
+    cells-same q =
+        let well = passed _ _ (or-else-none _ _ (or-else-none _ _ q .1) .0) in
+        same-counts n (dimension-small n N t (a .one .sizes)) m m′ (a .alike) (wellFormed-iff n m .0 well)
+        (wellFormed-iff n m′ .0 (sym same-well ∙ well))
+
+    pub same-count : countAnswer n N t store enough ≡ countAnswer n N t′ store′ enough
+    unfolding countAnswer
+    same-count = getD-same _ _ same-count-fault (λ q. ap countDone (cells-same q))
 
   -- ---- a load
 

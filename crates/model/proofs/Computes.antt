@@ -28,6 +28,7 @@ unfolding _and_ _or_ _⇒_ someIf _orElse_ there allBelow anyBelow countBelow fi
     N.smallest N.reachedBelow N.cells N.sizesBelow N.allBut N.counts
     M.walk M.opposite M.image M.arcHolds M.eachPair M.onlyPair M.matches E.freeSlot E.rank E.orbitSize E.addedDarts E.deletedDarts E.dartOf E.pairOf
     E.newLink E.newWord E.edited F.liveDarts F.section F.file F.fileForm F.placeOf F.fileMap A.mapFault A.tableFault A.checkTable A.bytesFault A.checkScheme A.fitFault
-    A.siteFault A.editFaultAt A.siteDone A.editFault A.editAnswer A.editTable A.editStore A.loadFaultAt A.loadFault A.loadAnswer A.loaded A.loadTable
+    A.siteFault A.editFaultAt A.siteDone A.editFault A.editAnswer A.editTable A.editStore
+    A.countFaultAt A.countDone A.countFault A.countAnswer A.countStore A.countOut A.loadFaultAt A.loadFault A.loadAnswer A.loaded A.loadTable
     A.writeFaultAt A.writeFault A.writeAnswer A.writeOut
 computes = tt

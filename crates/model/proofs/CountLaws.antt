@@ -3,7 +3,7 @@
 -- Assumes nothing.
 use Prim.Native.Nat.{ℕ, zero, suc, _+_, _≤_, _<_}
 use mathlib.Core.Path.{_≡_, refl, sym, ap, _∙_, fun-ext}
-use mathlib.Core.Logic.{_⊎_, inl, inr, ⊎-elim}
+use mathlib.Core.Logic.{_⊎_, inl, inr, ⊎-elim, _↔_}
 use mathlib.Core.Bool.{Bool, true, false, not, cond, true≢false}
 use mathlib.Core.Option.{Option, none, some}
 use native.Mathlib.Nat.{add-zero, le-antisymm}
@@ -21,9 +21,9 @@ use Rattle.base.proofs.FirstLaws.{first-same, least-at, least-none}
 use Rattle.model.specs.Map.{Map, live}
 use Rattle.model.specs.WellFormed.{WellFormed}
 use Rattle.model.specs.Reach.{paths}
-use Rattle.model.specs.Orbit.{leads, orbitPath, orbit}
+use Rattle.model.specs.Orbit.{leads, orbitPath, orbit, InOrbit}
 use Rattle.model.specs.Count.{smallest, reachedBelow, cells, sizesBelow, allBut, all, counts}
-use Rattle.model.proofs.OrbitLaws.{orbit-link}
+use Rattle.model.proofs.OrbitLaws.{orbit-reached, orbit-iff, orbit-link}
 use Rattle.model.proofs.OrbitClassLaws.{orbit-dart, orbit-self, orbit-back, orbit-on}
 
 -- ---- tests
@@ -160,6 +160,20 @@ module _ (m : Map) (k : ℕ) (dim : ℕ → ℕ) where
     pub smallest-unreached : (x : ℕ) → x < m .slots → live m x ≡ true → smallest m k dim x ≡ not (reachedBelow m k dim x x)
     unfolding smallest _and_
     smallest-unreached x h l = rw l (ap not (smaller-reached x h (eqb-true _ _ l)))
+
+    -- a smallest dart is a live one from which no smaller one is reached
+    pub smallest-iff : (x : ℕ) → x < m .slots
+        → (smallest m k dim x ≡ true) ↔ ((m .state x ≡ 1) × ((y : ℕ) → y < x → InOrbit m k dim x y → ⊥))
+    unfolding smallest
+    smallest-iff x h = (
+      (λ e.
+          let l = eqb-true _ _ (and-left _ _ e) in
+          (l, λ y b r. true≢false (sym (any-of x _ y b (orbit-iff m k dim x n w dims h l y .1 r)) ∙ not-true _ (and-right _ _ e)))),
+      (λ p.
+          let none = impossible (anyBelow x (orbit m k dim x))
+          (λ e. let r = any-at x (orbit m k dim x) e in p .1 (r .0) (r .1) (orbit-reached m k dim x (r .0) (r .2))) in
+          and-of (eq-eqb _ _ (p .0)) (ap not none)),
+    )
 
     -- ---- sizes
 

@@ -15,10 +15,10 @@ use Rattle.model.specs.Map.{view}
 use Rattle.model.specs.Alike.{Alike}
 use Rattle.model.specs.Answer.{number}
 use Rattle.model.specs.Calls.{checkTable}
-use Rattle.model.specs.Sequence.{AlikeTables, BothHold, Request, tableCheck, schemeCheck, edit, load, write, Call, SameCall, outcomeOf, outcome}
+use Rattle.model.specs.Sequence.{AlikeTables, BothHold, Request, tableCheck, schemeCheck, edit, count, load, write, Call, SameCall, outcomeOf, outcome}
 use Rattle.model.specs.Sequence.{knownAfter, Event, knownOf, AlikeEvents}
 use Rattle.model.proofs.HoldsLaws.{holds-iff, holds-slotted, edit-kept}
-use Rattle.model.proofs.AlikeCalls.{same-check, same-edit, edit-alike, same-load, load-alike, same-write, same-written}
+use Rattle.model.proofs.AlikeCalls.{same-check, same-edit, edit-alike, same-count, same-load, load-alike, same-write, same-written}
 
 -- well-formed maps that are alike are alike tables
 pub alike-tables : (n N : ℕ) (t t′ : List ℕ) → BothHold n N t t′ → Alike (view N t) (view N t′) → AlikeTables n N t t′
@@ -49,6 +49,7 @@ module _ (n N : ℕ) (t t′ : List ℕ) (a : AlikeTables n N t t′) (known : B
     files = refl;
     well = λ s. record { one = edit-kept n N t l b d (k s .one); other = edit-kept n N t′ l′ b d (k s .other) };
   }
+  request-alike count l l′ e = record { tables = a; answers = same-count n N t t′ a l l′ e true; files = refl; well = k }
   request-alike (load b) l l′ e = record {
     tables = load-alike n N t t′ a b;
     answers = same-load n N t t′ a b;

@@ -16,7 +16,7 @@ use Rattle.model.specs.Map.{view}
 use Rattle.model.specs.WellFormed.{WellFormed}
 use Rattle.model.specs.Alike.{Alike}
 use Rattle.model.specs.Answer.{number, values}
-use Rattle.model.specs.Calls.{sizesOk, checkTable, checkScheme, editAnswer, editTable, editStore, loadAnswer, loadTable, writeAnswer, writeOut}
+use Rattle.model.specs.Calls.{sizesOk, checkTable, checkScheme, editAnswer, editTable, editStore, countAnswer, countStore, loadAnswer, loadTable, writeAnswer, writeOut}
 use Rattle.model.specs.declared.Darts.{Darts}
 use Rattle.model.specs.declared.Answer.{Answer}
 
@@ -50,10 +50,11 @@ pub data Request : Type 0 where
   tableCheck : Request
   schemeCheck : (scheme : List ℕ) → Request
   edit : (scheme : List ℕ) (darts : Darts) → Request
+  count : Request
   load : (file : List ℕ) → Request
   write : Request
 
--- a call: its request, and the buffer lent to it with what that holds, an edit's working store or a write's output; the other calls take none
+-- a call: its request, and the buffer lent to it with what that holds, the working store of an edit or a count, or a write's output; the other calls take none
 pub record Call : Type 0 where
   pub request : Request
   pub lent : List ℕ
@@ -76,6 +77,7 @@ module _ (n N : ℕ) (t : List ℕ) where
   outcomeOf tableCheck l = record { answer = checkTable n N t; table = t; lent = l }
   outcomeOf (schemeCheck b) l = record { answer = checkScheme b; table = t; lent = l }
   outcomeOf (edit b D) l = record { answer = editAnswer n N t l b D; table = editTable n N t l b D; lent = editStore n N t l b D }
+  outcomeOf count l = record { answer = countAnswer n N t l true; table = t; lent = countStore n N t l }
   outcomeOf (load b) l = record { answer = loadAnswer n N t b; table = loadTable n N t b; lent = l }
   outcomeOf write l = record { answer = writeAnswer n N t l; table = t; lent = writeOut n N t l }
 
@@ -87,6 +89,7 @@ abbrev pub fileOf : Request → Outcome → List ℕ
 fileOf tableCheck o = []
 fileOf (schemeCheck b) o = []
 fileOf (edit b D) o = []
+fileOf count o = []
 fileOf (load b) o = []
 fileOf write o = take (getD (values (o .answer)) 0 0) (o .lent)
 
@@ -96,6 +99,7 @@ abbrev pub knownAfter : Bool → Request → Answer → Bool
 knownAfter known tableCheck a = known or eqb (number a) 0
 knownAfter known (schemeCheck b) a = known
 knownAfter known (edit b D) a = known
+knownAfter known count a = known
 knownAfter known (load b) a = false
 knownAfter known write a = known
 

@@ -9,7 +9,7 @@ use Rattle.count.proofs.volumes.Statement.{statement}
 use Rattle.count.proofs.volumes.Tie as tie
 
 three : (c : tie.Else1) → c .before .before .before .args .n ≡ 3
-three c = ⊎-elim (λ e. absurd (c .if1 .left e)) (λ e. e) (c .before .before .before .pre .0)
+three c = ⊎-elim (λ e. absurd (omega (arith, c .if1 .left, e))) (λ e. e) (c .before .before .before .pre .0)
 
 returns : tie.Need-returns
 returns c = volumes-none _ _ (c .if1 .taken)
