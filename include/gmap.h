@@ -32,10 +32,10 @@
 extern "C" {
 #endif
 
-/* The version of this interface, 100 times its first number and its second: 2.2.
+/* The version of this interface, 100 times its first number and its second: 2.3.
  * The second grows where something is added; the first where a program that was
  * written for the version before must be looked at again. */
-#define GMAP_VERSION 202
+#define GMAP_VERSION 203
 
 /* ---- limits and sizes */
 
@@ -56,6 +56,19 @@ enum {
     GMAP_TAG = 5             /* the lot of the sheet; no constraint */
 };
 
+/* The words that gmap_count gives. A cell is the darts that some links lead to from
+ * one of them: a vertex by all links but a0, an edge by all but a1, a face by all but
+ * a2, a volume by all but a3, and a piece by all links. */
+enum {
+    GMAP_LIVE = 0,           /* live darts */
+    GMAP_VERTICES = 1,
+    GMAP_EDGES = 2,
+    GMAP_FACES = 3,
+    GMAP_PIECES = 4,
+    GMAP_VOLUMES = 5,        /* 0 where n is 2 */
+    GMAP_COUNTS = 6          /* how many they are */
+};
+
 /* ---- the numbers of the answers */
 
 enum {
@@ -71,7 +84,7 @@ enum {
     GMAP_NO_MATCH = 9,         /* the scheme's left side is not there at the dart or darts */
     GMAP_NO_ROOM = 10,         /* too few unused slots before the edit */
     GMAP_BAD_FILE = 11,        /* file not in its form, or not of this n and slots */
-    GMAP_SHORT_OUTPUT = 12     /* output shorter than the file */
+    GMAP_SHORT_OUTPUT = 12     /* output shorter than the file, or than the counts */
 };
 
 /* ---- the calls
@@ -140,8 +153,8 @@ uint64_t gmap_edit2(uint32_t n, uint32_t slots, uint32_t *table, size_t table_le
  * A load tests the file's form alone. Links are stored as they stand in the
  * file, also a link that is not below slots; with n = 2 a live a3 is its own
  * slot. Whether the map is well-formed, gmap_check_table says. One that is not,
- * a broken map, stays in the table and can be shown: gmap_check_table and
- * gmap_write answer 7 to it, and so do gmap_edit and gmap_edit2, unless they
+ * a broken map, stays in the table and can be shown: gmap_check_table, gmap_write
+ * and gmap_count answer 7 to it, and so do gmap_edit and gmap_edit2, unless they
  * refuse the scheme first (2 to 6); all of them leave the table as loaded. A link
  * of a broken map may lead out of the table, so a program that follows links by
  * itself checks the table first, or tests each link before it follows it.
@@ -159,6 +172,14 @@ uint64_t gmap_load(uint32_t n, uint32_t slots, uint32_t *table, size_t table_len
  * GMAP_MAX_FILE for every map. */
 uint64_t gmap_write(uint32_t n, uint32_t slots, const uint32_t *table, size_t table_len,
                     uint8_t *out, size_t out_len);
+
+/* Counts the map's live darts and its cells.
+ * Answers 0, 1, 7, 12; 12 where out has fewer than GMAP_COUNTS words.
+ * out: after 0 the counts in its first GMAP_COUNTS words, at GMAP_LIVE to
+ * GMAP_VOLUMES, the rest unchanged; all unchanged after a refusal.
+ * store: of any content on entry; all zero afterwards, save after 1. */
+uint64_t gmap_count(uint32_t n, uint32_t slots, const uint32_t *table, size_t table_len,
+                    uint32_t *store, size_t store_len, uint32_t *out, size_t out_len);
 
 /* ---- the beginning of a map file
  *
@@ -196,7 +217,7 @@ static inline const char *gmap_words(uint32_t number)
     case GMAP_NO_MATCH: return "the scheme does not fit here";
     case GMAP_NO_ROOM: return "the table has too little room";
     case GMAP_BAD_FILE: return "the file is damaged, or for another size of table";
-    case GMAP_SHORT_OUTPUT: return "the output is too short for the file";
+    case GMAP_SHORT_OUTPUT: return "the output is too short";
     default: return "an answer that this version does not know";
     }
 }

@@ -1,10 +1,11 @@
-/* What gmap.h has beside the calls: the words of the answers, the beginning of a file, more room after refusal 10, the version. */
+/* What gmap.h has beside the calls: the words of the answers, the beginning of a file, more room after refusal 10, the places of the
+ * counts, the version. */
 #include "gmap.h"
 #include "check.h"
 #include <string.h>
 
-#if !defined GMAP_VERSION || GMAP_VERSION < 202 || GMAP_VERSION >= 300
-#error "this program is written for version 2.2 of gmap.h"
+#if !defined GMAP_VERSION || GMAP_VERSION < 203 || GMAP_VERSION >= 300
+#error "this program is written for version 2.3 of gmap.h"
 #endif
 
 enum { N = 3, MORE = 4 };
@@ -68,11 +69,31 @@ static void more_room(void)
     expect("load, the same", memcmp(again, larger, sizeof again), 0);
 }
 
+/* Two faces of two edges each, which meet at one of them: no two counts are equal, so each is found at its own place. */
+static void places_of_counts(void)
+{
+    enum { DARTS = 8 };
+    static const uint32_t links[DARTS][3] = { { 1, 0, 0 }, { 0, 2, 1 }, { 3, 1, 5 }, { 2, 3, 4 }, { 5, 4, 3 }, { 4, 6, 2 }, { 7, 5, 6 }, { 6, 7, 7 } };
+    uint32_t table[GMAP_RECORD * DARTS], store[GMAP_STORE * DARTS], counts[GMAP_COUNTS];
+    for (uint32_t x = 0; x < DARTS; x++) {
+        uint32_t record[GMAP_RECORD] = { 1, links[x][0], links[x][1], links[x][2], x, 0 };
+        memcpy(table + GMAP_RECORD * x, record, sizeof record);
+    }
+    expect("count", gmap_count(2, DARTS, table, GMAP_RECORD * DARTS, store, GMAP_STORE * DARTS, counts, GMAP_COUNTS), 0);
+    expect("count, live darts", counts[GMAP_LIVE], 8);
+    expect("count, vertices", counts[GMAP_VERTICES], 4);
+    expect("count, edges", counts[GMAP_EDGES], 3);
+    expect("count, faces", counts[GMAP_FACES], 2);
+    expect("count, pieces", counts[GMAP_PIECES], 1);
+    expect("count, volumes", counts[GMAP_VOLUMES], 0);
+}
+
 int main(void)
 {
     words();
     beginning();
     more_room();
+    places_of_counts();
     if (wrong == 0) puts("header: all as wanted");
     return wrong != 0;
 }

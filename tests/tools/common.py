@@ -12,7 +12,7 @@ sys.path.insert(0, os.path.join(ROOT, "tools"))
 
 # A kernel that gives every call the same answer, which stands for the word ANSWER.
 WRONG = "".join(f"unsigned long long gmap_{call}(void);\nunsigned long long gmap_{call}(void) {{ return ANSWER; }}\n"
-                for call in ("check_table", "check_scheme", "edit", "edit2", "load", "write"))
+                for call in ("check_table", "check_scheme", "edit", "edit2", "load", "write", "count"))
 
 
 def run(*words, **more):
