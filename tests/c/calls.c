@@ -1,5 +1,6 @@
-/* Scheme check, edit at one dart and at two, load and write through the C interface: the samples P4 to P13, every answer of each
- * call, the order of refusals and of the pairs of a refusal 5, what each call leaves in each buffer, and whose tag a new dart takes. */
+/* Scheme check, edit at one dart and at two, load, write and count through the C interface: the samples P4 to P13, every answer of each
+ * call, the order of refusals and of the pairs of a refusal 5, what each call leaves in each buffer, whose tag a new dart takes, and the
+ * counts of maps whose cells are known. */
 #include "gmap.h"
 #include "check.h"
 #include <string.h>
@@ -54,6 +55,7 @@ static const uint8_t file3[37] = { 3, N, 0, 2, 0, 2, 0, 5, 0, 2, 0, 4, 3, 2, 1, 
 
 static uint32_t table[GMAP_RECORD * N], before[GMAP_RECORD * N], store[GMAP_STORE * N];
 static uint8_t out[64];
+static uint32_t counts[GMAP_COUNTS + 2];
 
 static uint64_t refused(uint64_t number, uint64_t node, uint64_t i, uint64_t j)
 {
@@ -689,12 +691,203 @@ static void loads(void)
     expect("load, no dart, check", gmap_check_table(2, N, table, GMAP_RECORD * N), 0);
 }
 
-/* The table is a broken map as it was loaded: check, edit and write answer 7 and leave every buffer, and a good file goes over it. */
+/* A count of the table as it stands. */
+static uint64_t count(uint32_t n, uint32_t slots, size_t length)
+{
+    return gmap_count(n, slots, table, GMAP_RECORD * slots, store, GMAP_STORE * slots, counts, length);
+}
+
+/* A count that is refused: the output stays, and table and store are as after an edit that is refused. */
+static void uncounted(const char *what, uint64_t answer, uint32_t wanted, uint32_t slots)
+{
+    refuse(what, answer, refusal(wanted), slots);
+    expect("  output", all(counts, sizeof counts, JUNK), 1);
+    memset(counts, JUNK, sizeof counts);
+}
+
+static void refusals_of_counts(void)
+{
+    static uint32_t large[GMAP_RECORD * (GMAP_MAX_SLOTS + 1)], more[GMAP_STORE * (GMAP_MAX_SLOTS + 1)];
+    memset(counts, JUNK, sizeof counts);
+    for (uint32_t good = 0; good < 2; good++) { /* 1 is before 7 and 12, so it is given for a broken map and a short output too */
+        sample();
+        if (!good) table[GMAP_RECORD * UNUSED] = 2;
+        memcpy(before, table, sizeof table);
+        size_t length = good ? GMAP_COUNTS : 0;
+        uncounted("count, n = 0", count(0, N, length), 1, N);
+        uncounted("count, n = 1", count(1, N, length), 1, N);
+        uncounted("count, n = 4", count(4, N, length), 1, N);
+        uncounted("count, n = 2^32 - 1", count(UINT32_MAX, N, length), 1, N);
+        uncounted("count, N = 0", count(2, 0, length), 1, N);
+        uncounted("count, a word too few", gmap_count(2, N, table, GMAP_RECORD * N - 1, store, GMAP_STORE * N, counts, length), 1, N);
+        uncounted("count, a slot too few", gmap_count(2, N - 1, table, GMAP_RECORD * N, store, GMAP_STORE * (N - 1), counts, length), 1, N);
+        uncounted("count, a word of the store too few", gmap_count(2, N, table, GMAP_RECORD * N, store, GMAP_STORE * N - 1, counts, length), 1, N);
+        uncounted("count, a word of the store too many", gmap_count(2, N - 1, table, GMAP_RECORD * (N - 1), store, GMAP_STORE * (N - 1) + 1, counts, length), 1, N);
+        uncounted("count, no store", gmap_count(2, N, table, GMAP_RECORD * N, store, 0, counts, length), 1, N);
+    }
+    memset(more, JUNK, sizeof more);
+    expect("count, N = 1025", gmap_count(2, GMAP_MAX_SLOTS + 1, large, GMAP_RECORD * (GMAP_MAX_SLOTS + 1), more, GMAP_STORE * (GMAP_MAX_SLOTS + 1), counts, GMAP_COUNTS),
+           refusal(1));
+    expect("count, N = 1025, store", all(more, sizeof more, JUNK), 1);
+    expect("count, N = 1025, output", all(counts, sizeof counts, JUNK), 1);
+
+    sample();
+    for (size_t length = 0; length < GMAP_COUNTS; length++) uncounted("count, 12", count(2, N, length), 12, N);
+    table[GMAP_RECORD * UNUSED] = 2;
+    memcpy(before, table, sizeof table);
+    for (size_t length = 0; length <= GMAP_COUNTS; length++) uncounted("count, 7 before 12", count(2, N, length), 7, N);
+    sample();
+    table[GMAP_LINK + 3] = 1;
+    table[GMAP_RECORD + GMAP_LINK + 3] = 0;
+    memcpy(before, table, sizeof table);
+    uncounted("count, 7, a3 with n = 2", count(2, N, GMAP_COUNTS), 7, N);
+    expect("count, a3 with n = 3", count(3, N, GMAP_COUNTS), 0);
+}
+
+/* A map that is counted: its darts and their links, before they are put in slots. */
+enum { MOST = 96, ROOM = 101 };
+static uint32_t links[MOST][4], darts;
+
+static void join(uint32_t i, uint32_t x, uint32_t y)
+{
+    links[x][i] = y;
+    links[y][i] = x;
+}
+
+/* Adds a closed chain of edges, of which edge e has darts 2e and 2e + 1, and returns its first dart. No edges are a lone dart. */
+static uint32_t face(uint32_t edges)
+{
+    uint32_t first = darts, last = edges == 0 ? first + 1 : first + 2 * edges;
+    for (; darts < last; darts++)
+        for (uint32_t i = 0; i < 4; i++) links[darts][i] = darts;
+    for (uint32_t e = 0; e < edges; e++) {
+        join(0, first + 2 * e, first + 2 * e + 1);
+        join(1, first + 2 * e + 1, first + (2 * e + 2) % (2 * edges));
+    }
+    return first;
+}
+
+/* Adds a cube, its bottom first, then its top, and returns its first dart; its four sides go around both. */
+static uint32_t cube(void)
+{
+    uint32_t bottom = face(4), top = face(4), side[4];
+    for (uint32_t s = 0; s < 4; s++) side[s] = face(4);
+    for (uint32_t s = 0; s < 4; s++) {
+        uint32_t next = side[(s + 1) % 4];
+        join(2, bottom + 2 * s, side[s]);
+        join(2, bottom + 2 * s + 1, side[s] + 1);
+        join(2, top + 2 * s, side[s] + 5);
+        join(2, top + 2 * s + 1, side[s] + 4);
+        join(2, side[s] + 2, next + 7);
+        join(2, side[s] + 3, next + 6);
+    }
+    return bottom;
+}
+
+/* Counts the map with its darts in other slots, in tables with unused records and without, whatever these and the store hold, and into
+ * outputs of six words and of more. */
+static void counted(const char *what, uint32_t n, const uint32_t wanted[GMAP_COUNTS])
+{
+    static uint32_t map[GMAP_RECORD * ROOM], same[GMAP_RECORD * ROOM], work[GMAP_STORE * ROOM];
+    for (uint32_t turn = 0; turn < 24; turn++) {
+        uint32_t slots = turn & 1 || darts == 0 ? ROOM : darts, held = turn >> 1 & 3, order = turn >> 3;
+        size_t length = turn & 2 ? GMAP_COUNTS : sizeof counts / sizeof counts[0];
+        for (uint32_t w = 0; w < GMAP_RECORD * slots; w++)
+            map[w] = w % GMAP_RECORD == GMAP_STATE || held == 0 ? 0 : held == 1 ? UINT32_MAX : held == 2 ? w % slots : 1;
+        for (uint32_t x = 0; x < darts; x++) {
+            uint32_t at[5] = { x, links[x][0], links[x][1], links[x][2], links[x][3] };
+            for (uint32_t e = 0; e < 5; e++) at[e] = order == 0 ? at[e] : order == 1 ? slots - 1 - at[e] : slots == ROOM ? 7 * at[e] % ROOM : (at[e] + 1) % darts;
+            uint32_t record[GMAP_RECORD] = { 1, at[1], at[2], at[3], at[4], x };
+            memcpy(map + GMAP_RECORD * at[0], record, sizeof record);
+        }
+        memcpy(same, map, sizeof map);
+        memset(work, held == 0 ? 0 : held == 1 ? 0xFF : JUNK, sizeof work);
+        memset(counts, JUNK, sizeof counts);
+        expect(what, gmap_count(n, slots, map, GMAP_RECORD * slots, work, GMAP_STORE * slots, counts, length), 0);
+        for (uint32_t e = 0; e < GMAP_COUNTS; e++) expect(what, counts[e], wanted[e]);
+        expect("  output beyond the counts", all(counts + GMAP_COUNTS, sizeof counts - 4 * GMAP_COUNTS, JUNK), 1);
+        expect("  table", memcmp(map, same, sizeof map) == 0, 1);
+        expect("  store", all(work, 4 * GMAP_STORE * slots, 0), 1);
+    }
+}
+
+/* Counts the map for n = 3, and for n = 2 where no 3-link joins two darts; then the next map is made. */
+static void cells(const char *what, uint32_t vertices, uint32_t edges, uint32_t faces, uint32_t pieces, uint32_t volumes)
+{
+    uint32_t sheets[GMAP_COUNTS] = { darts, vertices, edges, faces, pieces, 0 };
+    uint32_t space[GMAP_COUNTS] = { darts, vertices, edges, faces, pieces, volumes };
+    int flat = 1;
+    for (uint32_t x = 0; x < darts; x++) flat &= links[x][3] == x;
+    if (flat) counted(what, 2, sheets);
+    counted(what, 3, space);
+    darts = 0;
+}
+
+static void counts_of_cells(void)
+{
+    uint32_t one, other;
+    cells("count, no dart", 0, 0, 0, 0, 0);
+    face(0);
+    cells("count, a lone dart", 1, 1, 1, 1, 1);
+    for (uint32_t e = 0; e < 5; e++) face(0);
+    cells("count, five lone darts", 5, 5, 5, 5, 5);
+    face(0), face(0), join(0, 0, 1);
+    cells("count, an edge", 2, 1, 1, 1, 1);
+    face(0), face(0), join(1, 0, 1);
+    cells("count, a corner", 1, 2, 1, 1, 1);
+    face(0), face(0), join(2, 0, 1);
+    cells("count, two darts joined by a2", 1, 1, 2, 1, 1);
+    face(0), face(0), join(3, 0, 1);
+    cells("count, two darts joined by a3", 1, 1, 1, 1, 2);
+    face(4);
+    cells("count, a square", 4, 4, 1, 1, 1);
+    face(4), face(3), face(0);
+    cells("count, a square, a triangle, a lone dart", 8, 8, 3, 3, 3);
+    one = face(4), other = face(4);
+    join(2, one + 2, other + 7), join(2, one + 3, other + 6);
+    cells("count, two squares that meet", 6, 7, 2, 1, 1);
+    one = face(4);
+    join(2, one + 2, one + 7), join(2, one + 3, one + 6), join(2, one, one + 5), join(2, one + 1, one + 4);
+    cells("count, a torus of one square", 1, 2, 1, 1, 1);
+    one = face(4), other = face(4);
+    for (uint32_t e = 0; e < 8; e++) join(3, one + e, other + e);
+    cells("count, a sheet with its back", 4, 4, 1, 1, 2);
+    cube();
+    cells("count, a cube", 8, 12, 6, 1, 1);
+    cube(), cube();
+    cells("count, two cubes", 16, 24, 12, 2, 2);
+    one = cube(), other = cube();
+    for (uint32_t e = 0; e < 8; e++) join(3, one + 8 + e, other + e);
+    cells("count, two cubes, one on the other", 12, 20, 11, 1, 2);
+}
+
+/* The largest tables: one face of all darts, and lone darts alone. */
+static void largest_counts(void)
+{
+    enum { ALL = GMAP_MAX_SLOTS };
+    static uint32_t map[GMAP_RECORD * ALL], work[GMAP_STORE * ALL];
+    for (uint32_t n = 2; n <= 3; n++)
+        for (uint32_t lone = 0; lone < 2; lone++) {
+            for (uint32_t x = 0; x < ALL; x++) {
+                uint32_t next = x % 2 ? (x + 1) % ALL : (x + ALL - 1) % ALL, record[GMAP_RECORD] = { 1, lone ? x : x ^ 1, lone ? x : next, x, x, 0 };
+                memcpy(map + GMAP_RECORD * x, record, sizeof record);
+            }
+            uint32_t wanted[GMAP_COUNTS] = { ALL, lone ? ALL : ALL / 2, lone ? ALL : ALL / 2, lone ? ALL : 1, lone ? ALL : 1, n == 2 ? 0 : lone ? ALL : 1 };
+            memset(work, JUNK, sizeof work);
+            memset(counts, JUNK, sizeof counts);
+            expect("count, 1024 darts", gmap_count(n, ALL, map, GMAP_RECORD * ALL, work, GMAP_STORE * ALL, counts, GMAP_COUNTS), 0);
+            for (uint32_t e = 0; e < GMAP_COUNTS; e++) expect("count, 1024 darts", counts[e], wanted[e]);
+            expect("count, 1024 darts, store", all(work, sizeof work, 0), 1);
+        }
+}
+
+/* The table is a broken map as it was loaded: check, edit, write and count answer 7 and leave every buffer, and a good file goes over it. */
 static void broken(const char *what, uint32_t n, const uint8_t *scheme, size_t length, const uint8_t *good, size_t good_length)
 {
     memcpy(before, table, sizeof table);
     memset(store, JUNK, sizeof store);
     memset(out, JUNK, sizeof out);
+    memset(counts, JUNK, sizeof counts);
     expect(what, gmap_check_table(n, N, table, GMAP_RECORD * N), refusal(7));
     expect("  table as loaded", memcmp(table, before, sizeof table) == 0, 1);
     refuse(what, edit(n, N, scheme, length, 0), refusal(7), N);
@@ -704,6 +897,7 @@ static void broken(const char *what, uint32_t n, const uint8_t *scheme, size_t l
     expect(what, gmap_write(n, N, table, GMAP_RECORD * N, out, sizeof out), refusal(7));
     expect("  table as loaded", memcmp(table, before, sizeof table) == 0, 1);
     expect("  output", all(out, sizeof out, JUNK), 1);
+    uncounted(what, count(n, N, GMAP_COUNTS), 7, N);
     expect("  a good file over it", load(n, N, good, good_length), 0);
     expect("  check", gmap_check_table(n, N, table, GMAP_RECORD * N), 0);
 }
@@ -756,6 +950,9 @@ int main(void)
     loads_out_of_form();
     loads();
     loads_of_broken_maps();
+    refusals_of_counts();
+    counts_of_cells();
+    largest_counts();
     if (wrong == 0) puts("calls: all as wanted");
     return wrong != 0;
 }

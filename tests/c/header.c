@@ -74,7 +74,7 @@ static void places_of_counts(void)
 {
     enum { DARTS = 8 };
     static const uint32_t links[DARTS][3] = { { 1, 0, 0 }, { 0, 2, 1 }, { 3, 1, 5 }, { 2, 3, 4 }, { 5, 4, 3 }, { 4, 6, 2 }, { 7, 5, 6 }, { 6, 7, 7 } };
-    uint32_t table[GMAP_RECORD * DARTS], store[GMAP_STORE * DARTS], counts[GMAP_COUNTS];
+    uint32_t table[GMAP_RECORD * DARTS], store[GMAP_STORE * DARTS], counts[GMAP_COUNTS] = { 9, 9, 9, 9, 9, 9 };
     for (uint32_t x = 0; x < DARTS; x++) {
         uint32_t record[GMAP_RECORD] = { 1, links[x][0], links[x][1], links[x][2], x, 0 };
         memcpy(table + GMAP_RECORD * x, record, sizeof record);

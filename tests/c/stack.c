@@ -23,6 +23,9 @@ static uint32_t other;
 static void edit2(void) { answer = gmap_edit2(n, N, table, GMAP_RECORD * N, store, GMAP_STORE * N, scheme, scheme_len, 0, other); }
 static void load_file(void) { answer = gmap_load(n, N, table, GMAP_RECORD * N, file, gmap_file_length(n, N)); }
 static void write_file(void) { answer = gmap_write(n, N, table, GMAP_RECORD * N, file, sizeof file); }
+static uint32_t counts[GMAP_COUNTS];
+static size_t counts_len = GMAP_COUNTS;
+static void count(void) { answer = gmap_count(n, N, table, GMAP_RECORD * N, store, GMAP_STORE * N, counts, counts_len); }
 
 /* Closed chains of edges through the first slots, `live` darts in each, with other links loops. */
 static void polygons(uint32_t count, uint32_t live)
@@ -143,7 +146,14 @@ int main(void)
         measure(n == 2 ? "load n=2" : "load n=3", load_file, 0);
         file[0] = 9;
         measure(n == 2 ? "load n=2, refused 11" : "load n=3, refused 11", load_file, 11);
+        polygons(4, N / 4);
+        measure(n == 2 ? "count n=2" : "count n=3", count, 0);
     }
+    n = 2;
+    counts_len = 0;
+    measure("count, refused 12", count, 12);
+    table[0] = 2;
+    measure("count, refused 7", count, 7);
     longest();
     expect("length of the longest accepted scheme", scheme_len, 447);
     n = 3;
