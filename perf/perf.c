@@ -2,7 +2,7 @@
  *   perf [REPS]     median times (ns), interleaved base/gmap, and their ratio
  *   perf instr      one call of each under callgrind, for perf/run --instructions
  * State is restored outside the timed part; both use the same buffers.  The two
- * answers of a row must be equal and as wanted, or the run ends there. */
+ * answers of a row, and the counts, must be equal and as wanted, or the run ends there. */
 #define _GNU_SOURCE
 #include "baseline.h"
 #include "gmap.h"
@@ -52,8 +52,9 @@ static void counter_open(void)
 static u32 table[6 * N + 64], table0[6 * N], store[16 * N + 64];
 static u8 scheme[700], file[16384], out[16384];
 static u32 scheme_len, file_len, out_len, dim, dart, other, store_len, slots = N;
-typedef enum { CT, CS, ED, E2, LD, LC, WR, CALLS } call;
-static const char *const call_names[CALLS] = { "check_table", "check_scheme", "edit", "edit2", "load", "load + check", "write" };
+static u32 counts[GMAP_COUNTS], counts_len = GMAP_COUNTS;
+typedef enum { CT, CS, ED, E2, LD, LC, WR, CO, CALLS } call;
+static const char *const call_names[CALLS] = { "check_table", "check_scheme", "edit", "edit2", "load", "load + check", "write", "count" };
 
 static PIN u64 base_call(call c)
 {
@@ -64,6 +65,7 @@ static PIN u64 base_call(call c)
     case E2: return base_edit2(dim, slots, table, 6 * slots, store, store_len, scheme, scheme_len, dart, other);
     case LD: return base_load(dim, slots, table, 6 * slots, file, file_len);
     case LC: { u64 a = base_load(dim, slots, table, 6 * slots, file, file_len); return a ? a : base_check_table(dim, slots, table, 6 * slots); }
+    case CO: return base_count(dim, slots, table, 6 * slots, store, store_len, counts, counts_len);
     default: return base_write(dim, slots, table, 6 * slots, out, out_len);
     }
 }
@@ -76,13 +78,14 @@ static PIN u64 gmap_call(call c)
     case E2: return gmap_edit2(dim, slots, table, 6 * slots, store, store_len, scheme, scheme_len, dart, other);
     case LD: return gmap_load(dim, slots, table, 6 * slots, file, file_len);
     case LC: { u64 a = gmap_load(dim, slots, table, 6 * slots, file, file_len); return a ? a : gmap_check_table(dim, slots, table, 6 * slots); }
+    case CO: return gmap_count(dim, slots, table, 6 * slots, store, store_len, counts, counts_len);
     default: return gmap_write(dim, slots, table, 6 * slots, out, out_len);
     }
 }
 static void restore(call c)
 {
     memcpy(table, table0, sizeof table0);
-    if (c == ED || c == E2) memset(store, 0x5A, 64 * N);
+    if (c == ED || c == E2 || c == CO) memset(store, 0x5A, 64 * N);
 }
 
 /* -------------------------------------------------------------------- maps */
@@ -257,11 +260,16 @@ static void note(u32 e, double ratio, const char *name)
 static void measure(const char *name, call c, int batched, u64 want)
 {
     static double va[20001], vb[20001];
+    u32 counted[GMAP_COUNTS];
+    memset(counts, 0, sizeof counts);
     restore(c); u64 a = base_call(c);
+    memcpy(counted, counts, sizeof counts);
+    memset(counts, 0, sizeof counts);
     restore(c); u64 b = gmap_call(c);
     u64 num = a >> 63 ? a & 255 : 0;
     if (num != want) { printf("%-50s unexpected answer %016llx\n", name, (unsigned long long)a); exit(2); }
     if (a != b) { printf("%-50s ANSWERS DIFFER %016llx %016llx\n", name, (unsigned long long)a, (unsigned long long)b); exit(1); }
+    if (memcmp(counted, counts, sizeof counts)) { printf("%-50s COUNTS DIFFER\n", name); exit(1); }
 #if defined(HAVE_CALLGRIND)
     if (instr_mode) {                  /* run with --collect-atstart=no */
         char la[100], lb[100];
@@ -322,21 +330,21 @@ static void floor_of(const char *name, void (*f)(void))
 static void edit(const char *name, u64 want) { measure(name, ED, want != 0, want); }
 static void edit2(const char *name, u64 want) { measure(name, E2, want != 0, want); }
 
-/* The same edit on tables of 64 to 1,024 slots, live to the given part: how the time grows. */
+/* The same edit, or a count where no operation is given, on tables of 64 to 1,024 slots, live to the given part: how the time grows. */
 static void growth(const char *name, const char *operation, u32 part)
 {
     static char names[16][64];
     static u32 used;
     double base_first = 0, gmap_first = 0;
     dim = 2; dart = 0;
-    text(operation);
+    if (operation) text(operation);
     for (slots = 64; slots <= N; slots *= 2) {
         u32 squares = slots / part / 8;
         char *row = names[used++];
-        snprintf(row, sizeof names[0], "edit n=2 %s of %u slots", name, slots);
+        snprintf(row, sizeof names[0], "%s n=2 %s of %u slots", operation ? "edit" : "count", name, slots);
         zero(); torus(squares < 8 ? 1 : squares / 8, squares < 8 ? squares : 8);
         store_len = 16 * slots;
-        edit(row, 0);
+        measure(row, operation ? ED : CO, !operation, 0);
         if (slots == 64) { base_first = base_ns; gmap_first = gmap_ns; }
     }
     slots = N; store_len = 16 * N;
@@ -470,6 +478,19 @@ int main(int argc, char **argv)
     zero(); polygon(85); other = polygon(85);
     text("2;01;P01>01 P01>01 A0_ A_2 A_2 A0_;200 211;034 123 145 202 215;h1;d0011");
                                               edit2("edit2 n=2 tube, donors (orbit 170, four added)", 0);
+    /* counts */
+    dim = 2; zero(); torus(16, 8);            measure("count n=2 full", CO, 1, 0);
+    shuffle();                                measure("count n=2 full, slots shuffled", CO, 1, 0);
+    dim = 3; zero(); mirrored(8, 512);        measure("count n=3 full", CO, 1, 0);
+    shuffle();                                measure("count n=3 full, slots shuffled", CO, 1, 0);
+    dim = 2; zero(); torus(8, 8); shuffle();  measure("count n=2 half live, shuffled", CO, 1, 0);
+    zero(); polygon(512);                     measure("count n=2 one face of 1024 darts", CO, 1, 0);
+    zero(); for (u32 x = 0; x < N; x++) dart_at(x);
+                                              measure("count n=2 1024 lone darts", CO, 1, 0);
+    zero();                                   measure("count n=2 empty", CO, 1, 0);
+    counts_len = 5;                           measure("count refused 12", CO, 1, 12); counts_len = GMAP_COUNTS;
+    zero(); torus(16, 8); AL(1023, 3) = 0;    measure("count refused 7 (last slot)", CO, 1, 7);
+    store_len--;                              measure("count refused 1 (store length)", CO, 1, 1); store_len++;
     /* files */
     for (dim = 2; dim <= 3; dim++) {
         zero(); if (dim == 2) torus(16, 8); else mirrored(8, 512);
@@ -486,6 +507,7 @@ int main(int argc, char **argv)
     }
     growth("drop piece, full table", "2;012;D012;;", 1);
     growth("edge split, half full table", "2;02;P02>_2 A12;;001", 2);
+    growth("full table", NULL, 1);
     if (!instr_mode) summarize();
     return 0;
 }
