@@ -12,6 +12,7 @@ use Rattle.base.specs.Digits.{numberAt}
 use Rattle.base.proofs.TestLaws.{and-left, and-right, and-of, true-or-false}
 use Rattle.model.specs.File.{twoAt}
 use Rattle.program.specs.Opening.{longestFile}
+use Rattle.program.proofs.OpeningLaws.{two-of}
 use Rattle.bench.specs.Bench.{mapLength, schemeLength, dartCount, framed, longestScheme, mostDarts}
 use Rattle.bench.specs.Input.{countAt, Laid, FramingOf}
 use Rattle.bench.specs.declared.framing.Framing.{Framing}
@@ -19,8 +20,8 @@ use Rattle.bench.specs.declared.framing.Framing.the-variants.{Framed, Fa
 use Rattle.bench.specs.declared.framing.Layout.{Layout}
 
 pub count-of : (b : List ℕ) (at v : ℕ) → v ≡ numberAt 2 b at → v ≡ countAt b at
-unfolding numberAt countAt
-count-of b at v e = rw e (omega arith)
+unfolding countAt
+count-of b at v e = two-of b at v e
 
 module _ (b : List ℕ) (map scheme darts : ℕ) (x : map ≡ countAt b 0) (y : scheme ≡ countAt b (2 + map)) (z : darts ≡ countAt b (4 + map + scheme)) where
   pub map-length : mapLength b ≡ map

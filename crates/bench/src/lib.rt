@@ -6,9 +6,9 @@ mod writer;
 
 use framing::Framing;
 use framing::frame;
-use model::MAX_SLOTS;
 use program::lines::refused_line;
 use program::opening::Opened;
+use program::opening::STORE;
 use program::opening::TABLE;
 use program::opening::open;
 use session::session;
@@ -16,9 +16,6 @@ use table::words::size;
 ghost use Prim.Native.Nat.{_≤_};
 ghost use lib.ListN.{length};
 ghost use Rattle.bench.specs.Session.{longest, Printed};
-
-// The words of a store for the greatest number of slots.
-const STORE: usize = 16 * MAX_SLOTS as usize;
 
 // Prints to the start of `out`, and gives the number of bytes.
 pub fn run(input: &[u8], out: &mut [u8]) -> usize

@@ -3,23 +3,24 @@
 use Prim.Native.Nat.{ℕ, _≤_, _<_}
 use mathlib.Core.Path.{_≡_, refl, sym, ap, ap₂, _∙_, subst}
 use mathlib.Core.Logic.{by-cases}
-use mathlib.Core.Bool.{true, false}
+use mathlib.Core.Bool.{Bool, true, false, cond}
 use mathlib.Core.Option.{Option·getD}
 use mathlib.Core.List.{List, _++_}
 use native.Mathlib.Decide.{ℕ-discrete}
 use native.Mathlib.Omega.{arith}
 use lib.Dec.{eqb, leb}
-use lib.ListN.{length, take, drop, replicate, length-replicate}
+use lib.ListN.{length, take, drop, length-replicate}
 use lib.Seq.{length-take-le, take-at}
-use borrow.Author.Tests.{le-leb, lt-leb, eq-eqb, ne-eqb}
+use borrow.Author.Tests.{le-leb, lt-leb, eq-eqb, ne-eqb, eqb-false}
 use Rattle.base.specs.Test.{_and_, _or_}
 use Rattle.base.specs.Digits.{numberAt}
 use Rattle.base.proofs.TestLaws.{impossible, and-of, and-no-left, and-no-right}
 use Rattle.model.specs.Answer.{number}
 use Rattle.model.specs.Map.{tableSize, maxSlots}
+use Rattle.model.specs.File.{twoAt}
 use Rattle.model.specs.Calls.{sizesOk, checkTable, loadFaultAt, loadFault, loadAnswer, loadTable}
 use Rattle.model.specs.declared.Answer.{Answer}
-use Rattle.model.specs.declared.Answer.the-variants.{Done}
+use Rattle.model.specs.declared.Answer.the-variants.{Done, BadFile}
 use Rattle.model.proofs.AnswerLaws.{answers-same}
 use Rattle.model.proofs.HoldsLaws.{table-length, load-slotted}
 use Rattle.model.proofs.SizeLaws.{sizes-iff}
@@ -45,9 +46,13 @@ module _ (n N : ℕ) (t u b : List ℕ) (e : length t ≡ length u) where
 
 -- ---- n and N
 
+pub two-of : (b : List ℕ) (at v : ℕ) → v ≡ numberAt 2 b at → v ≡ twoAt b at
+unfolding numberAt
+two-of b at v e = rw e (omega arith)
+
 pub named-of : (f : List ℕ) (n N : ℕ) → 3 ≤ length f → n ≡ numberAt 1 f 0 → N ≡ numberAt 2 f 1 → Named f n N
 unfolding numberAt fileDimension fileSlots
-named-of f n N h e g = record { long = h; dimension = rw e (omega arith); slots = rw g (omega arith) }
+named-of f n N h e g = record { long = h; dimension = rw e (omega arith); slots = two-of f 1 N g }
 
 -- ---- the answer, case by case
 
@@ -129,6 +134,17 @@ unfolding openTable
 short-table f t h = rw (and-no-left (leb (fileSlots f) maxSlots) (lt-leb 3 (length f) h)) refl
 
 -- ---- where the map is open
+
+-- a file that is not refused has passed the check
+pub open-checked : (f : List ℕ) → number (openAnswer f) ≡ 0 → number (checkTable (fileDimension f) (fileSlots f) (fileTable f)) ≡ 0
+unfolding openAnswer
+open-checked f z = go (leb 3 (length f)) (eqb (number (fileLoaded f)) 0) (checkTable (fileDimension f) (fileSlots f) (fileTable f)) (fileLoaded f)
+    (eqb-false (number (fileLoaded f)) 0) z
+  where
+    go : (long done : Bool) (c l : Answer) → (done ≡ false → number l ≡ 0 → ⊥) → number (cond long (cond done c l) BadFile) ≡ 0 → number c ≡ 0
+    go true true c l ne z = z
+    go true false c l ne z = absurd (ne refl z)
+    go false done c l ne z = absurd (omega (arith, z))
 
 module _ (f : List ℕ) (n N : ℕ) (m : MapOpen f n N) where
   open-loaded : number (fileLoaded f) ≡ 0

@@ -17,6 +17,9 @@ pub const LONGEST_FILE: usize = 14345;
 // The words of a table for the greatest number of slots.
 pub const TABLE: usize = RECORD * MAX_SLOTS as usize;
 
+// The words of a working store for the greatest number of slots.
+pub const STORE: usize = 16 * MAX_SLOTS as usize;
+
 // A map that is open, or the number of the refusal.
 pub enum Opened {
     Map { n: u32, slots: u32 },
