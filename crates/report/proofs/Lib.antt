@@ -1,0 +1,7 @@
+pub mod LineLaws
+pub mod AheadLaws
+pub mod MapLaws
+pub mod FeedLaws
+pub mod EndLaws
+pub mod StepLaws
+pub mod OneOutcome
