@@ -12,7 +12,7 @@ from common import Case, run
 from gmap import files
 
 COMMANDS = ["tools/archive", "tools/bench", "tools/program", "tools/scheme", "tools/map", "tools/apply", "tools/promises", "tools/cost", "tests/run", "perf/run",
-            "perf/report", "perf/maps"]
+            "perf/report", "perf/maps", "tests/reports/beside"]
 
 
 class Manners(Case):
