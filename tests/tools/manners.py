@@ -11,8 +11,8 @@ from common import Case, run
 
 from gmap import files
 
-COMMANDS = ["tools/archive", "tools/bench", "tools/program", "tools/scheme", "tools/map", "tools/apply", "tools/promises", "tools/cost", "tests/run", "perf/run",
-            "perf/report", "perf/maps", "tests/reports/beside"]
+COMMANDS = ["tools/archive", "tools/bench", "tools/program", "tools/scheme", "tools/map", "tools/apply", "tools/report", "tools/promises",
+            "tools/cost", "tests/run", "tests/reports/beside", "perf/run", "perf/report", "perf/maps"]
 
 
 class Manners(Case):

@@ -52,27 +52,30 @@ def lines_of(text):
 
 
 def write_whole(path, data):
-    """Writes a file so that it is there whole or not at all; what is no plain file, as a pipe, is written straight."""
+    """Writes a file, bytes or an iterator over them, so that it is there whole or not at all; what is no plain file, as a pipe, is written
+    straight."""
+    pieces = (data,) if isinstance(data, bytes) else data
     try:
         mode = os.stat(path).st_mode
     except FileNotFoundError:
         mode = None
     if mode is not None and not stat.S_ISREG(mode):
         with open(path, "wb") as file:
-            file.write(data)
+            file.writelines(pieces)
         return
     path = os.path.realpath(path)
     part = f"{path}.{os.getpid()}.part"
     try:
         with open(part, "xb") as file:
-            file.write(data)
+            file.writelines(pieces)
         if mode is not None:
             os.chmod(part, stat.S_IMODE(mode))
         os.replace(part, path)
     except OSError as error:
+        raise OSError(error.errno, error.strerror, path) from None
+    finally:
         if os.path.exists(part):
             os.remove(part)
-        raise OSError(error.errno, error.strerror, path) from None
 
 
 def complain(message):

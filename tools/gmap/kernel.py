@@ -55,18 +55,26 @@ def archive():
     return out
 
 
-def library():
-    """The library, which is named after what it is made of, so that another archive or header makes another."""
-    kernel, header, functions = archive(), os.path.join(ROOT, "include", "gmap.h"), os.path.join(HERE, "library.c")
-    sources = b"".join(hashlib.sha256(data_of(path)).digest() for path in (kernel, header, functions, os.path.abspath(__file__)))
+def library(*archives):
+    """The library of what gmap.h has inline and of the calls of an archive, where one is given. It is named after what it is made of, so that
+    another archive or header makes another."""
+    header, functions = os.path.join(ROOT, "include", "gmap.h"), os.path.join(HERE, "library.c")
+    sources = b"".join(hashlib.sha256(data_of(path)).digest() for path in (*archives, header, functions, os.path.abspath(__file__)))
     path = os.path.join(BUILT, f"kernel-{hashlib.sha256(sources).hexdigest()[:16]}.so")
     if not os.path.exists(path):
         make(path, lambda part: [*shlex.split(os.environ.get("CC") or "gcc"), "-std=c11", "-O1", "-fPIC", "-shared", "-I", os.path.dirname(header),
-                                 functions, "-Wl,--whole-archive", kernel, "-Wl,--no-whole-archive", "-o", part], "the kernel's library")
+                                 functions, "-Wl,--whole-archive", *archives, "-Wl,--no-whole-archive", "-o", part], "the kernel's library")
     try:
         return ctypes.CDLL(path)
     except OSError as error:
         raise Trouble(f"the kernel's library cannot be loaded: {error}") from None
+
+
+def header_words():
+    """A function that gives an answer's number in words, as gmap.h has them; no kernel is asked."""
+    words = library().tool_words
+    words.restype = ctypes.c_char_p
+    return lambda number: words(number).decode()
 
 
 class Answer:
@@ -91,7 +99,7 @@ class Kernel:
     @staticmethod
     @functools.lru_cache
     def loaded():
-        return Kernel(library())
+        return Kernel(library(archive()))
 
     def __init__(self, calls):
         self.calls = calls
