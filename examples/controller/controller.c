@@ -1,7 +1,8 @@
 /* controller PART ARCHIVE: a shift at a small cell, as an integrator would write it.
  *
  * It loads the part's map file and checks it, splits an edge, drops a piece, adds a flange, sews it to a flange of another lot, joins
- * the two ends by a strip, half of which is of each lot, and writes the archive's map file.
+ * the two ends by a strip, half of which is of each lot, and writes the archive's map file. Before the first edit and after the last it
+ * counts the part's vertices, edges, faces and pieces.
  * A part that is broken is shown as it was loaded, with the links that break it, and the shift ends there.
  * Every answer of the kernel is printed in words; the exit status is 0 only where the archive file was written.
  *
@@ -173,6 +174,16 @@ static int check_part(void)
     return 0;
 }
 
+/* Counts the part, and says how many vertices, edges and faces it has, and in how many pieces. */
+static int count_part(void)
+{
+    uint32_t counts[GMAP_COUNTS];
+    if (!told("count the part", gmap_count(n, slots, table, GMAP_RECORD * slots, store, GMAP_STORE * slots, counts, GMAP_COUNTS))) return 0;
+    printf("  %" PRIu32 " vertices, %" PRIu32 " edges, %" PRIu32 " faces in %" PRIu32 " %s\n", counts[GMAP_VERTICES], counts[GMAP_EDGES],
+           counts[GMAP_FACES], counts[GMAP_PIECES], counts[GMAP_PIECES] == 1 ? "piece" : "pieces");
+    return 1;
+}
+
 static int write_archive(const char *path)
 {
     uint64_t answer = gmap_write(n, slots, table, GMAP_RECORD * slots, file, sizeof file);
@@ -196,7 +207,7 @@ int main(int argc, char **argv)
     if (!load_part(argv[1])) return 1;
     keep_states();
     print_lots();
-    if (!check_part()) return 1;
+    if (!check_part() || !count_part()) return 1;
 
     /* Schemes are tested again by every edit; this finds a damaged one before the operator can pick it. */
     if (!told("check the stored operation", gmap_check_scheme(add_flange, sizeof add_flange))) return 1;
@@ -220,5 +231,5 @@ int main(int argc, char **argv)
     /* The strip grows on both ends: its scheme names the end that each half grows on as the donor of the lot. */
     if (!apply_at_two("join the two ends", join_flanges_by_strip, sizeof join_flanges_by_strip, END, OTHER_END)) return 1;
     print_lots();
-    return write_archive(argv[2]) ? 0 : 1;
+    return count_part() && write_archive(argv[2]) ? 0 : 1;
 }
