@@ -84,8 +84,11 @@ fn wide(x: u32) -> usize
     x as usize
 }
 
-// Live darts, of which there are `darts`, vertices, edges, faces, pieces and volumes.
-pub fn count(n: u32, slots: usize, table: &[u32], store: &mut [u32], darts: usize) -> [u32; 6]
+// Live darts, vertices, edges, faces, pieces and volumes.
+pub type Counts = [u32; 6];
+
+// The counts of a map that has `darts` live darts.
+pub fn count(n: u32, slots: usize, table: &[u32], store: &mut [u32], darts: usize) -> Counts
     requires { ⌜ (n ≡ 2) ⊎ (n ≡ 3) ⌝ }
     requires { ⌜ Sized slots (now table) ⌝ }
     requires { ⌜ WellFormed n (view slots (now table)) ⌝ }
