@@ -284,3 +284,16 @@ pub any-same : (n : ℕ) (f g : ℕ → Bool) → ((k : ℕ) → k < n → f k �
 unfolding anyBelow
 any-same zero f g h = refl
 any-same (suc n) f g h = ap₂ _or_ (any-same n f g (λ k l. h k (omega arith))) (h n (omega arith))
+
+-- where two tests never hold together, those that have one or the other are those that have the one, and those that have the other
+pub count-or : (n : ℕ) (p q : ℕ → Bool) → ((j : ℕ) → j < n → p j ≡ true → q j ≡ true → ⊥)
+    → countBelow n (λ j. p j or q j) ≡ countBelow n p + countBelow n q
+unfolding countBelow _or_
+count-or zero p q f = refl
+count-or (suc n) p q f = go (p n) (q n) (f n (omega arith)) (count-or n p q (λ j h. f j (omega arith)))
+  where
+    go : (a b : Bool) → (a ≡ true → b ≡ true → ⊥) → countBelow n (λ j. p j or q j) ≡ countBelow n p + countBelow n q
+        → countBelow n (λ j. p j or q j) + bit (a or b) ≡ countBelow n p + bit a + (countBelow n q + bit b)
+    go true true g h = absurd (g refl refl)
+    go true false g h = omega arith
+    go false b g h = omega arith

@@ -1,6 +1,7 @@
 pub mod TestLaws
 pub mod DigitLaws
 pub mod BelowLaws
+pub mod PairLaws
 pub mod FirstLaws
 pub mod ListLaws
 pub mod StepLaws

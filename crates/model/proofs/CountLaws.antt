@@ -12,11 +12,11 @@ use native.Mathlib.Omega.{arith}
 use lib.ListN.{getD}
 use lib.Dec.{eqb, ltb}
 use borrow.Author.Tests.{eqb-true, eq-eqb, not-true, not-false}
-use Rattle.base.specs.Test.{_and_, _or_, bit}
+use Rattle.base.specs.Test.{_and_, _or_}
 use Rattle.base.specs.Below.{anyBelow, countBelow}
 use Rattle.base.specs.First.{someIf, there, least}
 use Rattle.base.proofs.TestLaws.{and-left, and-right, and-of, and-no-left, or-cases, or-left, same-test, true-or-false, impossible}
-use Rattle.base.proofs.BelowLaws.{any-at, any-of, any-same, count-le, count-zero, count-same, le-or-lt}
+use Rattle.base.proofs.BelowLaws.{any-at, any-of, any-same, count-le, count-zero, count-same, count-or, le-or-lt}
 use Rattle.base.proofs.FirstLaws.{first-same, least-at, least-none}
 use Rattle.model.specs.Map.{Map, live}
 use Rattle.model.specs.WellFormed.{WellFormed}
@@ -36,19 +36,6 @@ any-step i p = rw add-one refl
 -- a test that holds only where another does adds nothing to it
 or-brings : (a : Bool) {b : Bool} → (b ≡ true → a ≡ true) → (a or b) ≡ a
 or-brings a f = same-test _ _ (λ e. ⊎-elim (λ w. w) f (or-cases a _ e)) (λ e. or-left _ e)
-
--- where two tests never hold together, those that have one or the other are those that have the one, and those that have the other
-count-or : (n : ℕ) (p q : ℕ → Bool) → ((j : ℕ) → j < n → p j ≡ true → q j ≡ true → ⊥)
-    → countBelow n (λ j. p j or q j) ≡ countBelow n p + countBelow n q
-unfolding countBelow _or_
-count-or zero p q f = refl
-count-or (suc n) p q f = go (p n) (q n) (f n (omega arith)) (count-or n p q (λ j h. f j (omega arith)))
-  where
-    go : (a b : Bool) → (a ≡ true → b ≡ true → ⊥) → countBelow n (λ j. p j or q j) ≡ countBelow n p + countBelow n q
-        → countBelow n (λ j. p j or q j) + bit (a or b) ≡ countBelow n p + bit a + (countBelow n q + bit b)
-    go true true g h = absurd (g refl refl)
-    go true false g h = omega arith
-    go false b g h = omega arith
 
 module _ (m : Map) (k : ℕ) (dim : ℕ → ℕ) where
   -- ---- what is reached
