@@ -11,10 +11,11 @@ use borrow.Author.Tests.{ne-eqb}
 use Rattle.base.specs.Below.{countBelow}
 use Rattle.base.proofs.BelowLaws.{count-le}
 use Rattle.model.specs.Answer.{number}
-use Rattle.model.specs.Map.{view, unused, maxSlots}
+use Rattle.model.specs.Map.{maxSlots}
 use Rattle.model.specs.Bytes.{nodesOf}
 use Rattle.model.specs.Scheme.{schemeOf, deleted}
-use Rattle.model.specs.Edit.{orbitSize, addedDarts, deletedDarts}
+use Rattle.model.specs.Match.{image}
+use Rattle.model.specs.Edit.{isFree, orbitSize, addedDarts, deletedDarts}
 use Rattle.model.specs.Calls.{siteDone, siteOf, editFault, editAnswer}
 use Rattle.bench.specs.Bench.{shown, dartLine, lastLine}
 use Rattle.model.specs.declared.Darts.the-variants.{One}
@@ -22,7 +23,8 @@ use Rattle.model.specs.declared.Answer.{Answer}
 use Rattle.model.specs.declared.Answer.the-variants.{Edited}
 use Rattle.model.proofs.AnswerLaws.{number-few}
 use Rattle.model.proofs.SizeLaws.{sizes-iff}
-use Rattle.model.proofs.CallLaws.{granted}
+use Rattle.model.proofs.CallLaws.{granted, ready}
+use Rattle.model.proofs.EditLaws.{enough}
 use Rattle.model.proofs.SchemeLaws.{nodes-few}
 use Rattle.demands.proofs.RefusalLaws.{edit-within}
 use Rattle.program.proofs.DecimalLaws.{decimal-short}
@@ -58,7 +60,8 @@ module _ (n N : ℕ) (t store b : List ℕ) (d : ℕ) where
       let O = siteOf N t b (One d) .orbit in
       let orbits : countBelow N O ≤ N = count-le N O in
       let nodes : countBelow (nodesOf b) (deleted (schemeOf b)) ≤ 16 = omega (arith, count-le (nodesOf b) (deleted (schemeOf b)), nodes-few b (g .form)) in
-      let room : addedDarts (siteOf N t b (One d)) ≤ maxSlots = omega (arith, g .room, count-le N (unused (view N t))) in
+      let E = siteOf N t b (One d) in
+      let room : addedDarts E ≤ maxSlots = omega (arith, enough (ready n N t store b (One d) q), count-le N (isFree E (image E))) in
       let gone : countBelow N O * countBelow (nodesOf b) (deleted (schemeOf b)) ≤ 16 * maxSlots =
       omega (arith, mul-le-mul-left (countBelow N O) nodes) in
       done-short d _ _ _ (omega (arith, g .dart .slot)) (omega arith) room gone

@@ -11,15 +11,14 @@ use lib.ListN.{length}
 use lib.Dec.{eqb, ltb}
 use borrow.Author.Tests.{eqb-true, eq-eqb, ltb-false, le-ltb}
 use Rattle.base.specs.Test.{_and_}
-use Rattle.base.specs.Below.{countBelow}
 use Rattle.base.specs.First.{someIf, _orElse_}
 use Rattle.base.proofs.TestLaws.{and-left, and-right, and-of}
 use Rattle.base.proofs.FirstLaws.{when-none, or-else-none}
-use Rattle.model.specs.Map.{view, unused}
+use Rattle.model.specs.Map.{view}
 use Rattle.model.specs.WellFormed.{WellFormed, wellFormed}
 use Rattle.model.specs.Scheme.{schemeOf}
 use Rattle.model.specs.Match.{matches}
-use Rattle.model.specs.Edit.{addedDarts, dartOf, edited}
+use Rattle.model.specs.Edit.{addedDarts, roomOf, dartOf, edited}
 use Rattle.model.specs.Rewriting.{Rewriting}
 use Rattle.model.specs.Answer.{number, values}
 use Rattle.model.specs.Site.{Site, Sound}
@@ -136,7 +135,7 @@ module _ (n N : ℕ) (t store b : List ℕ) (d : Darts) where
   nine-is e =
       let p = admitted-by 9 (inr (omega arith)) _ e in (
         p .0,
-        λ m. fits (ltb (countBelow N (unused (view N t))) (addedDarts E)) _ _ (matched-is (p .0) m) refl (p .1),
+        λ m. fits (ltb (roomOf E) (addedDarts E)) _ _ (matched-is (p .0) m) refl (p .1),
       )
     where
       fits : (r s : Bool) (done : Answer) → s ≡ true → number done ≡ 0 → number (Option·getD (someIf (not s) NoMatch orElse someIf r NoRoom) done) ≡ 9 → ⊥
@@ -148,13 +147,13 @@ module _ (n N : ℕ) (t store b : List ℕ) (d : Darts) where
 
   -- there is room for the added darts
   abbrev Roomy : Site → Type 0
-  Roomy F = addedDarts F ≤ countBelow N (unused (view N t))
+  Roomy F = addedDarts F ≤ roomOf F
 
   pub applicable-free : Applicable n N t store b d → editFault n N t store b d ≡ none
   unfolding fitFault someIf _orElse_
   applicable-free a = admitted-fault (a .admitted) ∙ rw (
     matched-is (a .admitted) (a .match),
-    le-ltb (countBelow N (unused (view N t))) (addedDarts E)
+    le-ltb (roomOf E) (addedDarts E)
         (subst Roomy (one-site (a .admitted) (a .match .isOrbit)) (a .room)),
   )
 
@@ -168,7 +167,7 @@ module _ (n N : ℕ) (t store b : List ℕ) (d : Darts) where
         admitted = p .0;
         match = m;
         room = subst Roomy (sym (one-site (p .0) (m .isOrbit)))
-            (ltb-false (countBelow N (unused (view N t))) (addedDarts E) (when-none _ NoRoom (free .1)));
+            (ltb-false (roomOf E) (addedDarts E) (when-none _ NoRoom (free .1)));
       }
 
   module _ (a : Applicable n N t store b d) where

@@ -10,18 +10,17 @@ use lib.ListN.{length}
 use lib.Dec.{eqb, ltb}
 use borrow.Author.Tests.{eqb-true, eq-eqb, ne-eqb, ltb-true, lt-ltb}
 use native.Mathlib.Omega.{arith}
-use Rattle.base.specs.Below.{countBelow}
 use Rattle.base.specs.First.{someIf, _orElse_}
 use Rattle.base.proofs.TestLaws.{and-left, and-right, and-of, same-test}
 use Rattle.base.proofs.BelowLaws.{count-same}
 use Rattle.base.proofs.FirstLaws.{or-else-last}
-use Rattle.model.specs.Map.{Map, view, unused}
+use Rattle.model.specs.Map.{Map, view}
 use Rattle.model.specs.Count.{smallest, cells, allBut, all, counts}
 use Rattle.model.specs.WellFormed.{WellFormed}
 use Rattle.model.specs.Scheme.{inForm, schemeOf}
 use Rattle.model.specs.Accepted.{Accepted}
 use Rattle.model.specs.Conditions.{hookFault, incidenceFault, cycleFault, schemeFault, noted}
-use Rattle.model.specs.Edit.{addedDarts}
+use Rattle.model.specs.Edit.{addedDarts, roomOf}
 use Rattle.model.specs.File.{file, fileForm}
 use Rattle.model.specs.Answer.{number, values}
 use Rattle.model.specs.Site.{Site, Sound}
@@ -213,9 +212,9 @@ module _ (n N : ℕ) (t store b : List ℕ) (d : Darts) where
       let E = siteOf N t b d in
       let o = orbit-of N t b d g in
       order-test 9 _ (Counted N t b d) _ (matched-iff N t b d g) _ _ _ refl refl
-      (λ m. order-found 10 (Counted N t b d) (ltb (countBelow N (unused (view N t))) (addedDarts E)) (
+      (λ m. order-found 10 (Counted N t b d) (ltb (roomOf E) (addedDarts E)) (
         (λ e. record { orbit = E .orbit; isOrbit = o; few = ltb-true _ _ e }),
-        (λ c. lt-ltb _ _ (subst (λ (F : Site). countBelow N (unused (view N t)) < addedDarts F) (site-one N t b d g (c .isOrbit)) (c .few))),
+        (λ c. lt-ltb _ _ (subst (λ (F : Site). roomOf F < addedDarts F) (site-one N t b d g (c .isOrbit)) (c .few))),
       ) _ _ refl refl (λ no. (refl, (E .orbit, o, refl))))
 
   pub edit-order : FirstOf (editRefusals n N t store b d) (Counted N t b d) (editAnswer n N t store b d)

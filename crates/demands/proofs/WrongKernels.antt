@@ -3,6 +3,7 @@
 -- Two more take other darts than the call's two, and are refuted on F at 0 and 3: one takes the first for both hooks, and finds no match where two
 -- flanges are sewn; one takes them in the wrong order, and works on the other piece where the first is kept and the second dropped.
 -- One more gives new darts the tag of the first hook's dart, whatever their donors are, and is refuted where an edge's other end is renewed.
+-- One more takes the slots that an edit deletes for no room, and is refuted where an edge is replaced in a full table.
 -- Kernels that demand 1 shuts out: one whose load refuses a broken map, and one whose load leaves a word of an unused record.
 -- Two more are shut out by how they count: one counts a cell at each of its darts, and one counts volumes with n = 2.
 -- In the kernel that was licensed before, a new dart kept the tag of its slot, which it had from an earlier job: there the label does not follow the metal.
@@ -14,7 +15,7 @@ use mathlib.Core.Bool.{Bool, true, not, cond, true≢false}
 use mathlib.Core.List.{List, [], _∷_, _++_}
 use native.Mathlib.Omega.{arith}
 use lib.ListN.{getD, take, replicate}
-use lib.Dec.{eqb}
+use lib.Dec.{eqb, ltb}
 use borrow.Author.Tests.{eqb-false, eq-eqb, not-true}
 use Rattle.base.specs.Test.{_or_, _⇒_}
 use Rattle.base.specs.Below.{allBelow, countBelow}
@@ -26,22 +27,22 @@ use Rattle.model.specs.WellFormed.{wellFormed}
 use Rattle.model.specs.Count.{cells, allBut}
 use Rattle.model.specs.Scheme.{schemeOf}
 use Rattle.model.specs.Site.{siteAt}
-use Rattle.model.specs.Edit.{edited}
+use Rattle.model.specs.Edit.{addedDarts, edited}
 use Rattle.model.specs.Answer.{number, values}
 use Rattle.model.specs.File.{darts, slotAt}
-use Rattle.model.specs.Calls.{checkTable, firstDart, secondDart, editFault, editAnswer, editTable, editStore, loadAnswer, loadTable}
+use Rattle.model.specs.Calls.{checkTable, firstDart, secondDart, siteOf, editFault, editAnswer, editTable, editStore, loadAnswer, loadTable}
 use Rattle.model.specs.Calls.{countDone, countAnswer, countStore}
 use Rattle.model.specs.Sequence.{Request, tableCheck, schemeCheck, edit, count, load, write, Outcome, fileOf, knownAfter}
 use Rattle.model.specs.declared.Scheme.{Scheme}
 use Rattle.model.specs.declared.Darts.{Darts}
 use Rattle.model.specs.declared.Darts.the-variants.{One, Two}
 use Rattle.model.specs.declared.Answer.{Answer}
-use Rattle.model.specs.declared.Answer.the-variants.{Done, Edited, Counted, BadCall, BadTable, NoMatch}
+use Rattle.model.specs.declared.Answer.the-variants.{Done, Edited, Counted, BadCall, BadTable, NoMatch, NoRoom}
 use Rattle.model.proofs.WellFormedLaws.{wellFormed-iff}
 use Rattle.model.proofs.CountLaws.{all-but-small}
 use Rattle.model.proofs.Computes.{computes}
 use Rattle.model.proofs.Samples.{dart, e8, unusedSlots, vBytes, wBytes, store8, vDarts, eFile, brokenFile, fDarts, sewBytes, store4}
-use Rattle.model.proofs.Samples.{renewBytes, renewed}
+use Rattle.model.proofs.Samples.{eDarts, renewBytes, renewed, turnBytes}
 use Rattle.demands.specs.Kernel.{Kernel}
 use Rattle.demands.specs.Ours.{ours}
 use Rattle.demands.specs.Runs.{Allowed, AlikeRuns}
@@ -178,6 +179,12 @@ undonated S = record {
 abbrev pub hook-tagged : Kernel
 hook-tagged = editing editAnswer (λ n N t store b d. cond (there (editFault n N t store b d)) t
     (tableOf (edited (siteAt (view N t) (undonated (schemeOf b)) (firstDart d) (secondDart d)))))
+
+-- the slots that an edit deletes are no room in it
+abbrev pub hoarding : Kernel
+hoarding = editing
+    (λ n N t store b d. cond (ltb (countBelow N (unused (view N t))) (addedDarts (siteOf N t b d))) NoRoom (editAnswer n N t store b d))
+    (λ n N t store b d. cond (ltb (countBelow N (unused (view N t))) (addedDarts (siteOf N t b d))) t (editTable n N t store b d))
 
 -- the table t′ with the tags that the unused records of t hold
 abbrev pub stale-tags : ℕ → List ℕ → List ℕ → List ℕ
@@ -340,7 +347,22 @@ pub not-hook-tagged : Demand2 hook-tagged → ⊥
 unfolding fieldAt
 not-hook-tagged D =
     let is = as-ours hook-tagged D 2 8 e8 store8 (renewBytes 18 (1 ∷ [])) (One 0) (ap number renew-answer) _ _ _ (refl, refl, refl) in
-    let tag : _≡_ {A = ℕ} 7 9 = ap (λ (t : List ℕ). fieldAt t Tag 2) (sym hook-tagged-table ∙ is .2 ∙ renew-table) in
+    let tag : _≡_ {A = ℕ} 7 9 = ap (λ (t : List ℕ). fieldAt t Tag 1) (sym hook-tagged-table ∙ is .2 ∙ renew-table) in
+    omega arith
+
+turn-answer : editAnswer 2 2 eDarts (replicate 32 5) turnBytes (One 0) ≡ Edited 1 2 2
+unfolding computes
+turn-answer = refl
+
+hoarding-answer : cond (ltb (countBelow 2 (unused (view 2 eDarts))) (addedDarts (siteOf 2 eDarts turnBytes (One 0)))) NoRoom
+    (editAnswer 2 2 eDarts (replicate 32 5) turnBytes (One 0)) ≡ NoRoom
+unfolding computes
+hoarding-answer = refl
+
+pub not-hoarding : Demand2 hoarding → ⊥
+not-hoarding D =
+    let is = as-ours hoarding D 2 2 eDarts (replicate 32 5) turnBytes (One 0) (ap number turn-answer) _ _ _ (refl, refl, refl) in
+    let ten : _≡_ {A = ℕ} 10 0 = sym (ap number hoarding-answer) ∙ is .0 in
     omega arith
 
 -- ---- where the label does not follow the metal

@@ -9,14 +9,14 @@ use mathlib.Core.Bool.{Bool, true}
 use mathlib.Core.List.{List, [], _∷_, _++_}
 use lib.ListN.{length, getD, take, drop, replicate}
 use Rattle.base.specs.Below.{countBelow}
-use Rattle.model.specs.Map.{Map, Field, State, Link, Tag, fieldAt, tableSize, view, tableOf, live, unused}
+use Rattle.model.specs.Map.{Map, Field, State, Link, Tag, fieldAt, tableSize, view, tableOf, live}
 use Rattle.model.specs.WellFormed.{WellFormed}
 use Rattle.model.specs.Scheme.{inForm, schemeOf}
 use Rattle.model.specs.Accepted.{Accepted}
 use Rattle.model.specs.Orbit.{InOrbit}
 use Rattle.model.specs.Count.{allBut, all}
 use Rattle.model.specs.Site.{Site, LiveDart}
-use Rattle.model.specs.Edit.{orbitSize, addedDarts, deletedDarts}
+use Rattle.model.specs.Edit.{orbitSize, addedDarts, deletedDarts, roomOf}
 use Rattle.model.specs.Rewriting.{Rewriting}
 use Rattle.model.specs.File.{file, darts, slotAt, tagAt, linkAt}
 use Rattle.model.specs.Answer.{number, values}
@@ -114,7 +114,7 @@ pub record Admitted (n N : ℕ) (t store b : List ℕ) (D : Darts) : Type 0 wher
 pub record Applicable (n N : ℕ) (t store b : List ℕ) (D : Darts) : Type 0 where
   pub admitted : Admitted n N t store b D
   pub match : Matched N t b D
-  pub room : addedDarts (siteOver N t b D (match .orbit)) ≤ countBelow N (unused (view N t))
+  pub room : addedDarts (siteOver N t b D (match .orbit)) ≤ roomOf (siteOver N t b D (match .orbit))
 
 -- what an edit that is done comes to: the new table is that of a map that is the published rewriting of the old one, and no other rewriting has
 -- another table (`rewriting-once` of crates/model/proofs/RewritingOnce.antt); the answer counts the orbit, the added and the deleted darts

@@ -7,15 +7,14 @@ use mathlib.Core.Logic.{_⊎_}
 use mathlib.Core.Bool.{Bool, true, false}
 use mathlib.Core.List.{List, [], _∷_}
 use lib.ListN.{length}
-use Rattle.base.specs.Below.{countBelow}
-use Rattle.model.specs.Map.{view, unused}
+use Rattle.model.specs.Map.{view}
 use Rattle.model.specs.WellFormed.{WellFormed}
 use Rattle.model.specs.Scheme.{left, orbitDim, has, firstHook, isHook, inForm, schemeOf}
 use Rattle.model.specs.Conditions.{Hooked, Reached, incidenceOk, cycleOk}
 use Rattle.model.specs.Orbit.{IsOrbit}
 use Rattle.model.specs.Site.{Site, siteWith, LiveDart}
 use Rattle.model.specs.Match.{Assignment}
-use Rattle.model.specs.Edit.{addedDarts}
+use Rattle.model.specs.Edit.{addedDarts, roomOf}
 use Rattle.model.specs.File.{file, fileForm}
 use Rattle.model.specs.Answer.{number, values}
 use Rattle.model.specs.Calls.{Sizes, firstDart, secondDart}
@@ -124,11 +123,11 @@ module _ (N : ℕ) (t b : List ℕ) (D : Darts) where
     pub dart : ℕ → ℕ → ℕ
     pub assigned : Assignment (siteOver orbit) dart
 
-  -- size of O × added nodes exceeds the unused slots before the edit
+  -- size of O × added nodes exceeds the unused slots before the edit plus size of O × deleted nodes
   pub record Crowded : Type 0 where
     pub orbit : ℕ → Bool
     pub isOrbit : Orbit orbit
-    pub few : countBelow N (unused (view N t)) < addedDarts (siteOver orbit)
+    pub few : roomOf (siteOver orbit) < addedDarts (siteOver orbit)
 
 -- ---- the calls
 

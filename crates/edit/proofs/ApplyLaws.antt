@@ -1,12 +1,13 @@
 -- The laws of `settle` and `apply`: from one phase of an edit to the next, and what its ends come to.
 -- Assumes nothing.
-use Prim.Native.Nat.{ℕ, _*_, _≤_, _<_}
+use Prim.Native.Nat.{ℕ, _+_, _*_, _≤_, _<_}
 use mathlib.Core.Path.{_≡_, refl, sym, ap₂, _∙_, subst}
 use mathlib.Core.Bool.{Bool, true, false}
+use mathlib.Core.Option.{some}
 use mathlib.Core.List.{List}
 use native.Mathlib.Nat.{mul-le-mul-left, mul-le-mul-right}
 use native.Mathlib.Omega.{arith}
-use lib.ListN.{length}
+use lib.ListN.{length, getD}
 use lib.Dec.{ltb}
 use borrow.Author.Tests.{lt-ltb, le-ltb}
 use Rattle.base.specs.Below.{countBelow}
@@ -16,7 +17,7 @@ use Rattle.model.specs.Map.{view, tableOf, unused, maxSlots}
 use Rattle.model.specs.Scheme.{left, right, orbitDim, added}
 use Rattle.model.specs.Site.{Site, siteAt, Sound}
 use Rattle.model.specs.Match.{matches}
-use Rattle.model.specs.Edit.{orbitSize, addedDarts, deletedDarts, edited}
+use Rattle.model.specs.Edit.{orbitSize, addedDarts, deletedDarts, roomOf, edited}
 use Rattle.model.specs.Calls.{fitFault, siteDone}
 use Rattle.model.specs.declared.Scheme.{Scheme}
 use Rattle.model.specs.declared.Answer.the-variants.{Edited, NoMatch, NoRoom}
@@ -30,6 +31,7 @@ use Rattle.orbit.specs.Store.{Taken, Walked}
 use Rattle.orbit.specs.At.{At, site}
 use Rattle.orbit.specs.Walk as W
 use Rattle.matching.specs.Assign as C
+use Rattle.rewriting.specs.Room as O
 use Rattle.rewriting.specs.Slots as G
 use Rattle.rewriting.specs.Links as L
 use Rattle.edit.specs.Apply.{Walking, Settling, Applied}
@@ -120,6 +122,9 @@ module _ {slots : ℕ} {t store : List ℕ} {c : ℕ} {kinds donors lefts rights
   nodes-few : c ≤ 16
   nodes-few = omega (arith, P .nodes, A .sound .accepted .shaped .nodesFew)
 
+  pub room-few : room ≤ maxSlots
+  room-few = omega (arith, P .free, count-le slots (unused (view slots t)), A .sized .few)
+
   -- the nodes of a kind are those of the scheme, and their darts are few
   module _ {k : ℕ} {node : List ℕ} {many : ℕ} (n : Listed c kinds k node many) where
     pub kind-count : many ≡ countBelow (A .scheme .nodes) (isKind (A .scheme .kinds) k)
@@ -132,61 +137,86 @@ module _ {slots : ℕ} {t store : List ℕ} {c : ℕ} {kinds donors lefts rights
         let nodes : many ≤ 16 = omega (arith, nodes-few) in
         (few, omega (arith, mul-le-mul-right many few, mul-le-mul-left maxSlots nodes))
 
-  -- the added nodes are listed
-  module _ {node : List ℕ} {many : ℕ} (new : Listed c kinds 3 node many) where
+  -- the added and the deleted nodes are listed
+  module _ {node other : List ℕ} {many gone : ℕ} (new : Listed c kinds 3 node many) (old : Listed c kinds 1 other gone) where
     added-is : size * many ≡ addedDarts E
     unfolding addedDarts orbitSize
     added-is = ap₂ _*_ (sym (F .walked .counted)) (kind-count new)
 
-    pub no-room : room < size * many → Applied E t NoRoom t
+    space-is : room + size * gone ≡ roomOf E
+    unfolding roomOf deletedDarts orbitSize
+    space-is = ap₂ _+_ (P .free) (ap₂ _*_ (sym (F .walked .counted)) (kind-count old))
+
+    pub no-room : room + size * gone < size * many → Applied E t NoRoom t
     unfolding fitFault someIf _orElse_ there
     no-room h =
-        let short : ltb (countBelow slots (unused (view slots t))) (addedDarts E) ≡ true =
-        ap₂ ltb (sym (P .free)) (sym added-is) ∙ lt-ltb room (size * many) h in
+        let short : ltb (roomOf E) (addedDarts E) ≡ true = ap₂ ltb (sym space-is) (sym added-is) ∙ lt-ltb (room + size * gone) (size * many) h in
         record { answer = rw (F .match, short) refl; table = rw (F .match, short) refl }
 
-    -- and there is room for their darts
-    module _ (h : size * many ≤ room) where
-      pub roomy : addedDarts E ≤ countBelow slots (unused (view slots t))
-      roomy = subst (λ (k : ℕ). k ≤ countBelow slots (unused (view slots t))) added-is (subst (λ (k : ℕ). size * many ≤ k) (P .free) h)
+    -- and there is room for the new darts
+    module _ (h : size * many ≤ room + size * gone) where
+      pub roomy : addedDarts E ≤ roomOf E
+      roomy = omega (arith, added-is, space-is)
 
-      -- the darts of the added pairs can be given
-      abbrev pub give-ready : G.BeforeGiving slots t store size node many donors cols
-      give-ready = record {
+      pub listed-added : (a : ℕ) → a < many → nthLowest (A .scheme .nodes) (added (A .scheme)) a ≡ some (getD node a 0)
+      listed-added a l = sym (ap₂ (λ (z : ℕ) (q : List ℕ). nthLowest z (isKind q 3) a) (P .nodes) (P .kinded)) ∙ new .each a l
+
+      -- the deleted darts can be taken out
+      abbrev pub room-ready : O.BeforeRoom slots t store size node many donors kinds c cols
+      room-ready = record {
         at = A;
         grant = record { long = F .long; walked = F .walked; every = kind-count new; match = F .match; room = roomy };
-        node = λ a l. sym (ap₂ (λ (z : ℕ) (q : List ℕ). nthLowest z (isKind q 3) a) (P .nodes) (P .kinded)) ∙ new .each a l;
+        node = listed-added;
         donorsAre = P .donorsAre;
+        nodesAre = P .nodes;
+        kinded = P .kinded;
         assigned = F .assigned;
+      }
+
+      -- then the darts of the added pairs can be given
+      abbrev pub give-ready : {t₁ store₁ : List ℕ} → O.Roomy A store size cols t₁ store₁ → G.BeforeGiving slots t₁ store₁ size node many cols
+      give-ready {t₁} {store₁} o = record {
+        before = t;
+        at = A;
+        grant = record {
+          long = o .kept .long ∙ F .long;
+          walked = walked-kept _ _ _ _ store store₁ size (places-few A) (F .walked) (o .kept);
+          every = kind-count new;
+          match = F .match;
+          room = roomy;
+        };
+        bare = o .bare;
+        tagged = o .tagged;
+        node = listed-added;
+        assigned = o .assigned;
         wide = F .wide;
       }
 
       -- and with them the links can be rewritten
-      abbrev pub link-ready : {t′ store′ cols′ : List ℕ} → G.Granted E t store t′ store′ cols′ size
-          → L.BeforeRewriting slots t′ store′ size kinds lefts rights c cols′
-      link-ready {t′} {store′} g = record {
+      abbrev pub link-ready : {t₁ store₁ : List ℕ} → O.Roomy A store size cols t₁ store₁ → {t′ store′ cols′ : List ℕ}
+          → G.Granted E t store₁ t′ store′ cols′ size → L.BeforeRewriting slots t′ store′ size lefts rights c cols′
+      link-ready {t₁} {store₁} o {t′} {store′} g = record {
         before = t;
         at = A;
         sized = record { few = A .sized .few; long = g .given .long ∙ A .sized .long };
-        stored = g .kept .long ∙ F .long;
-        walked = walked-kept _ _ _ _ store store′ size (places-few A) (F .walked) (g .kept);
+        stored = g .kept .long ∙ o .kept .long ∙ F .long;
+        walked = walked-kept _ _ _ _ store₁ store′ size (places-few A)
+            (walked-kept _ _ _ _ store store₁ size (places-few A) (F .walked) (o .kept)) (g .kept);
         darts = g .darts;
         match = F .match;
         room = roomy;
         given = g .given;
         nodes = P .nodes;
-        kinded = P .kinded;
         leftCoded = P .leftCoded;
         rightCoded = P .rightCoded;
       }
 
-      pub done : {other : List ℕ} {gone : ℕ} → Listed c kinds 1 other gone → {t′ : List ℕ} → t′ ≡ tableOf (edited E)
-          → Applied E t (Edited size (size * many) (size * gone)) t′
+      pub done : {t′ : List ℕ} → t′ ≡ tableOf (edited E) → Applied E t (Edited size (size * many) (size * gone)) t′
       unfolding fitFault siteDone someIf _orElse_ there addedDarts deletedDarts orbitSize
-      done old q =
+      done q =
           let s = F .walked .counted in
           let n = kind-count new in
           let g = kind-count old in
-          let wide : ltb (countBelow slots (unused (view slots t))) (countBelow slots (E .orbit) * countBelow (A .scheme .nodes) (added (A .scheme))) ≡ false =
-          ap₂ ltb (sym (P .free)) (ap₂ _*_ s (sym n)) ∙ le-ltb room (size * many) h in
+          let wide : ltb (roomOf E) (countBelow slots (E .orbit) * countBelow (A .scheme .nodes) (added (A .scheme))) ≡ false =
+          ap₂ ltb (sym space-is) (ap₂ _*_ s (sym n)) ∙ le-ltb (room + size * gone) (size * many) h in
           record { answer = rw (F .match, wide, s, ← n, ← g) refl; table = rw (F .match, wide) q }

@@ -18,7 +18,7 @@ ghost use Rattle.conditions.specs.Tree.{TreeOf};
 ghost use Rattle.orbit.specs.At.{site};
 ghost use Rattle.edit.specs.Apply.{Settling, Applied};
 
-// The new darts and the new links of a match, where `room` slots are enough.
+// The new darts and the new links of a match, where the `room` unused slots and those of the deleted darts are enough.
 fn settle<'a>(
     slots: usize,
     table: &mut [u32],
@@ -40,11 +40,23 @@ fn settle<'a>(
     let gone = of_kind(c, kinds, 1);
     let new = of_kind(c, kinds, 3);
     let many = new.size;
-    if room < size * many {
+    if room + size * gone.size < size * many {
         return Answer::NoRoom;
     }
-    rewriting::slots::give(slots, table, store, size, &new.node, many, donors, cols);
-    rewriting::links::rewrite(slots, table, store, size, kinds, lefts, rights, c, cols);
+    rewriting::room::prepare(
+        slots,
+        table,
+        store,
+        size,
+        &new.node,
+        many,
+        donors,
+        kinds,
+        c,
+        cols,
+    );
+    rewriting::slots::give(slots, table, store, size, &new.node, many, cols);
+    rewriting::links::rewrite(slots, table, store, size, lefts, rights, c, cols);
     Answer::Edited {
         orbit: size as u32,
         added: (size * many) as u32,

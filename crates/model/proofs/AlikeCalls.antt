@@ -34,9 +34,9 @@ use Rattle.model.proofs.AcceptedLaws.{small}
 use Rattle.model.proofs.MatchIff.{good-orbit}
 use Rattle.model.proofs.CallLaws.{passed, bytes-accepted, bytes-many, darts-alone, live-dart, granted, sound, ready, edit-table, refused-table}
 use Rattle.model.proofs.HoldsLaws.{holds-slotted, dimension-small, table-length, edit-holds, store-zero, load-slotted, written-file, writtenFile}
-use Rattle.model.proofs.AlikeLaws.{alike-refl, alike-sym, alike-trans, words-alike, well-alike, same-live, same-room, same-orbit}
+use Rattle.model.proofs.AlikeLaws.{alike-refl, alike-sym, alike-trans, words-alike, well-alike, same-live, same-orbit}
 use Rattle.model.proofs.AlikeMatch.{moved, same-matches}
-use Rattle.model.proofs.AlikeEdit.{same-size, same-added, same-deleted, edited-alike}
+use Rattle.model.proofs.AlikeEdit.{same-size, same-added, same-deleted, same-space, edited-alike}
 use Rattle.model.proofs.AlikeCount.{same-counts}
 use Rattle.model.proofs.FileLaws.{same-file}
 
@@ -100,7 +100,7 @@ module _ (n N : ℕ) (t t′ : List ℕ) (a : AlikeTables n N t t′) where
       fit-same = or-else-same _ _
           (ap (λ (b : Bool). someIf (not b) NoMatch)
           (same-matches E (g .accepted) m′ (a .alike) (g .well) well′ (good-orbit m S (firstDart d) (secondDart d) g)))
-          (λ q. ap₂ (λ (c k : ℕ). someIf (ltb c k) NoRoom) (same-room m m′ (a .alike) (S .n) (g .well) well′) (same-added E m′ (a .alike)))
+          (λ q. ap₂ (λ (c k : ℕ). someIf (ltb c k) NoRoom) (same-space E m′ (a .alike) (S .n) (g .well) well′) (same-added E m′ (a .alike)))
           ∙ ap fitFault same-site
 
       same-done : siteDone E ≡ siteDone E′

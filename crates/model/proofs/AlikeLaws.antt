@@ -8,10 +8,8 @@ use native.Mathlib.Omega.{arith}
 use lib.Dec.{eqb}
 use borrow.Author.Tests.{eqb-true, eq-eqb}
 use Rattle.base.specs.Below.{countBelow}
-use Rattle.base.specs.First.{nthLowest}
 use Rattle.base.proofs.TestLaws.{same-test}
 use Rattle.base.proofs.BelowLaws.{count-same}
-use Rattle.base.proofs.FirstLaws.{nth-same}
 use Rattle.model.specs.Map.{Map, State, Link, Tag, view, tableOf, live, unused}
 use Rattle.model.specs.WellFormed.{WellFormed, wellFormed}
 use Rattle.model.specs.Orbit.{orbit, InOrbit, itself, onward}
@@ -127,9 +125,6 @@ module _ (m m′ : Map) (a : Alike m m′) where
 
     pub same-room : countBelow (m .slots) (unused m) ≡ countBelow (m′ .slots) (unused m′)
     same-room = count-same (m .slots) (unused m) (unused m′) same-unused ∙ ap (λ (k : ℕ). countBelow k (unused m′)) (a .slots)
-
-    pub same-free : (k : ℕ) → nthLowest (m .slots) (unused m) k ≡ nthLowest (m′ .slots) (unused m′) k
-    same-free k = nth-same (m .slots) (unused m) (unused m′) k same-unused ∙ ap (λ (z : ℕ). nthLowest z (unused m′) k) (a .slots)
 
 -- ---- orbits
 

@@ -6,16 +6,15 @@ use mathlib.Core.Bool.{Bool, true, false, not, cond, true≢false}
 use mathlib.Core.Option.{none, some}
 use mathlib.Core.List.{List}
 use borrow.Author.Tests.{eqb-true, ltb-true, ltb-false, not-false}
-use Rattle.base.specs.Below.{countBelow}
 use Rattle.base.specs.First.{someIf}
-use Rattle.model.specs.Map.{Map, view, tableOf, unused}
+use Rattle.model.specs.Map.{Map, view, tableOf}
 use Rattle.model.specs.WellFormed.{wellFormed}
 use Rattle.model.specs.Scheme.{inForm, schemeOf, hasSecond}
 use Rattle.model.specs.Accepted.{Accepted}
 use Rattle.model.specs.Conditions.{schemeFault}
 use Rattle.model.specs.Site.{LiveDart, Sound}
 use Rattle.model.specs.Match.{matches}
-use Rattle.model.specs.Edit.{addedDarts, edited}
+use Rattle.model.specs.Edit.{addedDarts, roomOf, edited}
 use Rattle.model.specs.Calls.{bytesFault, firstDart, secondDart, asMany, takes, isDart, fitFault, siteFault, sizesOk}
 use Rattle.model.specs.Calls.{editFaultAt, siteOf, editFault, editTable}
 use Rattle.model.specs.declared.Scheme.{Scheme}
@@ -64,7 +63,7 @@ pub record Granted (n N : ℕ) (t store b : List ℕ) (d : Darts) : Type 0 where
   pub dart : LiveDart (view N t) (firstDart d)
   pub other : LiveDart (view N t) (secondDart d)
   pub match : matches (siteOf N t b d) ≡ true
-  pub room : addedDarts (siteOf N t b d) ≤ countBelow N (unused (view N t))
+  pub room : addedDarts (siteOf N t b d) ≤ roomOf (siteOf N t b d)
 
 module _ (n N : ℕ) (t store b : List ℕ) (d : Darts) (q : editFault n N t store b d ≡ none) where
   pub granted : Granted n N t store b d

@@ -26,8 +26,9 @@ unfolding _and_ _or_ _⇒_ someIf _orElse_ there allBelow anyBelow countBelow fi
     farEnd S.wordsOf placed targetsOf S.arcsOf S.schemeOf C.arcsOfDim C.arcAt C.leftArc C.pathFrom C.pathTo S.isHook C.hookOk C.hookFault
     C.incidenceOk C.incidenceFault C.fourArcs C.oneArc C.bothImplicit C.onCycle C.cycleOk C.cycleFault C.schemeFault O.leads O.orbitPath O.orbit
     N.smallest N.reachedBelow N.cells N.sizesBelow N.allBut N.counts
-    M.walk M.opposite M.image M.arcHolds M.eachPair M.onlyPair M.matches E.freeSlot E.rank E.orbitSize E.addedDarts E.deletedDarts E.dartOf E.pairOf
-    E.newLink E.newWord E.edited F.liveDarts F.section F.file F.fileForm F.placeOf F.fileMap A.mapFault A.tableFault A.checkTable A.bytesFault A.checkScheme A.fitFault
+    M.walk M.opposite M.image M.arcHolds M.eachPair M.onlyPair M.matches E.freed E.isFree E.leftWord E.afterDeletion E.freeSlot E.rank
+    E.orbitSize E.addedDarts E.deletedDarts E.roomOf E.dartOf E.pairOf E.newLink E.newWord E.edited
+    F.liveDarts F.section F.file F.fileForm F.placeOf F.fileMap A.mapFault A.tableFault A.checkTable A.bytesFault A.checkScheme A.fitFault
     A.siteFault A.editFaultAt A.siteDone A.editFault A.editAnswer A.editTable A.editStore
     A.countFaultAt A.countDone A.countFault A.countAnswer A.countStore A.countOut A.loadFaultAt A.loadFault A.loadAnswer A.loaded A.loadTable
     A.writeFaultAt A.writeFault A.writeAnswer A.writeOut

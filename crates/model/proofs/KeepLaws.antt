@@ -13,17 +13,17 @@ use Rattle.model.specs.Scheme.{left, right, orbitDim, has, preserved}
 use Rattle.model.specs.Conditions.{Arc, absent, explicit, implicit, arcAt, onCycle, Cycle, four, oneI, oneJ, apart}
 use Rattle.model.specs.Site.{Site}
 use Rattle.model.specs.Match.{image, arcHolds}
-use Rattle.model.specs.Edit.{Pair, dartOf, pairOf, edited}
-use Rattle.base.proofs.TestLaws.{or-cases, or-left, or-right, true-or-false}
+use Rattle.model.specs.Edit.{Pair, freed, dartOf, pairOf, afterDeletion, edited}
+use Rattle.base.proofs.TestLaws.{or-cases, true-or-false}
 use Rattle.base.proofs.FirstLaws.{some-not-none}
 use Rattle.model.proofs.ArcLaws.{explicit-end, implicit-from, absent-of, absent-from, no-arc}
 use Rattle.model.proofs.CycleLaws.{cycle-at, cycle-of, not-absent, not-absent′, pass-i, pass-j, none-i, none-j}
-use Rattle.model.proofs.AcceptedLaws.{kind-cases}
-use Rattle.model.proofs.KindLaws.{right-stays, both-preserved, preserved-left, preserved-right, preserved-not-added}
+use Rattle.model.proofs.KindLaws.{both-preserved, deleted-left, preserved-left, preserved-right, preserved-not-added}
 use Rattle.model.proofs.MatchLaws.{arc-of}
 use Rattle.model.proofs.EditLaws as L
 use Rattle.model.proofs.EditLaws.{Ready}
 use Rattle.model.proofs.RankLaws.{dart-left}
+use Rattle.model.proofs.RoomLaws.{freed-at}
 
 one-not-zero : _≡_ {A = ℕ} 1 0 → ⊥
 one-not-zero e = omega arith
@@ -38,20 +38,31 @@ module _ (E : Site) (w : WellFormed (E .scheme .n) (E .map)) (ready : Ready E) w
   abbrev new : Map
   new = edited E
 
+  -- the map without the deleted darts
+  abbrev bare : Map
+  bare = afterDeletion E
+
   -- ---- darts before the edit
 
   -- a live dart is no pair's, or a left pair's
   before : (y : ℕ) → y < m .slots → m .state y ≡ 1
-      → (pairOf E y ≡ none) ⊎ ((v t : ℕ) × (O v ≡ true) × (t < S .nodes) × (has S left t ≡ true) × (y ≡ D v t))
-  before y h l = go (pairOf E y) refl
+      → ((pairOf E y ≡ none) × (bare .state y ≡ 1)) ⊎ ((v t : ℕ) × (O v ≡ true) × (t < S .nodes) × (has S left t ≡ true) × (y ≡ D v t))
+  before y h l = ⊎-elim
+      (λ q.
+      let f = freed-at E (image E) y q in
+      let k = deleted-left S (f .1) (f .5) in
+      inr (f .0, f .1, f .3, f .4, k, sym (dart-left E (f .0) (f .1) k ∙ f .6)))
+      (λ q. go (L.field-stays ready State y q ∙ l) (pairOf E y) refl)
+      (true-or-false (freed E (image E) y))
     where
-      go : (p : Option Pair) → pairOf E y ≡ p → (pairOf E y ≡ none) ⊎ ((v t : ℕ) × (O v ≡ true) × (t < S .nodes) × (has S left t ≡ true) × (y ≡ D v t))
-      go none e = inl e
-      go (some p) e =
+      go : bare .state y ≡ 1 → (p : Option Pair) → pairOf E y ≡ p
+          → ((pairOf E y ≡ none) × (bare .state y ≡ 1)) ⊎ ((v t : ℕ) × (O v ≡ true) × (t < S .nodes) × (has S left t ≡ true) × (y ≡ D v t))
+      go b none e = inl (e, b)
+      go b (some p) e =
           let q = L.pair-at ready y p e in
           inr (⊎-elim
-          (λ k. (p .dart, p .node, q .0, q .1, k, sym (q .2)))
-          (λ k. absurd (one-not-zero (sym (ap (m .state) (q .2) ∙ l) ∙ L.free-at ready (p .dart) (p .node) (q .0) (q .1) k .1)))
+          (λ k. (p .dart, p .node, q .0, q .1, k, sym (q .3)))
+          (λ k. absurd (one-not-zero (sym (ap (bare .state) (q .3) ∙ b) ∙ L.bare-free ready _ (L.free-at ready (p .dart) (p .node) (q .0) (q .1) k .1))))
           (L.kinds ready (p .node) (q .1)))
 
   -- the links of a left pair's dart, by its left arcs
@@ -74,19 +85,22 @@ module _ (E : Site) (w : WellFormed (E .scheme .n) (E .map)) (ready : Ready E) w
 
   -- x is no pair's dart, or a preserved pair's whose node has no i-arc
   data Loose (i x : ℕ) : Type 0 where
-    looseOther : pairOf E x ≡ none → x < m .slots → m .state x ≡ 1 → Loose i x
+    looseOther : pairOf E x ≡ none → x < m .slots → bare .state x ≡ 1 → Loose i x
     looseKept : (u s : ℕ) → O u ≡ true → s < S .nodes → preserved S s ≡ true → arcAt S left s i ≡ absent → x ≡ D u s → Loose i x
 
   loose-dart : {i x : ℕ} → Loose i x → (x < m .slots) × (m .state x ≡ 1)
-  loose-dart (looseOther p h l) = (h, l)
+  loose-dart (looseOther p h l) = (h, L.bare-live ready _ l .0)
   loose-dart (looseKept u s e h k a q) =
       (subst (λ (z : ℕ). z < m .slots) (sym q) (L.dart-slot ready u s e h), ap (m .state) q ∙ L.left-alive ready u s e h (preserved-left S s k))
 
   -- no left arc of dimension i leads to a loose end
-  loose-not : {i x : ℕ} → Loose i x → (v t : ℕ) → O v ≡ true → t < S .nodes → (arcAt S left t i ≡ absent → ⊥) → x ≡ D v t → ⊥
-  loose-not (looseOther p h l) v t e k a q = some-not-none (L.pair-of ready v t e k) (ap (pairOf E) (sym q) ∙ p)
-  loose-not {i} (looseKept u s f h k b r) v t e l a q =
-      a (ap (λ (z : ℕ). arcAt S left z i) (sym (L.dart-injective ready u s v t f e h l (sym r ∙ q) .1)) ∙ b)
+  loose-not : {i x : ℕ} → Loose i x → (v t : ℕ) → O v ≡ true → t < S .nodes → has S left t ≡ true → (arcAt S left t i ≡ absent → ⊥) → x ≡ D v t → ⊥
+  loose-not (looseOther p h l) v t e k z a q = ⊎-elim
+      (λ d. true≢false (sym (L.pair-freed ready v t e k d) ∙ ap (freed E (image E)) (sym q) ∙ L.bare-live ready _ l .1))
+      (λ d. some-not-none (L.pair-of ready v t e k (preserved-right S t d)) (ap (pairOf E) (sym q) ∙ p))
+      (or-cases _ _ z)
+  loose-not {i} (looseKept u s f h k b r) v t e l z a q =
+      a (ap (λ (z : ℕ). arcAt S left z i) (sym (L.left-injective ready u s v t f e h l (preserved-left S s k) z (sym r ∙ q) .1)) ∙ b)
 
   -- the link of a loose end leads to one
   loose-link : (i x : ℕ) → i ≤ S .n → Loose i x → Loose i (m .link i x)
@@ -96,7 +110,7 @@ module _ (E : Site) (w : WellFormed (E .scheme .n) (E .map)) (ready : Ready E) w
       let yl = w .alive x (d .0) (d .1) i k in
       let back = w .back x (d .0) (d .1) i k in
       ⊎-elim
-      (λ p. looseOther p yh yl)
+      (λ p. looseOther (p .0) yh (p .1))
       (λ y. by-arc (y .0) (y .1) (y .2) (y .3) (y .4) (y .5) back z (arcAt S left (y .1) i) refl)
       (before (m .link i x) yh yl)
     where
@@ -104,10 +118,10 @@ module _ (E : Site) (w : WellFormed (E .scheme .n) (E .map)) (ready : Ready E) w
           → (c : Arc) → arcAt S left t i ≡ c → Loose i (m .link i x)
       by-arc v t e h l q back z (explicit r) a =
           let y = old-explicit v t i r e h l a in
-          absurd (loose-not z v r e (y .1) (not-absent (explicit-end S left (g .sides left) t i r a .3)) (sym back ∙ ap (m .link i) q ∙ y .0))
+          absurd (loose-not z v r e (y .1) (y .2) (not-absent (explicit-end S left (g .sides left) t i r a .3)) (sym back ∙ ap (m .link i) q ∙ y .0))
       by-arc v t e h l q back z (implicit p) a =
           let y = old-implicit v t i p e h l k a in
-          absurd (loose-not z (m .link (orbitDim S p) v) t (y .1) h (not-absent′ a) (sym back ∙ ap (m .link i) q ∙ y .0))
+          absurd (loose-not z (m .link (orbitDim S p) v) t (y .1) h l (not-absent′ a) (sym back ∙ ap (m .link i) q ∙ y .0))
       by-arc v t e h l q back z absent a =
           looseKept v t e h (⊎-elim
           (λ d. absurd (one-not-zero (sym (g .allLeft t i h k d) ∙ absent-from S left t i a)))
@@ -116,7 +130,7 @@ module _ (E : Site) (w : WellFormed (E .scheme .n) (E .map)) (ready : Ready E) w
   -- ---- live darts after the edit
 
   data Live (x : ℕ) : Type 0 where
-    liveOther : pairOf E x ≡ none → x < m .slots → m .state x ≡ 1 → Live x
+    liveOther : pairOf E x ≡ none → x < m .slots → bare .state x ≡ 1 → Live x
     livePair : (u s : ℕ) → O u ≡ true → s < S .nodes → has S right s ≡ true → x ≡ D u s → Live x
 
   live-at : (x : ℕ) → x < m .slots → new .state x ≡ 1 → Live x
@@ -126,29 +140,26 @@ module _ (E : Site) (w : WellFormed (E .scheme .n) (E .map)) (ready : Ready E) w
       go none e = liveOther e h (sym (L.field-other ready State x e) ∙ l)
       go (some p) e =
           let q = L.pair-at ready x p e in
-          ⊎-elim
-          (λ d. absurd (one-not-zero (sym (ap (new .state) (q .2) ∙ l) ∙ L.field-deleted ready (p .dart) (p .node) (q .0) (q .1) State d)))
-          (λ r. livePair (p .dart) (p .node) (q .0) (q .1) (⊎-elim (λ k. or-left _ k) (λ k. or-right _ k) r) (sym (q .2)))
-          (kind-cases S (g .shaped) (p .node) (q .1))
+          livePair (p .dart) (p .node) (q .0) (q .1) (q .2) (sym (q .3))
 
   new-state : (u s : ℕ) → O u ≡ true → s < S .nodes → has S right s ≡ true → new .state (D u s) ≡ 1
-  new-state u s e h r = L.state-pair ready u s e h (right-stays S s r)
+  new-state u s e h r = L.state-pair ready u s e h r
 
   new-explicit : (u s : ℕ) → O u ≡ true → s < S .nodes → has S right s ≡ true → (i t : ℕ) → arcAt S right s i ≡ explicit t → new .link i (D u s) ≡ D u t
-  new-explicit u s e h r = L.link-explicit ready u s e h (right-stays S s r)
+  new-explicit u s e h r = L.link-explicit ready u s e h r
 
   new-implicit : (u s : ℕ) → O u ≡ true → s < S .nodes → has S right s ≡ true → (i p : ℕ) → arcAt S right s i ≡ implicit p
       → (new .link i (D u s) ≡ D (m .link (orbitDim S p) u) s) × (O (m .link (orbitDim S p) u) ≡ true)
   new-implicit u s e h r i p a =
-      (L.link-implicit ready u s e h (right-stays S s r) i p a, o .link u p e (implicit-from S right s i p a .0))
+      (L.link-implicit ready u s e h r i p a, o .link u p e (implicit-from S right s i p a .0))
 
   new-loose : (i x : ℕ) → i ≤ S .n → Loose i x → (new .link i x ≡ m .link i x) × (new .state x ≡ 1)
   new-loose i x k (looseOther p h l) =
-      (L.field-other ready (Link i) x p, L.field-other ready State x p ∙ l)
+      (L.field-other ready (Link i) x p ∙ L.field-stays ready (Link i) x (L.bare-live ready x l .1), L.field-other ready State x p ∙ l)
   new-loose i x k (looseKept u s e h z a q) =
       let b = absent-of S right s i (sym (g .same s i h k z) ∙ absent-from S left s i a) in
       let r = preserved-right S s z in (
-        ap (new .link i) q ∙ L.link-kept ready u s e h (right-stays S s r) i (preserved-not-added S s z) b ∙ ap (m .link i) (sym q),
+        ap (new .link i) q ∙ L.link-kept ready u s e h r i (preserved-not-added S s z) b ∙ ap (m .link i) (sym q),
         ap (new .state) q ∙ new-state u s e h r,
       )
 
@@ -203,14 +214,15 @@ module _ (E : Site) (w : WellFormed (E .scheme .n) (E .map)) (ready : Ready E) w
   -- ---- with n = 2, α3 is a loop
 
   flat-of : (x : ℕ) → S .n ≡ 2 → Live x → new .link 3 x ≡ x
-  flat-of x n (liveOther p h l) = L.field-other ready (Link 3) x p ∙ w .flat n x h l
+  flat-of x n (liveOther p h l) =
+      let b = L.bare-live ready x l in
+      L.field-other ready (Link 3) x p ∙ L.field-stays ready (Link 3) x (b .1) ∙ w .flat n x h (b .0)
   flat-of x n (livePair u s e h r q) =
       let a = no-arc S right (g .sides right) s 3 h (omega arith) (omega arith) in
-      let k = right-stays S s r in
       ap (new .link 3) q ∙ ⊎-elim
-      (λ z. L.link-kept ready u s e h k 3 (preserved-not-added S s z) a
+      (λ z. L.link-kept ready u s e h r 3 (preserved-not-added S s z) a
       ∙ w .flat n (D u s) (L.dart-slot ready u s e h) (L.left-alive ready u s e h (preserved-left S s z)))
-      (λ z. L.link-own ready u s e h k 3 z a)
+      (λ z. L.link-own ready u s e h r 3 z a)
       (or-cases _ _ r) ∙ sym q
 
   -- ---- squares
@@ -269,11 +281,11 @@ module _ (E : Site) (w : WellFormed (E .scheme .n) (E .map)) (ready : Ready E) w
     -- ---- darts at which the edit changes neither αi nor αj
 
     data Plain (x : ℕ) : Type 0 where
-      plainOther : pairOf E x ≡ none → x < m .slots → m .state x ≡ 1 → Plain x
+      plainOther : pairOf E x ≡ none → x < m .slots → bare .state x ≡ 1 → Plain x
       plainKept : (u s : ℕ) → O u ≡ true → s < S .nodes → preserved S s ≡ true → (Cycle S left s i j → ⊥) → x ≡ D u s → Plain x
 
     plain-dart : {x : ℕ} → Plain x → (x < m .slots) × (m .state x ≡ 1)
-    plain-dart (plainOther p h l) = (h, l)
+    plain-dart (plainOther p h l) = (h, L.bare-live ready _ l .0)
     plain-dart (plainKept u s e h z c q) =
         (subst (λ (v : ℕ). v < m .slots) (sym q) (L.dart-slot ready u s e h), ap (m .state) q ∙ L.left-alive ready u s e h (preserved-left S s z))
 
@@ -355,13 +367,15 @@ module _ (E : Site) (w : WellFormed (E .scheme .n) (E .map)) (ready : Ready E) w
   state-of x h = go (pairOf E x) refl
     where
       go : (p : Option Pair) → pairOf E x ≡ p → (new .state x ≡ 0) ⊎ (new .state x ≡ 1)
-      go none e = let same = L.field-other ready State x e in ⊎-elim (λ z. inl (same ∙ z)) (λ z. inr (same ∙ z)) (w .states x h)
+      go none e =
+          let same = L.field-other ready State x e in
+          ⊎-elim
+          (λ f. inl (same ∙ L.field-freed ready State x f))
+          (λ f. let stays = same ∙ L.field-stays ready State x f in ⊎-elim (λ z. inl (stays ∙ z)) (λ z. inr (stays ∙ z)) (w .states x h))
+          (true-or-false (freed E (image E) x))
       go (some p) e =
           let q = L.pair-at ready x p e in
-          ⊎-elim
-          (λ d. inl (ap (new .state) (sym (q .2)) ∙ L.field-deleted ready (p .dart) (p .node) (q .0) (q .1) State d))
-          (λ d. inr (ap (new .state) (sym (q .2)) ∙ new-state (p .dart) (p .node) (q .0) (q .1) (⊎-elim (λ k. or-left _ k) (λ k. or-right _ k) d)))
-          (kind-cases S (g .shaped) (p .node) (q .1))
+          inr (ap (new .state) (sym (q .3)) ∙ new-state (p .dart) (p .node) (q .0) (q .1) (q .2))
 
   pub edit-keeps : WellFormed (S .n) new
   unfolding edited

@@ -24,6 +24,9 @@ module _ (S : Scheme) (s : ℕ) where
       (λ e. e)
       (or-cases _ _ l)
 
+  pub deleted-left : deleted S s ≡ true → has S left s ≡ true
+  deleted-left e = or-left _ e
+
   pub preserved-left : preserved S s ≡ true → has S left s ≡ true
   preserved-left e = or-right _ e
 

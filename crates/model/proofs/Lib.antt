@@ -19,6 +19,7 @@ pub mod AcceptedLaws
 pub mod CodeLaws
 pub mod MatchIff
 pub mod MapLaws
+pub mod RoomLaws
 pub mod RankLaws
 pub mod EditLaws
 pub mod KindLaws

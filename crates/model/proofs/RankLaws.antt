@@ -34,7 +34,7 @@ module _ (E : Site) where
   unfolding dartOf
   dart-left u s l = ap (λ (b : Bool). cond b (freeSlot E (rank E u s)) (image E u s)) (left-not-added S s l)
 
-  -- the dart of an added pair is the unused slot of its rank
+  -- the dart of an added pair is the free slot of its rank
   pub dart-added : (u s : ℕ) → added S s ≡ true → dartOf E u s ≡ freeSlot E (rank E u s)
   unfolding dartOf
   dart-added u s a = ap (λ (b : Bool). cond b (freeSlot E (rank E u s)) (image E u s)) a

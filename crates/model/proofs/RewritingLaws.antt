@@ -2,17 +2,22 @@
 -- Assumes nothing.
 use Prim.Native.Nat.{ℕ, _<_}
 use mathlib.Core.Path.{_≡_, refl, sym, ap, _∙_, subst}
+use mathlib.Core.Logic.{⊎-elim}
+use mathlib.Core.Bool.{true, true≢false}
 use native.Mathlib.Omega.{arith}
-use Rattle.model.specs.Scheme.{left, right, donor, firstHook}
+use Rattle.base.proofs.TestLaws.{or-cases, impossible}
+use Rattle.base.proofs.BelowLaws.{count-same}
+use Rattle.model.specs.Scheme.{left, right, donor, firstHook, deleted, preserved}
 use Rattle.model.specs.Site.{Site}
-use Rattle.model.specs.Match.{Assignment}
-use Rattle.model.specs.Edit.{rank, dartOf, edited}
+use Rattle.model.specs.Match.{image, Assignment}
+use Rattle.model.specs.Edit.{isFree, rank, dartOf, edited}
 use Rattle.model.specs.Rewriting.{Rewriting}
 use Rattle.model.proofs.AcceptedLaws.{donor-left}
 use Rattle.model.proofs.ArcLaws.{no-arc}
 use Rattle.model.proofs.HookLaws.{first-hook, second-hook}
-use Rattle.model.proofs.KindLaws.{right-stays, added-right, preserved-right, preserved-not-added}
+use Rattle.model.proofs.KindLaws.{right-stays, deleted-left, added-right, preserved-left, preserved-right, preserved-not-added}
 use Rattle.model.proofs.RankLaws.{dart-left}
+use Rattle.model.proofs.RoomLaws.{freed-at, free-same}
 use Rattle.model.proofs.EditLaws as L
 use Rattle.model.proofs.EditLaws.{Ready}
 
@@ -40,23 +45,39 @@ module _ {E : Site} (ready : Ready E) where
     different = λ u b e s h l v c d t k r q. A .different u b e s h l v c d t k r (sym (dart-left E u s l) ∙ q ∙ dart-left E v t r);
   }
 
+  -- the darts of the left pairs are all that the room hangs on
+  free-dart : (x : ℕ) → isFree E D x ≡ isFree E (image E) x
+  free-dart = free-same E D (image E) (λ u s e h l. dart-left E u s l)
+
+  -- a deleted and a preserved pair have different darts
+  kept-apart : (u s v t : ℕ) → O u ≡ true → s < S .nodes → O v ≡ true → t < S .nodes → deleted S s ≡ true → preserved S t ≡ true → D u s ≡ D v t → ⊥
+  kept-apart u s v t e h f b d p q =
+      let z = L.left-injective ready u s v t e f h b (deleted-left S s d) (preserved-left S t p) q in
+      true≢false (sym d ∙ ap (deleted S) (z .1) ∙ right-stays S t (preserved-right S t p))
+
   pub rewriting : Rewriting E (edited E) D
   unfolding rank edited
   rewriting = record {
     slots = refl;
     assigned = assignment;
     slot = λ u s e h a. L.free-at ready u s e h a .0;
-    wasUnused = λ u s e h a. L.free-at ready u s e h a .1;
-    inOrder = λ u s e h a. L.free-at ready u s e h a .2;
-    alive = λ u s e h r. L.state-pair ready u s e h (right-stays S s r);
-    explicitLink = λ u s i t e h r a. L.link-explicit ready u s e h (right-stays S s r) i t a;
-    implicitLink = λ u s i p e h r a. L.link-implicit ready u s e h (right-stays S s r) i p a;
-    newTag = λ u s e h a. L.tag-new ready u s e h (right-stays S s (added-right S s a)) a
+    wasFree = λ u s e h a. free-dart _ ∙ L.free-at ready u s e h a .1;
+    inOrder = λ u s e h a. count-same _ _ _ (λ x b. free-dart x) ∙ L.free-at ready u s e h a .2;
+    alive = λ u s e h r. L.state-pair ready u s e h r;
+    explicitLink = λ u s i t e h r a. L.link-explicit ready u s e h r i t a;
+    implicitLink = λ u s i p e h r a. L.link-implicit ready u s e h r i p a;
+    newTag = λ u s e h a. L.tag-new ready u s e h (added-right S s a) a
         ∙ ap (m .tag) (sym (dart-left E u (donor S s) (donor-left S g s h)));
-    ownLink = λ u s e h a n. L.link-own ready u s e h (right-stays S s (added-right S s a)) 3 a
+    ownLink = λ u s e h a n. L.link-own ready u s e h (added-right S s a) 3 a
         (no-arc S right (g .sides right) s 3 h (omega arith) (omega arith));
-    keptTag = λ u s e h k. L.tag-kept ready u s e h (right-stays S s (preserved-right S s k)) (preserved-not-added S s k);
-    keptLink = λ u s i e h k a. L.link-kept ready u s e h (right-stays S s (preserved-right S s k)) i (preserved-not-added S s k) a;
-    gone = λ u s e h d k l. L.field-deleted ready u s e h k d;
-    others = λ x no k l. L.field-other ready k x (L.pair-none ready x no);
+    keptTag = λ u s e h k. L.tag-kept ready u s e h (preserved-right S s k) (preserved-not-added S s k);
+    keptLink = λ u s i e h k a. L.link-kept ready u s e h (preserved-right S s k) i (preserved-not-added S s k) a;
+    gone = λ u s e h d no k l. L.field-deleted ready u s e h k d (L.pair-none ready _ (λ v t f b r q. ⊎-elim
+        (λ p. kept-apart u s v t e h f b d p (sym q))
+        (λ a. no v t f b a q)
+        (or-cases _ _ r)));
+    others = λ x no k l. L.field-other ready k x (L.pair-none ready x (λ u s e h r. no u s e h))
+        ∙ L.field-stays ready k x (impossible _ (λ q.
+        let f = freed-at E (image E) x q in
+        no (f .0) (f .1) (f .3) (f .4) (dart-left E (f .0) (f .1) (deleted-left S (f .1) (f .5)) ∙ f .6)));
   }

@@ -6,11 +6,11 @@ use Prim.Native.Nat.{ℕ, _+_, _*_}
 use mathlib.Core.Bool.{Bool, true, false, cond}
 use mathlib.Core.Option.{Option, none, some, Option·getD}
 use lib.Dec.{eqb}
-use Rattle.base.specs.Test.{_and_}
-use Rattle.base.specs.Below.{countBelow}
+use Rattle.base.specs.Test.{_and_, _or_}
+use Rattle.base.specs.Below.{anyBelow, countBelow}
 use Rattle.base.specs.First.{nthLowest, first, someIf}
 use Rattle.model.specs.Map.{Map, unused}
-use Rattle.model.specs.Scheme.{right, donor, orbitDim, deleted, added}
+use Rattle.model.specs.Scheme.{right, donor, orbitDim, has, deleted, added}
 use Rattle.model.specs.Conditions.{Arc, absent, explicit, implicit, arcAt}
 use Rattle.model.specs.Site.{Site}
 use Rattle.model.specs.Match.{image}
@@ -23,11 +23,34 @@ pub record Pair : Type 0 where
 module _ (E : Site) where
   open Site E using (map as m, scheme as S, orbit as O)
 
+  -- ---- what the edit deletes, and which slots are then free
+
+  -- this edit frees the slot x, the dart of a deleted pair; f gives the darts of the left pairs
+  unfoldable pub freed : (ℕ → ℕ → ℕ) → ℕ → Bool
+  freed f x = anyBelow (m .slots) (λ u. O u and anyBelow (S .nodes) (λ s. deleted S s and eqb (f u s) x))
+
+  -- the slot x is free for this edit, so that a new dart can take it: "those unused before and those this edit deletes"
+  unfoldable pub isFree : (ℕ → ℕ → ℕ) → ℕ → Bool
+  isFree f x = unused m x or freed f x
+
+  -- a word of the slot x once the deleted darts are gone: "A deleted slot that isn't taken again is zero", "all other records stay as they stood"
+  unfoldable pub leftWord : ℕ → ℕ → ℕ
+  leftWord x old = cond (freed (image E) x) 0 old
+
+  -- the map once the deleted darts are gone, before new ones are there
+  unfoldable pub afterDeletion : Map
+  afterDeletion = record {
+    slots = m .slots;
+    state = λ x. leftWord x (m .state x);
+    link = λ i x. leftWord x (m .link i x);
+    tag = λ x. leftWord x (m .tag x);
+  }
+
   -- ---- the dart of a pair
 
-  -- "the k-th takes the k-th lowest slot unused before the edit"
+  -- "New darts now take the lowest slots among" those that are free: the k-th added pair takes the k-th lowest
   unfoldable pub freeSlot : ℕ → ℕ
-  freeSlot k = Option·getD (nthLowest (m .slots) (unused m) k) 0
+  freeSlot k = Option·getD (nthLowest (m .slots) (isFree (image E)) k) 0
 
   -- "The pairs (u, s), s added, are ordered by u and then by s": which of them (u, s) is, counted from 0
   unfoldable pub rank : ℕ → ℕ → ℕ
@@ -43,13 +66,17 @@ module _ (E : Site) where
   unfoldable pub deletedDarts : ℕ
   deletedDarts = orbitSize * countBelow (S .nodes) (deleted S)
 
-  -- the dart of the pair (u, s): a slot that was unused where s is added, else m(u, s)
+  -- how many slots are free for this edit (`room-is` of proofs/RoomLaws.antt): "unused slots plus size of O × deleted nodes"
+  unfoldable pub roomOf : ℕ
+  roomOf = countBelow (m .slots) (unused m) + deletedDarts
+
+  -- the dart of the pair (u, s): a free slot where s is added, else m(u, s)
   unfoldable pub dartOf : ℕ → ℕ → ℕ
   dartOf u s = cond (added S s) (freeSlot (rank u s)) (image E u s)
 
-  -- the pair whose dart is x, if any
+  -- the preserved or added pair whose dart is x, if any. No deleted pair is asked: where it shares its slot with an added one, the slot is the new dart's
   unfoldable pub pairOf : ℕ → Option Pair
-  pairOf x = first (m .slots) (λ u. first (S .nodes) (λ s. someIf (O u and eqb (dartOf u s) x) (record { dart = u; node = s })))
+  pairOf x = first (m .slots) (λ u. first (S .nodes) (λ s. someIf (O u and (has S right s and eqb (dartOf u s) x)) (record { dart = u; node = s })))
 
   -- ---- the words of a slot
 
@@ -75,18 +102,17 @@ module _ (E : Site) where
   -- "an implicit one at position p sets it to the dart of (αq(u), s), with αq from before the edit"
   newLink u s (implicit p) unnamed = dartOf (m .link (orbitDim S p) u) s
 
-  -- a word of a slot by the pair, if any, whose dart it is
+  -- a word of a slot by the preserved or added pair, if any, whose dart it is; f gives the words of such pairs. A slot that is taken "holds the new
+  -- record only": of what stood there before nothing is asked
   unfoldable pub newWord : Option Pair → ℕ → (ℕ → ℕ → ℕ) → ℕ
-  -- "all other records stay as they stood"
   newWord none old f = old
-  -- "Deleted records become six zeros"; f gives the words of preserved and added pairs
-  newWord (some p) old f = cond (deleted S (p .node)) 0 (f (p .dart) (p .node))
+  newWord (some p) old f = f (p .dart) (p .node)
 
   -- the map after the edit
   unfoldable pub edited : Map
   edited = record {
     slots = m .slots;
-    state = λ x. newWord (pairOf x) (m .state x) (λ u s. 1);
-    link = λ i x. newWord (pairOf x) (m .link i x) (λ u s. newLink u s (arcAt S right s i) (unnamedLink (added S s) i x));
-    tag = λ x. newWord (pairOf x) (m .tag x) (λ u s. newTag (added S s) u s x);
+    state = λ x. newWord (pairOf x) (afterDeletion .state x) (λ u s. 1);
+    link = λ i x. newWord (pairOf x) (afterDeletion .link i x) (λ u s. newLink u s (arcAt S right s i) (unnamedLink (added S s) i x));
+    tag = λ x. newWord (pairOf x) (afterDeletion .tag x) (λ u s. newTag (added S s) u s x);
   }

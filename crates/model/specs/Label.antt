@@ -7,12 +7,13 @@ use mathlib.Core.Path.{_≡_}
 use mathlib.Core.Bool.{true}
 use Rattle.model.specs.Scheme.{left, donor, has, added}
 use Rattle.model.specs.Site.{Site, LiveDart}
+use Rattle.model.specs.Edit.{isFree}
 
 module _ (E : Site) (f : ℕ → ℕ → ℕ) where
   open Site E using (map as m, scheme as S, orbit as O)
 
-  -- y is the dart that gives the new dart x its tag: x is the dart of a pair (u, s) whose node s is added, in a slot that was unused, and y is the dart of
-  -- (u, donor of s). The donor is a left node, so y is a matched dart, and it was live
+  -- y is the dart that gives the new dart x its tag: x is the dart of a pair (u, s) whose node s is added, in a slot that was unused or that the edit
+  -- deletes, and y is the dart of (u, donor of s). The donor is a left node, so y is a matched dart, and it was live
   pub record Grown (x y : ℕ) : Type 0 where
     pub dart : ℕ
     pub node : ℕ
@@ -20,7 +21,7 @@ module _ (E : Site) (f : ℕ → ℕ → ℕ) where
     pub below : node < S .nodes
     pub isAdded : added S node ≡ true
     pub new : f dart node ≡ x
-    pub wasUnused : m .state x ≡ 0
+    pub wasFree : isFree E f x ≡ true
     pub donorBelow : donor S node < S .nodes
     pub donorLeft : has S left (donor S node) ≡ true
     pub giver : f dart (donor S node) ≡ y

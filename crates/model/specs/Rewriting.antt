@@ -5,11 +5,12 @@ use Prim.Native.Nat.{ℕ, _+_, _*_, _≤_, _<_}
 use mathlib.Core.Path.{_≡_}
 use mathlib.Core.Bool.{true}
 use Rattle.base.specs.Below.{countBelow}
-use Rattle.model.specs.Map.{Map, Field, fieldOf, dimension, unused}
+use Rattle.model.specs.Map.{Map, Field, fieldOf, dimension}
 use Rattle.model.specs.Scheme.{right, donor, orbitDim, has, deleted, preserved, added}
 use Rattle.model.specs.Conditions.{absent, explicit, implicit, arcAt}
 use Rattle.model.specs.Site.{Site}
 use Rattle.model.specs.Match.{Assignment}
+use Rattle.model.specs.Edit.{isFree}
 
 -- the words of slot x in m′ are those in m
 abbrev pub SameRecord : Map → Map → ℕ → Type 0
@@ -27,11 +28,11 @@ module _ (E : Site) where
     pub slots : m′ .slots ≡ m .slots
     -- the darts of the left pairs are the assignment
     pub assigned : Assignment E f
-    -- the added pairs, ordered by u and then by s, take the lowest slots unused before the edit
+    -- the added pairs, ordered by u and then by s, take the lowest slots that are free: unused before the edit, or deleted by it
     pub slot : (u s : ℕ) → O u ≡ true → s < S .nodes → added S s ≡ true → f u s < m .slots
-    pub wasUnused : (u s : ℕ) → O u ≡ true → s < S .nodes → added S s ≡ true → m .state (f u s) ≡ 0
+    pub wasFree : (u s : ℕ) → O u ≡ true → s < S .nodes → added S s ≡ true → isFree E f (f u s) ≡ true
     pub inOrder : (u s : ℕ) → O u ≡ true → s < S .nodes → added S s ≡ true
-        → countBelow (f u s) (unused m) ≡ countBelow u O * countBelow (S .nodes) (added S) + countBelow s (added S)
+        → countBelow (f u s) (isFree E f) ≡ countBelow u O * countBelow (S .nodes) (added S) + countBelow s (added S)
     -- preserved and added pairs are live; right arcs set their links
     pub alive : (u s : ℕ) → O u ≡ true → s < S .nodes → has S right s ≡ true → m′ .state (f u s) ≡ 1
     pub explicitLink : (u s i t : ℕ) → O u ≡ true → s < S .nodes → has S right s ≡ true → arcAt S right s i ≡ explicit t
@@ -45,6 +46,7 @@ module _ (E : Site) where
     pub keptTag : (u s : ℕ) → O u ≡ true → s < S .nodes → preserved S s ≡ true → m′ .tag (f u s) ≡ m .tag (f u s)
     pub keptLink : (u s i : ℕ) → O u ≡ true → s < S .nodes → preserved S s ≡ true → arcAt S right s i ≡ absent
         → m′ .link i (f u s) ≡ m .link i (f u s)
-    -- deleted records become six zeros, and all other records stay as they stood
-    pub gone : (u s : ℕ) → O u ≡ true → s < S .nodes → deleted S s ≡ true → ZeroRecord m′ (f u s)
+    -- a deleted slot that no new dart takes becomes six zeros, and all other records stay as they stood. One that is taken holds what is said of the new dart
+    pub gone : (u s : ℕ) → O u ≡ true → s < S .nodes → deleted S s ≡ true
+        → ((v t : ℕ) → O v ≡ true → t < S .nodes → added S t ≡ true → f v t ≡ f u s → ⊥) → ZeroRecord m′ (f u s)
     pub others : (x : ℕ) → ((u s : ℕ) → O u ≡ true → s < S .nodes → f u s ≡ x → ⊥) → SameRecord m m′ x

@@ -1,7 +1,7 @@
 -- The working store of 16 × N words while an edit runs: which word holds what, and what the phases keep true of it.
 --   0 .. N - 1     the mark of slot x: 0, or 1 + the place at which the dart x stands
 --   N .. 2N - 1    the places: first the darts of the orbit, then for each further left node the darts of its pairs
---   2N .. 3N - 1   the darts of the added pairs
+--   2N .. 3N - 1   the darts of the added pairs, and before a pair has its dart, the tag for it
 --   4N .. 8N - 1   for each orbit dart and each position of the orbit type, the place of the dart to which that link leads
 -- Nothing is asked of the other words. Assumes nothing.
 use Prim.Native.Nat.{ℕ, _+_, _*_, _-_, _≤_, _<_}

@@ -5,3 +5,5 @@ pub mod SlotGiveLaws
 pub mod LinkLaws
 pub mod LinkWriteLaws
 pub mod LinkRewriteLaws
+pub mod ClearLaws
+pub mod RoomLaws

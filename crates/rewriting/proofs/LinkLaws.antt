@@ -12,16 +12,13 @@ use borrow.Author.Count.{below-more}
 use borrow.Author.Tests.{lt-ltb, le-ltb, ltb-false, eq-eqb, ne-eqb}
 use Rattle.base.proofs.TestLaws.{true-or-false}
 use Rattle.model.specs.Map.{Link, put}
-use Rattle.table.specs.Words.{blanked}
 use Rattle.orbit.specs.Store.{next, dartAt}
-use Rattle.rewriting.specs.Links.{placeBy, overwritten, erased, followed, changed, clearedBy, HoldsSlots, Turnable}
+use Rattle.rewriting.specs.Darts.{HoldsSlots}
+use Rattle.rewriting.specs.Links.{placeBy, overwritten, followed, changed, Turnable}
 
--- a link put by other names of its slot and its value, and a record of zeros by another name of its slot
+-- a link put by other names of its slot and its value
 pub put-at : (t t′ : List ℕ) (i v w x y : ℕ) → t′ ≡ put t (Link i) x v → x ≡ y → v ≡ w → t′ ≡ put t (Link i) y w
 put-at t t′ i v w x y e p q = e ∙ ap₂ (put t (Link i)) p q
-
-pub blanked-at : (t t′ : List ℕ) (x y : ℕ) → t′ ≡ blanked x t → x ≡ y → t′ ≡ blanked y t
-blanked-at t t′ x y e p = e ∙ ap (λ (z : ℕ). blanked z t) p
 
 pub followed-at : (N : ℕ) (store : List ℕ) (size : ℕ) (cols : List ℕ) (i base x y : ℕ) (t t′ : List ℕ)
     → t′ ≡ followed N store size cols i base x t → x ≡ y → t′ ≡ followed N store size cols i base y t
@@ -91,14 +88,3 @@ pub changes-more : (lefts rights codes : List ℕ) (k v : ℕ) → k < length co
 changes-more lefts rights codes k v h e old = below-more _ k
     (λ j l. getD-set-other codes k j v 0 (λ q. absurd (omega arith)) ∙ old j l)
     (getD-set-same codes k v 0 h ∙ e)
-
--- ---- a node by its kind
-
-module _ (store : List ℕ) (size base kind : ℕ) (t t′ : List ℕ) where
-  pub by-deleted : kind ≡ 1 → t′ ≡ erased (dartAt store base) size t → t′ ≡ clearedBy store size base kind t
-  unfolding clearedBy
-  by-deleted h e = rw (eq-eqb kind 1 h) e
-
-  pub by-other : (kind ≡ 1 → ⊥) → t′ ≡ t → t′ ≡ clearedBy store size base kind t
-  unfolding clearedBy
-  by-other h e = rw (ne-eqb kind 1 h) e

@@ -11,18 +11,19 @@ use native.Mathlib.Decide.{ℕ-discrete}
 use native.Mathlib.Omega.{arith}
 use lib.ListN.{length, getD}
 use lib.Dec.{leb}
-use borrow.Author.Tests.{eqb-true, eq-eqb, leb-true, leb-false}
+use borrow.Author.Tests.{leb-true, leb-false}
 use Rattle.base.proofs.TestLaws.{true-or-false}
 use Rattle.base.proofs.FirstLaws.{some-not-none}
 use Rattle.model.specs.Map.{Map, Field, State, Link, Tag, fieldOf, dimension, tableSize, fieldAt, tableOf}
-use Rattle.model.specs.Scheme.{left, right, deleted, added}
+use Rattle.model.specs.Scheme.{left, right, has, added}
 use Rattle.model.specs.Conditions.{Arc, absent, explicit, implicit, arcAt}
 use Rattle.model.specs.Site.{Site, Sound}
-use Rattle.model.specs.Edit.{Pair, dartOf, pairOf, edited}
-use Rattle.model.proofs.MapLaws.{state-not-link, tag-not-link, field-view, words-are}
+use Rattle.model.specs.Edit.{Pair, dartOf, pairOf, afterDeletion, edited}
+use Rattle.model.proofs.MapLaws.{state-not-link, tag-not-link, words-are}
 use Rattle.model.proofs.AcceptedLaws.{small}
 use Rattle.model.proofs.ArcLaws.{explicit-end, implicit-from, absent-from, off-side}
 use Rattle.model.proofs.CodeLaws.{small-arc, one-arc}
+use Rattle.model.proofs.KindLaws.{added-right, both-preserved}
 use Rattle.model.proofs.RankLaws.{left-not-added, added-not-left}
 use Rattle.model.proofs.EditLaws as L
 use Rattle.model.proofs.EditLaws.{Ready}
@@ -31,13 +32,12 @@ use Rattle.orbit.specs.Store.{place, next}
 use Rattle.orbit.specs.At.{site}
 use Rattle.model.specs.Codes.{arcCode}
 use Rattle.orbit.proofs.PlaceLaws.{place-in, place-of, place-once}
-use Rattle.rewriting.specs.Links.{relinked, cleared, changed, Changed, Turnable, Legible, Columns, Codes, BeforeRewriting}
+use Rattle.rewriting.specs.Links.{relinked, changed, Changed, Turnable, Legible, Columns, Codes, BeforeRewriting}
 use Rattle.rewriting.proofs.LinkLaws.{changed-same, changed-other}
 use Rattle.rewriting.proofs.LinkWriteLaws.{pairDart, Different, relinked-long, relinked-leaves, relinked-node, relinked-position, relinked-none}
-use Rattle.rewriting.proofs.LinkWriteLaws.{cleared-long, cleared-leaves, cleared-sets}
 
-module _ {slots : ℕ} {table store : List ℕ} {size : ℕ} {kinds lefts rights : List ℕ} {c : ℕ} {cols : List ℕ}
-    (R : BeforeRewriting slots table store size kinds lefts rights c cols) {codes : List ℕ} (C : Changed lefts rights codes) where
+module _ {slots : ℕ} {table store : List ℕ} {size : ℕ} {lefts rights : List ℕ} {c : ℕ} {cols : List ℕ}
+    (R : BeforeRewriting slots table store size lefts rights c cols) {codes : List ℕ} (C : Changed lefts rights codes) where
   abbrev E : Site
   E = site (R .at)
 
@@ -71,12 +71,16 @@ module _ {slots : ℕ} {table store : List ℕ} {size : ℕ} {kinds lefts rights
   dart-is : (v r : ℕ) → v < S .nodes → r < size → dart v r ≡ D (P r) v
   dart-is = R .darts .dart
 
-  different : Different slots store size cols c
+  dart-fits : (v r : ℕ) → v < c → r < size → dart v r < slots
+  dart-fits v r hv hr = subst (λ (x : ℕ). x < slots) (sym (dart-is v r (node hv) hr))
+      (L.dart-slot ready (P r) v (place-in (R .walked) r hr) (node hv))
+
+  -- those of the right side
+  different : Different slots store size cols c (has S right)
   different = record {
-    slot = λ v r hv hr. subst (λ (x : ℕ). x < slots) (sym (dart-is v r (node hv) hr))
-        (L.dart-slot ready (P r) v (place-in (R .walked) r hr) (node hv));
-    once = λ v q w r hv hq hw hr e.
-        let d = L.dart-injective ready (P q) v (P r) w (place-in (R .walked) q hq) (place-in (R .walked) r hr) (node hv) (node hw)
+    slot = λ v r hv pv hr. dart-fits v r hv hr;
+    once = λ v q w r hv pv hq hw pw hr e.
+        let d = L.right-injective ready (P q) v (P r) w (place-in (R .walked) q hq) (place-in (R .walked) r hr) (node hv) (node hw) pv pw
         (sym (dart-is v q (node hv) hq) ∙ e ∙ dart-is w r (node hw) hr) in
         (d .1, place-once (R .walked) q r hq hr (d .0));
   }
@@ -88,7 +92,7 @@ module _ {slots : ℕ} {table store : List ℕ} {size : ℕ} {kinds lefts rights
     few = let few = accepted .shaped .nodesFew in let same = R .nodes in omega arith;
     at = λ v h. record {
       inside = let i = R .darts .inside v (node h) .1 in let long = R .stored in omega arith;
-      slot = λ r b. different .slot v r h b;
+      slot = λ r b. dart-fits v r h b;
     };
   }
 
@@ -146,75 +150,69 @@ module _ {slots : ℕ} {table store : List ℕ} {size : ℕ} {kinds lefts rights
   abbrev linked : List ℕ
   linked = relinked slots store size cols codes (4 * c) table
 
-  abbrev after : List ℕ
-  after = cleared store size cols kinds c linked
-
   linked-long : length linked ≡ tableSize slots
   linked-long = relinked-long slots store size cols codes (4 * c) table (R .sized .long)
 
-  after-long : length after ≡ tableSize slots
-  after-long = cleared-long slots store size cols kinds c linked linked-long
+  -- a link is written where the node is on the right
+  named : (k : ℕ) → k < 4 * c → getD codes k 0 < 255 → has S right (k / 4) ≡ true
+  named k h l =
+      let v : k / 4 < S .nodes = node (omega arith) in
+      let same : 4 * (k / 4) + k % 4 ≡ k = omega arith in
+      let code = ap (λ (j : ℕ). getD codes j 0) same in
+      ⊎-elim
+      (λ e. e)
+      (λ e.
+      let none : arcAt S right (k / 4) (k % 4) ≡ absent = off-side S right (accepted .sides right) (k / 4) (k % 4) v (omega arith) e in
+      let is : arcCode (arcAt S right (k / 4) (k % 4)) ≡ 255 = ap arcCode none in
+      ⊎-elim (λ w. absurd (omega (arith, w .0))) (λ w. absurd (omega arith)) (code-cases (k / 4) (k % 4) v (omega arith)))
+      (true-or-false (has S right (k / 4)))
 
   -- the pair of a dart is found
-  not-none : (u v : ℕ) → O u ≡ true → v < S .nodes → pairOf E (D u v) ≡ none → ⊥
-  not-none u v e h n = some-not-none (L.pair-of ready u v e h) n
+  not-none : (u v : ℕ) → O u ≡ true → v < S .nodes → has S right v ≡ true → pairOf E (D u v) ≡ none → ⊥
+  not-none u v e h k n = some-not-none (L.pair-of ready u v e h k) n
 
-  -- a slot that is no pair's dart
-  untouched : (x : ℕ) → pairOf E x ≡ none → (f : Field) → fieldAt after f x ≡ fieldAt (R .before) f x
+  -- a slot that is no preserved or added pair's dart
+  untouched : (x : ℕ) → pairOf E x ≡ none → (f : Field) → fieldAt linked f x ≡ fieldOf (afterDeletion E) f x
   untouched x e f =
-      cleared-leaves slots store size cols kinds c x f (λ v r hv k hr w. off v r hv hr w) linked linked-long
-      ∙ relinked-leaves slots store size cols codes (4 * c) x f (λ k r hk hr w z. off (k / 4) r (omega arith) hr w) table (R .sized .long)
-      ∙ R .given .other x f (λ a. not-none (a .dart) (a .node) (a .inOrbit) (a .below) (ap (pairOf E) (a .same) ∙ e))
+      relinked-leaves slots store size cols codes (4 * c) x f (λ k r hk l hr w z. off (k / 4) r (omega arith) (named k hk l) hr w) table (R .sized .long)
+      ∙ R .given .other x f (λ a. not-none (a .dart) (a .node) (a .inOrbit) (a .below) (added-right S (a .node) (a .isAdded)) (ap (pairOf E) (a .same) ∙ e))
     where
-      off : (v r : ℕ) → v < c → r < size → dart v r ≡ x → ⊥
-      off v r hv hr w = not-none (P r) v (place-in (R .walked) r hr) (node hv) (ap (pairOf E) (sym (dart-is v r (node hv) hr) ∙ w) ∙ e)
-
-  -- the dart of a pair whose node is deleted
-  gone : (v r : ℕ) → v < S .nodes → r < size → deleted S v ≡ true → (f : Field) → fieldAt after f (D (P r) v) ≡ 0
-  gone v r hv hr k f =
-      ap (fieldAt after f) (sym (dart-is v r hv hr))
-      ∙ cleared-sets slots store size cols kinds c different v r f (counted hv) hr
-      (ap (λ (l : List ℕ). getD l v 0) (R .kinded) ∙ eqb-true _ _ k) linked linked-long
+      off : (v r : ℕ) → v < c → has S right v ≡ true → r < size → dart v r ≡ x → ⊥
+      off v r hv k hr w = not-none (P r) v (place-in (R .walked) r hr) (node hv) k (ap (pairOf E) (sym (dart-is v r (node hv) hr) ∙ w) ∙ e)
 
   -- ---- the dart of a pair whose node is on the right
 
   module _ (v r : ℕ) (hv : v < S .nodes) (hr : r < size) where
-    -- its words before the links are written
-    old : added S v ≡ false → (f : Field) → fieldAt table f (D (P r) v) ≡ fieldAt (R .before) f (D (P r) v)
-    old n f = R .given .other (D (P r) v) f (λ a.
-        let q = L.dart-injective ready (a .dart) (a .node) (P r) v (a .inOrbit) (place-in (R .walked) r hr) (a .below) hv (a .same) in
-        true≢false (sym (a .isAdded) ∙ ap (added S) (q .1) ∙ n))
-
-    module _ (k : deleted S v ≡ false) where
-      spared : (f : Field) → fieldAt after f (dart v r) ≡ fieldAt linked f (dart v r)
-      spared f = cleared-leaves slots store size cols kinds c (dart v r) f
-          (λ w q hw one hq z.
-          let same = different .once w q v r hw hq (counted hv) hr z .0 in
-          true≢false (sym (eq-eqb _ _ (ap (λ (l : List ℕ). getD l w 0) (sym (R .kinded)) ∙ one)) ∙ ap (deleted S) same ∙ k))
-          linked linked-long
+    module _ (k : has S right v ≡ true) where
+      -- the words of a preserved one before the links are written
+      old : has S left v ≡ true → (f : Field) → fieldAt table f (D (P r) v) ≡ fieldOf m f (D (P r) v)
+      old l f = R .given .other (D (P r) v) f (λ a.
+          let q = L.right-injective ready (a .dart) (a .node) (P r) v (a .inOrbit) (place-in (R .walked) r hr) (a .below) hv
+          (added-right S (a .node) (a .isAdded)) k (a .same) in
+          true≢false (sym (a .isAdded) ∙ ap (added S) (q .1) ∙ left-not-added S v l))
+          ∙ L.field-stays ready f (D (P r) v) (L.kept-stays ready (P r) v (place-in (R .walked) r hr) hv (both-preserved S v l k))
 
       -- a field that is no link
-      unlinked : (f : Field) → ((i : ℕ) → f ≡ Link i → ⊥) → fieldAt after f (D (P r) v) ≡ fieldAt table f (D (P r) v)
+      unlinked : (f : Field) → ((i : ℕ) → f ≡ Link i → ⊥) → fieldAt linked f (D (P r) v) ≡ fieldAt table f (D (P r) v)
       unlinked f no-link =
-          ap (fieldAt after f) (sym (dart-is v r hv hr))
-          ∙ spared f
-          ∙ relinked-leaves slots store size cols codes (4 * c) (dart v r) f (λ j q hj hq w. no-link (j % 4)) table (R .sized .long)
+          ap (fieldAt linked f) (sym (dart-is v r hv hr))
+          ∙ relinked-leaves slots store size cols codes (4 * c) (dart v r) f (λ j q hj l hq w. no-link (j % 4)) table (R .sized .long)
           ∙ ap (fieldAt table f) (dart-is v r hv hr)
 
-      state-stays : fieldAt after State (D (P r) v) ≡ new .state (D (P r) v)
+      state-stays : fieldAt linked State (D (P r) v) ≡ new .state (D (P r) v)
       state-stays =
           unlinked State (λ i. state-not-link)
           ∙ ⊎-elim
-          (λ l. old (left-not-added S v l) State ∙ L.left-alive ready (P r) v (place-in (R .walked) r hr) hv l)
+          (λ l. old l State ∙ L.left-alive ready (P r) v (place-in (R .walked) r hr) hv l)
           (λ a. R .given .fresh (P r) v State (place-in (R .walked) r hr) hv a)
           (L.kinds ready v hv)
           ∙ sym (L.state-pair ready (P r) v (place-in (R .walked) r hr) hv k)
 
-      tag-stays : fieldAt after Tag (D (P r) v) ≡ new .tag (D (P r) v)
+      tag-stays : fieldAt linked Tag (D (P r) v) ≡ new .tag (D (P r) v)
       tag-stays =
           unlinked Tag (λ i. tag-not-link)
           ∙ ⊎-elim
-          (λ l. old (left-not-added S v l) Tag
+          (λ l. old l Tag
           ∙ sym (L.tag-kept ready (P r) v (place-in (R .walked) r hr) hv k (left-not-added S v l)))
           (λ a. R .given .fresh (P r) v Tag (place-in (R .walked) r hr) hv a ∙ sym (L.tag-new ready (P r) v (place-in (R .walked) r hr) hv k a))
           (L.kinds ready v hv)
@@ -222,7 +220,7 @@ module _ {slots : ℕ} {table store : List ℕ} {size : ℕ} {kinds lefts rights
       -- where the right side names no i-arc: a preserved dart keeps the link, and of an added one it is α3 with n = 2, which is the dart itself
       link-absent : (i : ℕ) → i ≤ 3 → arcAt S right v i ≡ absent → fieldAt table (Link i) (D (P r) v) ≡ new .link i (D (P r) v)
       link-absent i l a = ⊎-elim
-          (λ z. old (left-not-added S v z) (Link i)
+          (λ z. old z (Link i)
           ∙ sym (L.link-kept ready (P r) v (place-in (R .walked) r hr) hv k i (left-not-added S v z) a))
           (λ z. ⊎-elim
           (λ w.
@@ -242,14 +240,14 @@ module _ {slots : ℕ} {table store : List ℕ} {size : ℕ} {kinds lefts rights
       -- where both sides have the same i-arc: a preserved dart has the link by the match
       link-stands : (i : ℕ) → i ≤ 3 → arcAt S left v i ≡ arcAt S right v i → fieldAt table (Link i) (D (P r) v) ≡ new .link i (D (P r) v)
       link-stands i l same = ⊎-elim
-          (λ z. old (left-not-added S v z) (Link i) ∙ sym (L.link-same ready (P r) v (place-in (R .walked) r hr) hv k i l z same))
+          (λ z. old z (Link i) ∙ sym (L.link-same ready (P r) v (place-in (R .walked) r hr) hv k i l z same))
           (λ z. link-absent i l (sym same ∙ off-side S left (accepted .sides left) v i hv (omega arith) (added-not-left S v z)))
           (L.kinds ready v hv)
 
       -- a link that is not written
       link-left : (i : ℕ) → i ≤ 3 → getD codes (4 * v + i) 0 ≡ 255 → fieldAt linked (Link i) (dart v r) ≡ fieldAt table (Link i) (D (P r) v)
       link-left i l e =
-          relinked-none slots store size cols codes c different v i r (counted hv) (omega arith) hr 255 e table (R .sized .long) (omega arith)
+          relinked-none slots store size cols codes c different named v i r (counted hv) k (omega arith) hr 255 e table (R .sized .long) (omega arith)
           ∙ ap (fieldAt table (Link i)) (dart-is v r hv hr)
 
       link-written : (i : ℕ) → i ≤ 3 → (a : Arc) → arcAt S right v i ≡ a → getD codes (4 * v + i) 0 ≡ arcCode a
@@ -258,7 +256,7 @@ module _ {slots : ℕ} {table store : List ℕ} {size : ℕ} {kinds lefts rights
       link-written i l (explicit t) a is =
           let b = explicit-end S right (accepted .sides right) v i t a .0 in
           let few = accepted .shaped .nodesFew in
-          relinked-node slots store size cols codes c different v i r (counted hv) (omega arith) hr t is table (R .sized .long) (omega arith)
+          relinked-node slots store size cols codes c different named v i r (counted hv) k (omega arith) hr t is table (R .sized .long) (omega arith)
           ∙ dart-is t r b hr ∙ sym (L.link-explicit ready (P r) v (place-in (R .walked) r hr) hv k i t a)
       link-written i l (implicit p) a is =
           let b = implicit-from S right v i p a .0 in
@@ -266,7 +264,7 @@ module _ {slots : ℕ} {table store : List ℕ} {size : ℕ} {kinds lefts rights
           let n3 = small S (accepted .shaped) in
           let same : 16 + p - 16 ≡ p = omega arith in
           let w = R .walked .links r p hr b in
-          relinked-position slots store size cols codes c different v i r (counted hv) (omega arith) hr (16 + p) is
+          relinked-position slots store size cols codes c different named v i r (counted hv) k (omega arith) hr (16 + p) is
           table (R .sized .long) (omega arith) (omega arith)
           ∙ ap (λ (q : ℕ). dart v (next slots store r q)) same ∙ dart-is v (next slots store r p) hv (w .0) ∙ ap (λ (u : ℕ). D u v) (w .1)
           ∙ sym (L.link-implicit ready (P r) v (place-in (R .walked) r hr) hv k i p a)
@@ -277,18 +275,17 @@ module _ {slots : ℕ} {table store : List ℕ} {size : ℕ} {kinds lefts rights
           (λ e. link-written i l (arcAt S right v i) refl e)
           (code-cases v i hv (omega arith))
 
-      field-stays : (f : Field) → dimension f ≤ 3 → fieldAt after f (D (P r) v) ≡ fieldOf new f (D (P r) v)
+      field-stays : (f : Field) → dimension f ≤ 3 → fieldAt linked f (D (P r) v) ≡ fieldOf new f (D (P r) v)
       field-stays State l = state-stays
-      field-stays (Link i) l = ap (fieldAt after (Link i)) (sym (dart-is v r hv hr)) ∙ spared (Link i) ∙ link-linked i l
+      field-stays (Link i) l = ap (fieldAt linked (Link i)) (sym (dart-is v r hv hr)) ∙ link-linked i l
       field-stays Tag l = tag-stays
 
   -- ---- every slot
 
-  -- x is no pair's dart, or that of a pair whose node is deleted, or of another
+  -- x is no preserved or added pair's dart, or one's
   data Role (x : ℕ) : Type 0 where
     noPair : pairOf E x ≡ none → Role x
-    deletedPair : (v r : ℕ) → v < S .nodes → r < size → deleted S v ≡ true → D (P r) v ≡ x → Role x
-    rightPair : (v r : ℕ) → v < S .nodes → r < size → deleted S v ≡ false → D (P r) v ≡ x → Role x
+    rightPair : (v r : ℕ) → v < S .nodes → r < size → has S right v ≡ true → D (P r) v ≡ x → Role x
 
   role : (x : ℕ) → Role x
   role x = go (pairOf E x) refl
@@ -298,22 +295,15 @@ module _ {slots : ℕ} {table store : List ℕ} {size : ℕ} {kinds lefts rights
       go (some p) e =
           let q = L.pair-at ready x p e in
           let w = place-of (R .walked) (p .dart) (q .0) in
-          let same = ap (λ (u : ℕ). D u (p .node)) (w .2) ∙ q .2 in
-          ⊎-elim
-          (λ k. deletedPair (p .node) (w .0) (q .1) (w .1) k same)
-          (λ k. rightPair (p .node) (w .0) (q .1) (w .1) k same)
-          (true-or-false (deleted S (p .node)))
+          rightPair (p .node) (w .0) (q .1) (w .1) (q .2) (ap (λ (u : ℕ). D u (p .node)) (w .2) ∙ q .3)
 
-  field-is : (f : Field) (x : ℕ) → dimension f ≤ 3 → Role x → fieldAt after f x ≡ fieldOf new f x
-  field-is f x l (noPair e) = untouched x e f ∙ field-view slots (R .before) f x ∙ sym (L.field-other ready f x e)
-  field-is f x l (deletedPair v r hv hr k e) = subst (λ (y : ℕ). fieldAt after f y ≡ fieldOf new f y) e
-      (gone v r hv hr k f ∙ sym (L.field-deleted ready (P r) v (place-in (R .walked) r hr) hv f k))
-  field-is f x l (rightPair v r hv hr k e) = subst (λ (y : ℕ). fieldAt after f y ≡ fieldOf new f y) e (field-stays v r hv hr k f l)
+  field-is : (f : Field) (x : ℕ) → dimension f ≤ 3 → Role x → fieldAt linked f x ≡ fieldOf new f x
+  field-is f x l (noPair e) = untouched x e f ∙ sym (L.field-other ready f x e)
+  field-is f x l (rightPair v r hv hr k e) = subst (λ (y : ℕ). fieldAt linked f y ≡ fieldOf new f y) e (field-stays v r hv hr k f l)
 
-  edited-words : after ≡ tableOf new
+  edited-words : linked ≡ tableOf new
   unfolding edited
-  edited-words = words-are new after after-long (λ f x l h. field-is f x l (role x))
+  edited-words = words-are new linked linked-long (λ f x l h. field-is f x l (role x))
 
-  pub rewritten : (t t′ : List ℕ) → t ≡ relinked slots store size cols codes (4 * c) table → t′ ≡ cleared store size cols kinds c t
-      → t′ ≡ tableOf new
-  rewritten t t′ e f = f ∙ ap (cleared store size cols kinds c) e ∙ edited-words
+  pub rewritten : (t : List ℕ) → t ≡ relinked slots store size cols codes (4 * c) table → t ≡ tableOf new
+  rewritten t e = e ∙ edited-words

@@ -3,23 +3,22 @@
 use Prim.Native.Nat.{ℕ, _+_, _*_, _-_, _/_, _%_, _≤_, _<_}
 use mathlib.Core.Path.{_≡_, refl, sym, ap, _∙_, subst}
 use mathlib.Core.Logic.{⊎-elim}
+use mathlib.Core.Bool.{Bool, true}
 use mathlib.Core.List.{List}
 use native.Mathlib.Omega.{arith}
 use lib.ListN.{length, getD}
-use lib.Dec.{eqb, ltb}
-use borrow.Author.Tests.{ltb-true, ltb-false, eqb-true, eqb-false}
+use lib.Dec.{ltb}
+use borrow.Author.Tests.{ltb-true, ltb-false}
 use Rattle.base.proofs.TestLaws.{true-or-false}
 use Rattle.base.proofs.StepLaws.{steps-keep, steps-leave, steps-one}
 use Rattle.model.specs.Map.{Field, Link, dimension, tableSize, fieldAt, put}
 use Rattle.model.proofs.MapLaws.{length-put, put-same, put-other}
-use Rattle.table.specs.Words.{blanked}
-use Rattle.table.proofs.WordLaws.{blank-long, blank-same, blank-other}
 use Rattle.orbit.specs.Store.{next, dartAt}
-use Rattle.rewriting.specs.Links.{overwritten, erased, followed, relinked, clearedBy, cleared}
-use Rattle.rewriting.proofs.LinkLaws.{by-node, by-position, by-none, by-deleted, by-other}
+use Rattle.rewriting.specs.Links.{overwritten, followed, relinked}
+use Rattle.rewriting.proofs.LinkLaws.{by-node, by-position, by-none}
 
 module _ (N : ℕ) where
-  abbrev Long : List ℕ → Type 0
+  abbrev pub Long : List ℕ → Type 0
   Long t = length t ≡ tableSize N
 
   -- ---- one link of some slots
@@ -45,28 +44,6 @@ module _ (N : ℕ) where
         (λ q s b ne o. put-other s (Link i) (at q) (v q) low (Link i) (at r) (λ w z. ne (once q b (sym w))))
         (λ w. v r) (λ s o. put-same s (Link i) (at r) (v r) low N o h) t e
 
-  -- ---- records of zeros
-
-  module _ (at : ℕ → ℕ) (n : ℕ) where
-    erase-long : (r : ℕ) (t : List ℕ) → Long t → Long (blanked (at r) t)
-    erase-long r t e = blank-long N (at r) t e
-
-    pub erased-long : (t : List ℕ) → Long t → Long (erased at n t)
-    unfolding erased
-    erased-long t e = steps-keep _ Long erase-long n t e
-
-    pub erased-leaves : (y : ℕ) (f : Field) → ((r : ℕ) → r < n → at r ≡ y → ⊥) → (t : List ℕ) → Long t → fieldAt (erased at n t) f y ≡ fieldAt t f y
-    unfolding erased
-    erased-leaves y f off t e = steps-leave _ Long erase-long (λ s. fieldAt s f y) n
-        (λ r s l o. blank-other N (at r) s o f y (λ q. off r l (sym q))) t e
-
-    pub erased-sets : (r : ℕ) → r < n → at r < N → ((q : ℕ) → q < n → at q ≡ at r → q ≡ r) → (f : Field)
-        → (t : List ℕ) → Long t → fieldAt (erased at n t) f (at r) ≡ 0
-    unfolding erased
-    erased-sets r l h once f t e = steps-one _ Long erase-long (λ s. fieldAt s f (at r)) n r l
-        (λ q s b ne o. blank-other N (at q) s o f (at r) (λ w. ne (once q b (sym w))))
-        (λ w. 0) (λ s o. blank-same N (at r) s o h f) t e
-
   -- ---- the links of all pairs
 
   module _ (store : List ℕ) (size : ℕ) (cols : List ℕ) where
@@ -74,10 +51,10 @@ module _ (N : ℕ) where
     abbrev pub pairDart : ℕ → ℕ → ℕ
     pairDart v r = dartAt store (getD cols v 0) r
 
-    -- the darts of the pairs of c nodes are different slots
-    pub record Different (c : ℕ) : Type 0 where
-      pub slot : (v r : ℕ) → v < c → r < size → pairDart v r < N
-      pub once : (v q w r : ℕ) → v < c → q < size → w < c → r < size → pairDart v q ≡ pairDart w r → (v ≡ w) × (q ≡ r)
+    -- the darts of the pairs of those of c nodes that have p are different slots
+    pub record Different (c : ℕ) (p : ℕ → Bool) : Type 0 where
+      pub slot : (v r : ℕ) → v < c → p v ≡ true → r < size → pairDart v r < N
+      pub once : (v q w r : ℕ) → v < c → p v ≡ true → q < size → w < c → p w ≡ true → r < size → pairDart v q ≡ pairDart w r → (v ≡ w) × (q ≡ r)
 
     -- what an arc's code can mean
     followed-cases : (P : List ℕ → Type 0) (i base code : ℕ) (t : List ℕ)
@@ -97,10 +74,10 @@ module _ (N : ℕ) where
     followed-long i base code l t e = followed-cases Long i base code t
         (λ a. column-long i _ _ size l t e) (λ a b. column-long i _ _ size l t e) (λ a. e)
 
-    followed-leaves : (i base code y : ℕ) (f : Field) → i ≤ 3 → ((r : ℕ) → r < size → dartAt store base r ≡ y → f ≡ Link i → ⊥)
+    followed-leaves : (i base code y : ℕ) (f : Field) → i ≤ 3 → (code < 255 → (r : ℕ) → r < size → dartAt store base r ≡ y → f ≡ Link i → ⊥)
         → (t : List ℕ) → Long t → fieldAt (followed N store size cols i base code t) f y ≡ fieldAt t f y
     followed-leaves i base code y f l off t e = followed-cases (λ s. fieldAt s f y ≡ fieldAt t f y) i base code t
-        (λ a. column-leaves i _ _ size l y f off t e) (λ a b. column-leaves i _ _ size l y f off t e) (λ a. refl)
+        (λ a. column-leaves i _ _ size l y f (off (omega arith)) t e) (λ a b. column-leaves i _ _ size l y f (off b) t e) (λ a. refl)
 
     module _ (codes : List ℕ) (n : ℕ) where
       arc-long : (k : ℕ) (t : List ℕ) → Long t → Long (followed N store size cols (k % 4) (getD cols (k / 4) 0) (getD codes k 0) t)
@@ -110,13 +87,15 @@ module _ (N : ℕ) where
       unfolding relinked
       relinked-long t e = steps-keep _ Long arc-long n t e
 
-      pub relinked-leaves : (y : ℕ) (f : Field) → ((k r : ℕ) → k < n → r < size → pairDart (k / 4) r ≡ y → f ≡ Link (k % 4) → ⊥)
+      pub relinked-leaves : (y : ℕ) (f : Field) → ((k r : ℕ) → k < n → getD codes k 0 < 255 → r < size → pairDart (k / 4) r ≡ y → f ≡ Link (k % 4) → ⊥)
           → (t : List ℕ) → Long t → fieldAt (relinked N store size cols codes n t) f y ≡ fieldAt t f y
       unfolding relinked
       relinked-leaves y f off t e = steps-leave _ Long arc-long (λ s. fieldAt s f y) n
-          (λ k s l o. followed-leaves (k % 4) _ _ y f (omega arith) (λ r b. off k r l b) s o) t e
+          (λ k s l o. followed-leaves (k % 4) _ _ y f (omega arith) (λ n r b. off k r l n b) s o) t e
 
-    module _ (codes : List ℕ) (c : ℕ) (D : Different c) (v i r : ℕ) (hv : v < c) (hi : i < 4) (hr : r < size) where
+    -- each link that is written is one of a node that has p
+    module _ (codes : List ℕ) (c : ℕ) {p : ℕ → Bool} (D : Different c p) (named : (k : ℕ) → k < 4 * c → getD codes k 0 < 255 → p (k / 4) ≡ true)
+        (v i r : ℕ) (hv : v < c) (pv : p v ≡ true) (hi : i < 4) (hr : r < size) where
       -- the arc of node v at dimension i alone sets that link of the node's darts
       relinked-one : (g : ℕ → ℕ)
           → ((s : List ℕ) → Long s → fieldAt (followed N store size cols i (getD cols v 0) (getD codes (4 * v + i) 0) s) (Link i) (pairDart v r)
@@ -125,7 +104,10 @@ module _ (N : ℕ) where
       unfolding relinked
       relinked-one g one t e = steps-one _ Long (arc-long codes (4 * c)) (λ s. fieldAt s (Link i) (pairDart v r)) (4 * c) (4 * v + i) (omega arith)
           (λ j s l ne o. followed-leaves (j % 4) _ _ (pairDart v r) (Link i) (omega arith)
-          (λ q b w z. let same = D .once (j / 4) q v r (omega arith) b hv hr w .0 in let one : i ≡ j % 4 = ap dimension z in ne (omega arith)) s o)
+          (λ n q b w z.
+          let same = D .once (j / 4) q v r (omega arith) (named j l n) b hv pv hr w .0 in
+          let one : i ≡ j % 4 = ap dimension z in
+          ne (omega arith)) s o)
           g
           (λ s o. rw (quotient, rest) (one s o))
           t e
@@ -144,8 +126,8 @@ module _ (N : ℕ) where
         by-code g one = relinked-one g (λ s o. rw is (one s o)) t e
 
         sets : (value : ℕ → ℕ) (s : List ℕ) → Long s → fieldAt (overwritten i (pairDart v) value size s) (Link i) (pairDart v r) ≡ value r
-        sets value s o = column-sets i (pairDart v) value size (omega arith) r hr (D .slot v r hv hr)
-            (λ q b w. D .once v q v r hv b hv hr w .1) s o
+        sets value s o = column-sets i (pairDart v) value size (omega arith) r hr (D .slot v r hv pv hr)
+            (λ q b w. D .once v q v r hv pv b hv pv hr w .1) s o
 
         pub relinked-node : code < 16 → fieldAt (relinked N store size cols codes (4 * c) t) (Link i) (pairDart v r) ≡ pairDart code r
         relinked-node h = by-code (λ w. pairDart code r)
@@ -160,41 +142,3 @@ module _ (N : ℕ) where
         pub relinked-none : 255 ≤ code → fieldAt (relinked N store size cols codes (4 * c) t) (Link i) (pairDart v r) ≡ fieldAt t (Link i) (pairDart v r)
         relinked-none h = by-code (λ w. w)
             (λ s o. ap (λ (a : List ℕ). fieldAt a (Link i) (pairDart v r)) (sym (by-none N store size cols i (getD cols v 0) code s _ h refl)))
-
-    -- ---- the records of deleted pairs
-
-    cleared-cases : (P : List ℕ → Type 0) (base kind : ℕ) (t : List ℕ) → (kind ≡ 1 → P (erased (dartAt store base) size t)) → ((kind ≡ 1 → ⊥) → P t)
-        → P (clearedBy store size base kind t)
-    cleared-cases P base kind t f g = ⊎-elim
-        (λ a. subst P (by-deleted store size base kind t _ (eqb-true kind 1 a) refl) (f (eqb-true kind 1 a)))
-        (λ a. subst P (by-other store size base kind t _ (eqb-false kind 1 a) refl) (g (eqb-false kind 1 a)))
-        (true-or-false (eqb kind 1))
-
-    module _ (kinds : List ℕ) (c : ℕ) where
-      node-long : (v : ℕ) (t : List ℕ) → Long t → Long (clearedBy store size (getD cols v 0) (getD kinds v 0) t)
-      node-long v t e = cleared-cases Long (getD cols v 0) (getD kinds v 0) t (λ a. erased-long (pairDart v) size t e) (λ a. e)
-
-      pub cleared-long : (t : List ℕ) → Long t → Long (cleared store size cols kinds c t)
-      unfolding cleared
-      cleared-long t e = steps-keep _ Long node-long c t e
-
-      node-leaves : (v y : ℕ) (f : Field) → (getD kinds v 0 ≡ 1 → (r : ℕ) → r < size → pairDart v r ≡ y → ⊥) → (t : List ℕ) → Long t
-          → fieldAt (clearedBy store size (getD cols v 0) (getD kinds v 0) t) f y ≡ fieldAt t f y
-      node-leaves v y f off t e = cleared-cases (λ s. fieldAt s f y ≡ fieldAt t f y) (getD cols v 0) (getD kinds v 0) t
-          (λ a. erased-leaves (pairDart v) size y f (off a) t e) (λ a. refl)
-
-      pub cleared-leaves : (y : ℕ) (f : Field) → ((v r : ℕ) → v < c → getD kinds v 0 ≡ 1 → r < size → pairDart v r ≡ y → ⊥) → (t : List ℕ) → Long t
-          → fieldAt (cleared store size cols kinds c t) f y ≡ fieldAt t f y
-      unfolding cleared
-      cleared-leaves y f off t e = steps-leave _ Long node-long (λ s. fieldAt s f y) c
-          (λ v s l o. node-leaves v y f (λ a r b. off v r l a b) s o) t e
-
-      pub cleared-sets : Different c → (v r : ℕ) (f : Field) → v < c → r < size → getD kinds v 0 ≡ 1 → (t : List ℕ) → Long t
-          → fieldAt (cleared store size cols kinds c t) f (pairDart v r) ≡ 0
-      unfolding cleared
-      cleared-sets D v r f hv hr kind t e = steps-one _ Long node-long (λ s. fieldAt s f (pairDart v r)) c v hv
-          (λ w s l ne o. node-leaves w (pairDart v r) f (λ a q b z. ne (D .once w q v r l b hv hr z .0)) s o)
-          (λ w. 0)
-          (λ s o. ap (λ (a : List ℕ). fieldAt a f (pairDart v r)) (sym (by-deleted store size (getD cols v 0) (getD kinds v 0) s _ kind refl))
-          ∙ erased-sets (pairDart v) size r hr (D .slot v r hv hr) (λ q b w. D .once v q v r hv b hv hr w .1) f s o)
-          t e

@@ -22,7 +22,8 @@ use Rattle.base.proofs.BinaryLaws.{binary-same, binary-below, binary-more, bina
 use Rattle.model.specs.Site.{Site}
 use Rattle.orbit.specs.Store.{mark, place}
 use Rattle.orbit.specs.At.{At, site}
-use Rattle.rewriting.specs.Slots.{Grant, Givers, Granting, Turn, early, Placed, NoDigits, digitWords, Digits, Block}
+use Rattle.rewriting.specs.Darts.{Grant}
+use Rattle.rewriting.specs.Slots.{Granting, Turn, early, Placed, NoDigits, digitWords, Digits, Block}
 use Rattle.orbit.proofs.StoreLaws.{among-at, among-of}
 use Rattle.orbit.proofs.PlaceLaws.{marked-in}
 use Rattle.rewriting.proofs.SlotRowLaws.{good}
@@ -130,9 +131,9 @@ pub record Passed {N : ℕ} {t₀ : List ℕ} (A : At N t₀) (s₀ : List ℕ) 
   pub digits : rest ≡ binary 64 (λ k. leb passed k and site A .orbit (64 * w + k))
   pub granting : Granting A s₀ size (countBelow (64 * w + passed) (site A .orbit) * many) from t s
 
-pub passed-none : {N : ℕ} {t s : List ℕ} {size many : ℕ} {givers : List ℕ} {w number free : ℕ} (B : Block N t s size many givers w number free)
+pub passed-none : {N : ℕ} {t s : List ℕ} {size many w number free : ℕ} (B : Block N t s size many w number free)
     → Passed (B .at) (B .store) size many w number free t s
-passed-none {N} {t} {s} {size} {many} {givers} {w} {number} {free} B =
+passed-none {N} {t} {s} {size} {many} {w} {number} {free} B =
     let z : 64 * w ≡ 64 * w + 0 = omega arith in
     record {
       passed = 0;
@@ -205,14 +206,13 @@ module _ {N : ℕ} {t₀ s₀ : List ℕ} {A : At N t₀} {size many w rest from
     unfolding mark
     mark-some k q = omega (arith, same-mark, marked-in (G .walked) (64 * w + j) in-orbit)
 
-    pub turn-of : {givers : List ℕ} → Givers A s₀ size givers → (k : ℕ) → k ≡ getD s (64 * w + j) 0 → Turn N t s size many givers (k - 1) from
+    pub turn-of : (k : ℕ) → k ≡ getD s (64 * w + j) 0 → Turn N t s size many (k - 1) from
     unfolding mark
-    turn-of D k q = record {
+    turn-of k q = record {
       table = t₀;
       at = A;
       store = s₀;
       grant = G;
-      giving = D;
       dart = 64 * w + j;
       inOrbit = in-orbit;
       place = omega (arith, mark-some k q, same-mark);
@@ -220,13 +220,13 @@ module _ {N : ℕ} {t₀ s₀ : List ℕ} {A : At N t₀} {size many w rest from
     }
 
     -- after the pairs of the lowest dart that is left
-    pub passed-more : {givers : List ℕ} → Givers A s₀ size givers → (k rest′ from′ : ℕ) (t′ s′ : List ℕ) → k ≡ getD s (64 * w + j) 0
+    pub passed-more : (k rest′ from′ : ℕ) (t′ s′ : List ℕ) → k ≡ getD s (64 * w + j) 0
         → rest′ ≡ rest - (1 * 2 ^ j) % 2 ^ 64
-        → ((T : Turn N t s size many givers (k - 1) from)
+        → ((T : Turn N t s size many (k - 1) from)
         → Granting (T .at) (T .store) size (countBelow (T .dart) (site (T .at) .orbit) * many + many) from′ t′ s′)
         → Passed A s₀ size many w rest′ from′ t′ s′
     unfolding turn-of
-    passed-more D k rest′ from′ t′ s′ q e f =
+    passed-more k rest′ from′ t′ s′ q e f =
         let c : countBelow (64 * w + j + 1) O ≡ countBelow (64 * w + j) O + 1 =
         count-step (64 * w + j) O ∙ ap (λ (b : Bool). countBelow (64 * w + j) O + bit b) in-orbit in
         let a : 64 * w + (j + 1) ≡ 64 * w + j + 1 = omega arith in
@@ -235,5 +235,5 @@ module _ {N : ℕ} {t₀ s₀ : List ℕ} {A : At N t₀} {size many w rest from
           passed = j + 1;
           few = omega (arith, in-word);
           digits = let h = shifted j in-word in omega (arith, rest-is);
-          granting = rw (a, c, d) (f (turn-of D k q));
+          granting = rw (a, c, d) (f (turn-of k q));
         }

@@ -1,4 +1,4 @@
--- The laws of `slots::columns` and `slots::donor_columns`: the begins of the columns of the added nodes and of their donors, one more in each turn.
+-- The laws of `slots::columns`: the begins of the columns of the added nodes, one more in each turn.
 -- Assumes nothing.
 use Prim.Native.Nat.{ℕ, _+_, _*_, _≤_, _<_}
 use mathlib.Core.Path.{_≡_, refl, sym, _∙_}
@@ -9,8 +9,8 @@ use native.Mathlib.Nat.{mul-le-mul-right}
 use native.Mathlib.Omega.{arith}
 use lib.ListN.{length, getD, set, length-set}
 use lib.Seq.{getD-set-same, getD-set-other}
-use borrow.Author.Count.{below-more}
-use Rattle.rewriting.specs.Slots.{columnStart, Apart, ColumnsBegin, DonorColumns}
+use Rattle.rewriting.specs.Darts.{columnStart}
+use Rattle.rewriting.specs.Slots.{Apart, ColumnsBegin}
 
 pub columned-none : (N size : ℕ) (nodes cols : List ℕ) → ColumnsBegin N size nodes 0 cols cols
 columned-none N size nodes cols = record { long = refl; at = λ a h. absurd (omega arith); other = λ v f. refl }
@@ -28,18 +28,4 @@ module _ (N size : ℕ) (nodes : List ℕ) (many : ℕ) (A : Apart N size nodes 
         (λ e. rw e (getD-set-same cols (getD nodes a 0) (columnStart N size a) 0 (omega (arith, A .below a h))))
         (λ ne. getD-set-other cols (getD nodes a 0) (getD nodes b 0) (columnStart N size a) 0 (A .once b a (omega arith) h) ∙ k .at b (omega arith));
     other = λ v f. getD-set-other cols (getD nodes a 0) v (columnStart N size a) 0 (λ e. f a (omega arith) (sym e)) ∙ k .other v (λ b g. f b (omega arith));
-  }
-
--- ---- the donors
-
-module _ (nodes donors cols givers : List ℕ) where
-  pub donors-none : DonorColumns nodes 0 donors cols givers
-  donors-none = record { at = λ a h. absurd (omega arith) }
-
-  pub donors-more : (a : ℕ) → a < length givers → DonorColumns nodes a donors cols givers
-      → DonorColumns nodes (a + 1) donors cols (set givers a (getD cols (getD donors (getD nodes a 0) 0) 0))
-  donors-more a h d = record {
-    at = below-more _ a
-        (λ b l. getD-set-other givers a b _ 0 (λ q. absurd (omega arith)) ∙ d .at b l)
-        (getD-set-same givers a _ 0 h);
   }

@@ -10,24 +10,23 @@ use native.Mathlib.Omega.{arith}
 use lib.ListN.{getD}
 use Rattle.base.specs.Below.{countBelow}
 use Rattle.base.proofs.TestLaws.{or-left, or-right, true-or-false, impossible}
-use Rattle.base.proofs.BelowLaws.{count-injective, count-gap}
+use Rattle.base.proofs.BelowLaws.{count-gap}
 use Rattle.base.proofs.BinaryLaws.{binary-same}
-use Rattle.base.proofs.FirstLaws.{nth-at}
-use Rattle.model.specs.Scheme.{left, donor, has, added}
+use Rattle.model.specs.Scheme.{left, has, added}
 use Rattle.model.specs.Shaped.{Shaped}
 use Rattle.model.specs.Site.{Site}
 use Rattle.model.specs.Edit.{orbitSize, addedDarts, dartOf}
-use Rattle.model.proofs.AcceptedLaws.{kind-cases, donor-left}
+use Rattle.model.proofs.AcceptedLaws.{kind-cases}
 use Rattle.model.proofs.RankLaws.{rank-low, dart-left}
 use Rattle.orbit.specs.Store.{mark, place, next, dartAt, Kept}
 use Rattle.orbit.specs.At.{At, site}
-use Rattle.rewriting.specs.Darts.{Darts, Given}
-use Rattle.rewriting.specs.Slots.{columnStart, Apart, ColumnsBegin, Donating, DonorColumns, Grant, Givers, Due, Granting}
+use Rattle.rewriting.specs.Darts.{Darts, Given, columnStart, Grant, Bare, Tagged}
+use Rattle.rewriting.specs.Slots.{Apart, ColumnsBegin, Due, Granting}
 use Rattle.rewriting.specs.Slots.{early, Placed, Digits, Block, BeforeGiving, Granted}
 use Rattle.orbit.proofs.StoreLaws.{among-same}
 use Rattle.orbit.proofs.PlaceLaws.{place-in}
 use Rattle.rewriting.proofs.SlotColumnLaws.{columned-none}
-use Rattle.rewriting.proofs.SlotRowLaws.{good, granting-none, many-few, cells, column-within}
+use Rattle.rewriting.proofs.SlotRowLaws.{good, granting-none, many-few, cells, column-within, listed-at, listed-is}
 use Rattle.rewriting.proofs.SlotBlockLaws.{early-orbit}
 
 -- ---- the words of digits one after the other
@@ -35,34 +34,33 @@ use Rattle.rewriting.proofs.SlotBlockLaws.{early-orbit}
 module _ {N : ℕ} {t₀ s₀ : List ℕ} {A : At N t₀} {size many : ℕ} (G : Grant A s₀ size many) where
   open Site (site A) using (orbit as O)
 
-  pub granting-start : Granting A s₀ size (countBelow 0 O * many) 0 t₀ s₀
+  pub granting-start : {t : List ℕ} → Bare (site A) t₀ t → Tagged (site A) s₀ size → Granting A s₀ size (countBelow 0 O * many) 0 t s₀
   unfolding countBelow
-  granting-start = let z : 0 * many ≡ 0 = omega arith in rw z (granting-none G)
+  granting-start b g = let z : 0 * many ≡ 0 = omega arith in rw z (granting-none G b g)
 
   -- where no node is added, there is nothing to give
-  granting-idle : many ≡ 0 → Granting A s₀ size (countBelow N O * many) 0 t₀ s₀
-  granting-idle e = let z : countBelow N O * many ≡ 0 = rw e (omega arith) in rw z (granting-none G)
+  granting-idle : {t : List ℕ} → Bare (site A) t₀ t → Tagged (site A) s₀ size → many ≡ 0 → Granting A s₀ size (countBelow N O * many) 0 t s₀
+  granting-idle b g e = let z : countBelow N O * many ≡ 0 = rw e (omega arith) in rw z (granting-none G b g)
 
   -- a digit for each orbit dart
   orbit-digits : {bits : List ℕ} → Digits (early N s₀ size) bits → Digits O bits
   orbit-digits d = record { long = d .long; at = λ w h. d .at w h ∙ binary-same 64 _ _ (λ k l. early-orbit G (64 * w + k)) }
 
-  module _ {givers : List ℕ} (D : Givers A s₀ size givers) {bits : List ℕ} (d : Digits (early N s₀ size) bits) {w free : ℕ} {t s : List ℕ}
+  module _ {bits : List ℕ} (d : Digits (early N s₀ size) bits) {w free : ℕ} {t s : List ℕ}
       (g : Granting A s₀ size (countBelow (64 * w) O * many) free t s) (h : w < 16) where
-    pub block-of : (number : ℕ) → number ≡ getD bits w 0 → Block N t s size many givers w number free
+    pub block-of : (number : ℕ) → number ≡ getD bits w 0 → Block N t s size many w number free
     block-of number e = record {
       table = t₀;
       at = A;
       store = s₀;
       grant = G;
-      giving = D;
       digits = e ∙ orbit-digits d .at w h;
       granting = g;
     }
 
     -- after the pairs of one word of digits, those of the next
     pub next-block : (number free′ : ℕ) (t′ s′ : List ℕ) → number ≡ getD bits w 0
-        → ((B : Block N t s size many givers w number free)
+        → ((B : Block N t s size many w number free)
         → Granting (B .at) (B .store) size (countBelow (64 * w + 64) (site (B .at) .orbit) * many) free′ t′ s′)
         → Granting A s₀ size (countBelow (64 * (w + 1)) O * many) free′ t′ s′
     unfolding block-of
@@ -70,7 +68,7 @@ module _ {N : ℕ} {t₀ s₀ : List ℕ} {A : At N t₀} {size many : ℕ} (G :
 
 -- ---- from the phases before
 
-module _ {N : ℕ} {t s : List ℕ} {size : ℕ} {nodes : List ℕ} {many : ℕ} {donors cols : List ℕ} (R : BeforeGiving N t s size nodes many donors cols) where
+module _ {N : ℕ} {t s : List ℕ} {size : ℕ} {nodes : List ℕ} {many : ℕ} {cols : List ℕ} (R : BeforeGiving N t s size nodes many cols) where
   abbrev E : Site
   E = site (R .at)
 
@@ -90,46 +88,15 @@ module _ {N : ℕ} {t s : List ℕ} {size : ℕ} {nodes : List ℕ} {many : ℕ}
     found = G .walked .found;
   }
 
-  -- the a-th listed node is the a-th added one
-  listed-at : (a : ℕ) → a < many
-      → (getD nodes a 0 < S .nodes) × (added S (getD nodes a 0) ≡ true) × (countBelow (getD nodes a 0) (added S) ≡ a)
-  listed-at a h = nth-at (S .nodes) (added S) a (getD nodes a 0) (R .node a h)
-
   pub apart-of : Apart N size nodes many
   apart-of = record {
     few = many-few G;
     slots = R .at .sized .few;
     room = cells G;
-    below = λ a h. omega (arith, listed-at a h .0, shaped .nodesFew);
-    once = λ a b l h e. omega (arith, ap (λ (k : ℕ). countBelow k (added S)) e, listed-at a (omega arith) .2, listed-at b h .2);
+    below = λ a h. omega (arith, listed-at G nodes (R .node) a h .0, shaped .nodesFew);
+    once = λ a b l h e.
+        omega (arith, ap (λ (k : ℕ). countBelow k (added S)) e, listed-at G nodes (R .node) a (omega arith) .2, listed-at G nodes (R .node) b h .2);
   }
-
-  donor-is : (v : ℕ) → getD donors v 0 ≡ donor S v
-  donor-is v = ap (λ (l : List ℕ). getD l v 0) (R .donorsAre)
-
-  pub donating-of : Donating nodes many donors
-  donating-of = record {
-    few = many-few G;
-    node = apart-of .below;
-    donor = λ a h. omega (arith, donor-is (getD nodes a 0), shaped .donorBelow (getD nodes a 0) (listed-at a h .0), shaped .nodesFew);
-  }
-
-  -- the a-th added node is the a-th listed one
-  listed-is : (v : ℕ) → v < S .nodes → added S v ≡ true → getD nodes (countBelow v (added S)) 0 ≡ v
-  listed-is v h a = let n = listed-at (countBelow v (added S)) (column-within G v h a .0) in count-injective (added S) _ v (n .1) a (n .2)
-
-  -- a donor is a left node, so its darts stand in its column
-  pub givers-of : {givers : List ℕ} → DonorColumns nodes many donors cols givers → Givers (R .at) s size givers
-  givers-of {givers} C = record {
-    inside = λ v h a. let i = R .assigned .inside (donor S v) (shaped .donorBelow v h) (donor-left S (R .at .sound .accepted) v h) in
-        omega (arith, begin v h a);
-    dart = λ v r h a l. ap (λ (k : ℕ). dartAt s k r) (begin v h a)
-        ∙ R .assigned .dart (donor S v) r (shaped .donorBelow v h) (donor-left S (R .at .sound .accepted) v h) l;
-  }
-    where
-      begin : (v : ℕ) → v < S .nodes → added S v ≡ true → getD givers (countBelow v (added S)) 0 ≡ getD cols (donor S v) 0
-      begin v h a = C .at (countBelow v (added S)) (column-within G v h a .0)
-          ∙ ap (λ (k : ℕ). getD cols k 0) (ap (λ (k : ℕ). getD donors k 0) (listed-is v h a) ∙ donor-is v)
 
   -- ---- to the phases after
 
@@ -146,7 +113,7 @@ module _ {N : ℕ} {t s : List ℕ} {size : ℕ} {nodes : List ℕ} {many : ℕ}
       early = rw (G .every) (rank-low E (good G .slot) u v e h a);
     }
 
-    given-of : Given E t t′
+    given-of : Given E (R .before) t′
     given-of = record {
       long = g .tableLong;
       fresh = λ u v f e h a. g .fresh u v f (all-due u v e h a);
@@ -167,10 +134,10 @@ module _ {N : ℕ} {t s : List ℕ} {size : ℕ} {nodes : List ℕ} {many : ℕ}
     -- the column of an added node, and that of a left one
     column-added : (v : ℕ) → v < S .nodes → added S v ≡ true → getD cols′ v 0 ≡ columnStart N size (countBelow v (added S))
     column-added v h a =
-        subst (λ (k : ℕ). getD cols′ k 0 ≡ columnStart N size (countBelow v (added S))) (listed-is v h a) (C .at _ (column-within G v h a .0))
+        subst (λ (k : ℕ). getD cols′ k 0 ≡ columnStart N size (countBelow v (added S))) (listed-is G nodes (R .node) v h a) (C .at _ (column-within G v h a .0))
 
     column-left : (v : ℕ) → added S v ≡ false → getD cols′ v 0 ≡ getD cols v 0
-    column-left v n = C .other v (λ a l e. true≢false (sym (listed-at a l .1) ∙ ap (added S) e ∙ n))
+    column-left v n = C .other v (λ a l e. true≢false (sym (listed-at G nodes (R .node) a l .1) ∙ ap (added S) e ∙ n))
 
     is-left : (v : ℕ) → v < S .nodes → added S v ≡ false → has S left v ≡ true
     is-left v h n = ⊎-elim
@@ -196,17 +163,18 @@ module _ {N : ℕ} {t s : List ℕ} {size : ℕ} {nodes : List ℕ} {many : ℕ}
           ∙ ap (λ (u : ℕ). dartOf E u v) (sym (kept-of .places r l));
     }
 
-    granted-all : Granted E t s t′ s′ cols′ size
+    granted-all : Granted E (R .before) s t′ s′ cols′ size
     granted-all = record { given = given-of; darts = darts-of; kept = kept-of; wide = C .long ∙ R .wide }
 
   -- where no node is added, nothing was done
-  pub granted-none : many ≡ 0 → Granted E t s t s cols size
-  granted-none e = granted-all (subst (λ (k : ℕ). ColumnsBegin N size nodes k cols cols) (sym e) (columned-none N size nodes cols)) (granting-idle G e)
+  pub granted-none : many ≡ 0 → Granted E (R .before) s t s cols size
+  granted-none e = granted-all (subst (λ (k : ℕ). ColumnsBegin N size nodes k cols cols) (sym e) (columned-none N size nodes cols))
+      (granting-idle G (R .bare) (R .tagged) e)
 
   -- once x is past the last slot
   pub granted : {x free : ℕ} {t′ s′ cols′ : List ℕ} → ColumnsBegin N size nodes many cols cols′ → N ≤ x
       → Granting (R .at) s size (countBelow x O * many) free t′ s′
-      → Granted E t s t′ s′ cols′ size
+      → Granted E (R .before) s t′ s′ cols′ size
   granted {x} {free} {t′} {s′} {cols′} C h g =
       let e : countBelow x O ≡ countBelow N O = count-gap O N x h
       (λ z l k. impossible _ (λ q. let b = good G .slot z q in omega arith)) in

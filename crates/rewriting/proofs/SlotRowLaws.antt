@@ -5,7 +5,7 @@ use Prim.Native.Nat.{ℕ, _+_, _*_, _-_, _≤_, _<_}
 use mathlib.Core.Path.{_≡_, refl, sym, ap, ap₂, _∙_, subst}
 use mathlib.Core.Logic.{_⊎_, inl, inr, ⊎-elim, by-cases}
 use mathlib.Core.Bool.{Bool, true, cond}
-use mathlib.Core.Option.{Option, Option·getD}
+use mathlib.Core.Option.{Option, some, Option·getD}
 use mathlib.Core.List.{List}
 use native.Mathlib.Nat.{mul-le-mul-right, lt-of-lt-of-le}
 use native.Mathlib.Decide.{ℕ-discrete, decLt}
@@ -13,29 +13,31 @@ use native.Mathlib.Omega.{arith}
 use lib.ListN.{length, getD, set, length-set}
 use lib.Dec.{eqb}
 use lib.Seq.{getD-set-same, getD-set-other}
-use borrow.Author.Tests.{eqb-true, eq-eqb, ne-eqb}
+use borrow.Author.Tests.{ne-eqb}
 use Rattle.base.specs.Test.{bit}
 use Rattle.base.specs.Below.{countBelow}
+use Rattle.base.specs.First.{nthLowest}
+use Rattle.base.proofs.TestLaws.{impossible}
 use Rattle.base.proofs.BelowLaws.{count-le, count-lt, count-injective, count-reaches, count-step, count-gap}
-use Rattle.base.proofs.FirstLaws.{nth-is}
+use Rattle.base.proofs.FirstLaws.{nth-at, nth-is}
 use Rattle.base.proofs.RowLaws.{digits}
-use Rattle.model.specs.Map.{Field, State, Link, Tag, dimension, tableSize, fieldAt, put, view, unused}
+use Rattle.model.specs.Map.{Map, Field, State, Link, Tag, dimension, tableSize, fieldAt, put, view}
 use Rattle.model.specs.Scheme.{donor, added}
-use Rattle.model.specs.Site.{Site, LiveDart}
+use Rattle.model.specs.Site.{Site}
 use Rattle.model.specs.Match.{image}
-use Rattle.model.specs.Edit.{orbitSize, addedDarts, rank, freeSlot, dartOf}
-use Rattle.model.proofs.AcceptedLaws.{donor-left}
-use Rattle.model.proofs.MatchLaws.{GoodOrbit, match-assigns}
-use Rattle.model.proofs.MatchIff.{good-orbit}
+use Rattle.model.specs.Edit.{isFree, orbitSize, addedDarts, rank, freeSlot, dartOf, afterDeletion}
+use Rattle.model.proofs.MatchLaws.{GoodOrbit}
+use Rattle.model.proofs.MatchIff.{good-orbit, match-ready}
+use Rattle.model.proofs.EditLaws as K
+use Rattle.model.proofs.EditLaws.{Ready}
 use Rattle.model.proofs.RankLaws.{rank-low, rank-once, dart-added}
 use Rattle.model.proofs.MapLaws.{state-not-tag, state-not-link, tag-not-link, length-put, put-same, put-other}
 use Rattle.table.specs.Words.{Sized}
-use Rattle.orbit.specs.Store.{mark, place, dartAt}
+use Rattle.orbit.specs.Store.{mark, dartAt}
 use Rattle.orbit.specs.At.{At, site}
-use Rattle.orbit.proofs.StoreLaws.{among-of}
 use Rattle.orbit.proofs.PlaceLaws.{marked-in, mark-once}
-use Rattle.rewriting.specs.Darts.{newField}
-use Rattle.rewriting.specs.Slots.{Room, Lowest, revived, columnStart, Grant, Due, Granting, Turn}
+use Rattle.rewriting.specs.Darts.{newField, columnStart, Grant, Bare, Tagged}
+use Rattle.rewriting.specs.Slots.{Room, Lowest, revived, Due, Granting, Turn}
 
 -- ---- the scan for an unused slot
 
@@ -102,16 +104,26 @@ module _ {N : ℕ} {t₀ s₀ : List ℕ} {A : At N t₀} {size many : ℕ} (G :
   pub good : GoodOrbit E
   good = good-orbit m S (A .dart) (A .other) (A .sound)
 
-  pub granting-none : Granting A s₀ size 0 0 t₀ s₀
+  pub ready : Ready E
+  ready = match-ready m S (A .dart) (A .other) (A .sound) (G .match) (G .room)
+
+  -- the slots that new darts can take, and the map in which they are unused
+  abbrev can : ℕ → Bool
+  can = isFree E (image E)
+
+  abbrev bare : Map
+  bare = afterDeletion E
+
+  pub granting-none : {t : List ℕ} → Bare E t₀ t → Tagged E s₀ size → Granting A s₀ size 0 0 t s₀
   unfolding countBelow
-  granting-none = record {
-    tableLong = refl;
+  granting-none b g = record {
+    tableLong = b .long;
     storeLong = refl;
     taken = refl;
     low = λ u v d. absurd (omega (arith, d .early));
-    was = λ u v d. absurd (omega (arith, d .early));
     fresh = λ u v f d. absurd (omega (arith, d .early));
-    other = λ y f no. refl;
+    other = λ y f no. b .at f y;
+    tag = λ u v e h a l. g .at u v e h a;
     dart = λ u v d. absurd (omega (arith, d .early));
     kept = λ i w. refl;
   }
@@ -119,21 +131,13 @@ module _ {N : ℕ} {t₀ s₀ : List ℕ} {A : At N t₀} {size many : ℕ} (G :
   pub many-few : many ≤ 16
   many-few = omega (arith, G .every, count-le (S .nodes) (added S), A .sound .accepted .shaped .nodesFew)
 
-  -- the dart of a donor is live
-  donor-live : (u v : ℕ) → O u ≡ true → v < S .nodes → LiveDart m (image E u (donor S v))
-  donor-live u v e h =
-      let accepted = A .sound .accepted in
-      let match = match-assigns E accepted good (A .sound .well) (G .match) in
-      let d = match .darts u (good .slot u e) e (donor S v) (accepted .shaped .donorBelow v h) (donor-left S accepted v h) in
-      record { slot = d .0; alive = d .1 }
-
   -- as many columns as there are added nodes lie in N words
   pub cells : many * size ≤ N
   unfolding addedDarts orbitSize
   cells =
-      let r = G .room in
+      let r = K.enough ready in
       let e : countBelow N O * countBelow (S .nodes) (added S) ≡ size * many = ap₂ _*_ (G .walked .counted) (sym (G .every)) in
-      omega (arith, count-le N (unused m))
+      omega (arith, count-le N can)
 
   -- the word of the store that holds the dart of (u, v)
   abbrev cell : ℕ → ℕ → ℕ
@@ -146,6 +150,15 @@ module _ {N : ℕ} {t₀ s₀ : List ℕ} {A : At N t₀} {size many : ℕ} (G :
       let c = mul-le-mul-right size l in
       (l, omega (arith, cells))
 
+  -- where `nodes` lists the added nodes: the a-th listed node is the a-th added one, and the a-th added node the a-th listed one
+  module _ (nodes : List ℕ) (node : (a : ℕ) → a < many → nthLowest (S .nodes) (added S) a ≡ some (getD nodes a 0)) where
+    pub listed-at : (a : ℕ) → a < many
+        → (getD nodes a 0 < S .nodes) × (added S (getD nodes a 0) ≡ true) × (countBelow (getD nodes a 0) (added S) ≡ a)
+    listed-at a h = nth-at (S .nodes) (added S) a (getD nodes a 0) (node a h)
+
+    pub listed-is : (v : ℕ) → v < S .nodes → added S v ≡ true → getD nodes (countBelow v (added S)) 0 ≡ v
+    listed-is v h a = let n = listed-at (countBelow v (added S)) (column-within v h a .0) in count-injective (added S) _ v (n .1) a (n .2)
+
   cell-fits : (u v : ℕ) → O u ≡ true → v < S .nodes → added S v ≡ true → (2 * N ≤ cell u v) × (cell u v < 3 * N)
   cell-fits u v e h a = let p = marked-in (G .walked) u e in (omega arith, omega (arith, column-within v h a))
 
@@ -157,39 +170,34 @@ module _ {N : ℕ} {t₀ s₀ : List ℕ} {A : At N t₀} {size many : ℕ} (G :
       (mark-once (G .walked) u x e f (omega (arith, d .1)), count-injective (added S) v w a b (d .0))
 
   module _ {done free : ℕ} {t s : List ℕ} (g : Granting A s₀ size done free t s) where
-    -- a slot from `free` on is as it was
-    ahead : (y : ℕ) → free ≤ y → view N t .state y ≡ m .state y
+    -- a slot from `free` on is as it was, without the deleted darts
+    ahead : (y : ℕ) → free ≤ y → view N t .state y ≡ bare .state y
     ahead y h = g .other y State (λ u v d e. omega (arith, g .low u v d))
 
     pub granting-sized : Sized N t
     granting-sized = record { few = A .sized .few; long = g .tableLong ∙ A .sized .long }
 
     -- while there is room, a slot from `free` on is unused
-    pub room-ahead : done < countBelow N (unused m) → Room N t free
+    pub room-ahead : done < countBelow N can → Room N t free
     room-ahead h =
-        let r = count-reaches (unused m) N done h in
+        let r = count-reaches can N done h in
         let late : free ≤ r .0 = by-cases (decLt (r .0) free)
-        (λ l. absurd (omega (arith, count-lt (unused m) (r .0) free l (r .2), g .taken, r .3)))
+        (λ l. absurd (omega (arith, count-lt can (r .0) free l (r .2), g .taken, r .3)))
         (λ l. omega arith) in
-        record { slot = r .0; fits = r .1; late = late; is = ahead (r .0) late ∙ eqb-true _ _ (r .2) }
-
-    -- a dart that was live is none of the slots given
-    live-word : (x : ℕ) (f : Field) → LiveDart m x → fieldAt t f x ≡ fieldAt t₀ f x
-    live-word x f l = g .other x f
-        (λ u v d q. let z : m .state x ≡ 0 = ap (m .state) (sym q) ∙ g .was u v d in omega (arith, l .alive))
+        record { slot = r .0; fits = r .1; late = late; is = ahead (r .0) late ∙ K.bare-free ready (r .0) (r .2) }
 
     module _ {y : ℕ} (L : Lowest N t free y) where
-      was-unused : m .state y ≡ 0
-      was-unused = sym (ahead y (L .late)) ∙ L .is
+      was-free : can y ≡ true
+      was-free = K.free-bare ready y (sym (ahead y (L .late)) ∙ L .is)
 
-      -- as many were unused below y as pairs have their slot
-      count-below : countBelow y (unused m) ≡ done
-      count-below = count-gap (unused m) free y (L .late)
-          (λ z l h. ne-eqb _ _ (λ e. L .first z l h (ahead z l ∙ e))) ∙ g .taken
+      -- as many can be taken below y as pairs have their slot
+      count-below : countBelow y can ≡ done
+      count-below = count-gap can free y (L .late)
+          (λ z l h. impossible _ (λ e. L .first z l h (ahead z l ∙ K.bare-free ready z e))) ∙ g .taken
 
       slot-next : freeSlot E done ≡ y
       unfolding freeSlot
-      slot-next = ap (λ (o : Option ℕ). Option·getD o 0) (nth-is N (unused m) done y (L .fits) (eq-eqb _ _ was-unused) count-below)
+      slot-next = ap (λ (o : Option ℕ). Option·getD o 0) (nth-is N can done y (L .fits) was-free count-below)
 
   -- the next pair takes the lowest slot that is left
   module _ {done free : ℕ} {t s : List ℕ} (g : Granting A s₀ size done free t s) {y : ℕ} (L : Lowest N t free y)
@@ -221,20 +229,25 @@ module _ {N : ℕ} {t₀ s₀ : List ℕ} {A : At N t₀} {size many : ℕ} (G :
         let r : rank E x w ≡ done = ap₂ (rank E) (c .0) (c .1) ∙ next in
         omega (arith, d .early)
 
-    cell-in : cell u v < length s
+    -- the tag for this pair
+    pub tag-next : getD s (cell u v) 0 ≡ m .tag (image E u (donor S v))
+    unfolding dartAt
+    tag-next = g .tag u v e h a (omega arith)
+
+    pub cell-in : cell u v < length s
     cell-in = omega (arith, cell-fits u v e h a .1, g .storeLong, G .long)
 
     -- the words of a slot that a pair has
     fresh-more : (w : ℕ) → w ≡ m .tag (image E u (donor S v)) → (x z : ℕ) (f : Field) → Due A (done + 1) x z
-        → fieldAt (revived t y w) f (dartOf E x z) ≡ newField m (m .tag (image E x (donor S z))) (dartOf E x z) f
+        → fieldAt (revived t y w) f (dartOf E x z) ≡ newField bare (m .tag (image E x (donor S z))) (dartOf E x z) f
     fresh-more w tag-is x z f d = ⊎-elim
         (λ (b : Due A done x z). revived-other t y w _ f (other-slot x z b) ∙ g .fresh x z f b)
         (λ (b : (x ≡ u) × (z ≡ v)). let q = same x z (b .0) (b .1) in
         ap (fieldAt (revived t y w) f) q ∙ revived-same t y w N (g .tableLong ∙ A .sized .long) (L .fits) f ∙ was f
-        ∙ sym (ap₂ (λ (a k : ℕ). newField m (m .tag a) k f) (ap₂ (λ (i k : ℕ). image E i (donor S k)) (b .0) (b .1)) q))
+        ∙ sym (ap₂ (λ (a k : ℕ). newField bare (m .tag a) k f) (ap₂ (λ (i k : ℕ). image E i (donor S k)) (b .0) (b .1)) q))
         (old-or-new x z d)
       where
-        was : (f : Field) → newField (view N t) w y f ≡ newField m (m .tag (image E u (donor S v))) y f
+        was : (f : Field) → newField (view N t) w y f ≡ newField bare (m .tag (image E u (donor S v))) y f
         was State = refl
         was (Link i) = ap (cond (eqb i 3) y) (g .other y (Link i) other-slot)
         was Tag = tag-is
@@ -245,17 +258,17 @@ module _ {N : ℕ} {t₀ s₀ : List ℕ} {A : At N t₀} {size many : ℕ} (G :
     granting-more w i tag-is cell-is = record {
       tableLong = length-revived t y w ∙ g .tableLong;
       storeLong = length-set s i y ∙ g .storeLong;
-      taken = count-step y (unused m) ∙ ap₂ (λ (k : ℕ) (b : Bool). k + bit b) (count-below g L) (eq-eqb _ _ (was-unused g L));
+      taken = count-step y can ∙ ap₂ (λ (k : ℕ) (b : Bool). k + bit b) (count-below g L) (was-free g L);
       low = λ x z d. ⊎-elim
           (λ (b : Due A done x z). omega (arith, g .low x z b, L .late))
           (λ (b : (x ≡ u) × (z ≡ v)). omega (arith, same x z (b .0) (b .1)))
           (old-or-new x z d);
-      was = λ x z d. ⊎-elim
-          (λ (b : Due A done x z). g .was x z b)
-          (λ (b : (x ≡ u) × (z ≡ v)). ap (m .state) (same x z (b .0) (b .1)) ∙ was-unused g L)
-          (old-or-new x z d);
       fresh = fresh-more w tag-is;
       other = λ x f no. revived-other t y w x f (λ q. no u v due (here ∙ sym q)) ∙ g .other x f (λ a z d. no a z (later a z d));
+      tag = λ x z k b c l. getD-set-other s i (cell x z) y 0 (λ q.
+          let w = cell-once x z u v k e c a (q ∙ cell-is) in
+          let r : rank E x z ≡ done = ap₂ (rank E) (w .0) (w .1) ∙ next in
+          omega arith) ∙ g .tag x z k b c (omega arith);
       dart = λ x z d. ⊎-elim
           (λ (b : Due A done x z). getD-set-other s i (cell x z) y 0 (λ q. other-cell x z b (q ∙ cell-is)) ∙ g .dart x z b)
           (λ (b : (x ≡ u) × (z ≡ v)). ap (λ (k : ℕ). getD (set s i y) k 0) (ap₂ cell (b .0) (b .1) ∙ sym cell-is)
@@ -267,7 +280,7 @@ module _ {N : ℕ} {t₀ s₀ : List ℕ} {A : At N t₀} {size many : ℕ} (G :
 
 -- ---- the pairs of one orbit dart
 
-module _ {N : ℕ} {t s : List ℕ} {size many : ℕ} {givers : List ℕ} {r free : ℕ} (T : Turn N t s size many givers r free) where
+module _ {N : ℕ} {t s : List ℕ} {size many r free : ℕ} (T : Turn N t s size many r free) where
   open Site (site (T .at)) using (map as m, scheme as S, orbit as O)
   open Turn T using (dart as u)
 
@@ -275,19 +288,14 @@ module _ {N : ℕ} {t s : List ℕ} {size many : ℕ} {givers : List ℕ} {r fre
   pub turn-place : r < size
   turn-place = omega (arith, marked-in (T .grant .walked) u (T .inOrbit), T .place)
 
-  place-is : place N (T .store) r ≡ u
-  place-is =
-      let p = marked-in (T .grant .walked) u (T .inOrbit) in
-      let e : r ≡ mark (T .store) u - 1 = omega (arith, T .place) in
-      ap (place N (T .store)) e
-      ∙ T .grant .walked .found u (good (T .grant) .slot u (T .inOrbit)) (among-of (T .store) size u (p .0) (p .1))
+  pub turn-size : size ≤ N
+  turn-size = omega (arith, T .grant .walked .counted, count-le N O)
 
   -- after the last of its pairs
-  pub turn-done : {a from : ℕ} {t′ s′ : List ℕ} → a ≤ many → many ≤ a
+  pub turn-done : {a from : ℕ} {t′ s′ : List ℕ} → a ≡ many
       → Granting (T .at) (T .store) size (countBelow u O * many + a) from t′ s′
       → Granting (T .at) (T .store) size (countBelow u O * many + many) from t′ s′
-  turn-done {a} {from} {t′} {s′} h l g =
-      let e : a ≡ many = omega arith in
+  turn-done {a} {from} {t′} {s′} e g =
       subst (λ (k : ℕ). Granting (T .at) (T .store) size (countBelow u O * many + k) from t′ s′) e g
 
   module _ (a : ℕ) (l : a < many) where
@@ -304,15 +312,9 @@ module _ {N : ℕ} {t s : List ℕ} {size many : ℕ} {givers : List ℕ} {r fre
         let c = mul-le-mul-right size l in
         omega (arith, cells (T .grant), turn-place)
 
-    -- the column of its donor
-    pub giver-inside : getD givers a 0 + size ≤ 2 * N
-    giver-inside = subst (λ (k : ℕ). getD givers k 0 + size ≤ 2 * N) (node .3) (T .giving .inside (node .0) (node .1) (node .2))
-
-    giver-dart : dartAt (T .store) (getD givers a 0) r ≡ image (site (T .at)) u (donor S (node .0))
-    giver-dart =
-        ap (λ (k : ℕ). dartAt (T .store) (getD givers k 0) r) (sym (node .3))
-        ∙ T .giving .dart (node .0) r (node .1) (node .2) turn-place
-        ∙ ap (λ (x : ℕ). image (site (T .at)) x (donor S (node .0))) place-is
+    -- where its dart will stand
+    cell-is : 2 * N + a * size + r ≡ columnStart N size (countBelow (node .0) (added S)) + (mark (T .store) u - 1)
+    cell-is = ap₂ (λ (k c : ℕ). 2 * N + k * size + c) (sym (node .3)) (omega (arith, T .place))
 
     module _ {from : ℕ} {t′ s′ : List ℕ}
         (g : Granting (T .at) (T .store) size (countBelow u O * many + a) from t′ s′) where
@@ -320,35 +322,14 @@ module _ {N : ℕ} {t s : List ℕ} {size many : ℕ} {givers : List ℕ} {r fre
       turn-room =
           let n = node in
           let b = rank-low (site (T .at)) (good (T .grant) .slot) u (n .0) (T .inOrbit) (n .1) (n .2) in
-          room-ahead (T .grant) g (subst (λ (k : ℕ). k < countBelow N (unused m)) node-rank (lt-of-lt-of-le b (T .grant .room)))
+          room-ahead (T .grant) g (subst (λ (k : ℕ). k < countBelow N (can (T .grant))) node-rank (lt-of-lt-of-le b (K.enough (ready (T .grant)))))
 
-      -- the dart x of the donor, as the code has it, and its tag v, which is as it was
-      module _ (x : ℕ) (read : x ≡ getD s′ (getD givers a 0 + r) 0) where
-        donor-is : x ≡ image (site (T .at)) u (donor S (node .0))
-        unfolding dartAt
-        donor-is = read ∙ g .kept (getD givers a 0 + r) (inl (omega (arith, giver-inside, turn-place))) ∙ giver-dart
-
-        donor-dart : LiveDart m x
-        donor-dart = subst (LiveDart m) (sym donor-is) (donor-live (T .grant) u (node .0) (T .inOrbit) (node .1))
-
-        donor-tag : (v : ℕ) → v ≡ view N t′ .tag x → v ≡ m .tag (image (site (T .at)) u (donor S (node .0)))
-        donor-tag v e = e ∙ live-word (T .grant) g x Tag donor-dart ∙ ap (m .tag) donor-is
-
-      -- the orbit dart and the dart of the donor are slots
-      pub turn-slots : (getD s′ (N + r) 0 < N) × (getD s′ (getD givers a 0 + r) 0 < N)
-      unfolding place
-      turn-slots = (
-        rw (g .kept (N + r) (inl (omega (arith, turn-place, T .grant .walked .fits))), place-is) (good (T .grant) .slot u (T .inOrbit)),
-        donor-dart _ refl .slot,
-      )
-
-      pub turn-more : (y x w : ℕ) (t″ s″ : List ℕ) → Lowest N t′ from y → x ≡ getD s′ (getD givers a 0 + r) 0 → w ≡ view N t′ .tag x
-          → t″ ≡ revived t′ y w → s″ ≡ set s′ (2 * N + a * size + r) y
+      -- i is the word of the store for it, which holds the tag and then the dart
+      pub turn-more : (i y w : ℕ) (t″ s″ : List ℕ) → i ≡ 2 * N + a * size + r → Lowest N t′ from y → w ≡ getD s′ i 0
+          → t″ ≡ revived t′ y w → s″ ≡ set s′ i y
           → Granting (T .at) (T .store) size (countBelow u O * many + (a + 1)) (y + 1) t″ s″
-      turn-more y x w t″ s″ L d e p q =
+      turn-more i y w t″ s″ e low d p q =
           let n = node in
-          let i : 2 * N + a * size + r ≡ columnStart N size (countBelow (n .0) (added S)) + (mark (T .store) u - 1) =
-          ap₂ (λ (k c : ℕ). 2 * N + k * size + c) (sym (n .3)) (omega (arith, T .place)) in
           let j : countBelow u O * many + a + 1 ≡ countBelow u O * many + (a + 1) = omega arith in
-          rw (p, q, ← j) (granting-more (T .grant) g L u (n .0) (T .inOrbit) (n .1) (n .2) node-rank w (2 * N + a * size + r)
-          (donor-tag x d w e) i)
+          rw (p, q, ← j) (granting-more (T .grant) g low u (n .0) (T .inOrbit) (n .1) (n .2) node-rank w i
+          (d ∙ ap (λ (k : ℕ). getD s′ k 0) (e ∙ cell-is) ∙ tag-next (T .grant) g low u (n .0) (T .inOrbit) (n .1) (n .2) node-rank) (e ∙ cell-is))

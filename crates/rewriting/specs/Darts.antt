@@ -1,18 +1,20 @@
 -- The darts of all pairs: in the columns of the store, and those of the added pairs in the table. `slots` leaves them so, and `links`
 -- starts from it. At the site E, m is the map before the edit, S the scheme, O the orbit.
 -- Assumes nothing.
-use Prim.Native.Nat.{ℕ, _+_, _*_, _≤_, _<_}
+use Prim.Native.Nat.{ℕ, _+_, _*_, _-_, _≤_, _<_}
 use mathlib.Core.Path.{_≡_}
 use mathlib.Core.Bool.{true, cond}
 use mathlib.Core.List.{List}
 use lib.ListN.{length, getD}
 use lib.Dec.{eqb}
-use Rattle.model.specs.Map.{Map, Field, State, Link, Tag, fieldAt}
+use Rattle.base.specs.Below.{countBelow}
+use Rattle.model.specs.Map.{Map, Field, State, Link, Tag, fieldOf, fieldAt}
 use Rattle.model.specs.Scheme.{donor, added}
 use Rattle.model.specs.Site.{Site}
-use Rattle.model.specs.Match.{image}
-use Rattle.model.specs.Edit.{dartOf}
-use Rattle.orbit.specs.Store.{place, dartAt}
+use Rattle.model.specs.Match.{image, matches}
+use Rattle.model.specs.Edit.{addedDarts, roomOf, dartOf, afterDeletion}
+use Rattle.orbit.specs.Store.{mark, place, dartAt}
+use Rattle.orbit.specs.At.{At, site, WalkedAt}
 
 -- the words of a slot y of m once it is live with the tag v: its 3-link is itself, and its other links are as they were
 abbrev pub newField : Map → ℕ → ℕ → Field → ℕ
@@ -20,8 +22,35 @@ newField m v y State = 1
 newField m v y (Link i) = cond (eqb i 3) y (m .link i y)
 newField m v y Tag = v
 
+-- where the column of the a-th added node begins
+abbrev pub columnStart : ℕ → ℕ → ℕ → ℕ
+columnStart N size a = 2 * N + a * size
+
+-- from `base` on, the store holds `size` slots
+pub record HoldsSlots (N : ℕ) (store : List ℕ) (base size : ℕ) : Type 0 where
+  pub inside : base + size ≤ length store
+  pub slot : (r : ℕ) → r < size → dartAt store base r < N
+
+-- what is known before the first slot is given: the orbit stands in the store, the scheme matches, and there is room
+pub record Grant {N : ℕ} {t₀ : List ℕ} (A : At N t₀) (s₀ : List ℕ) (size many : ℕ) : Type 0 where
+  pub long : length s₀ ≡ 16 * N
+  pub walked : WalkedAt (site A) s₀ size
+  pub every : many ≡ countBelow (A .scheme .nodes) (added (A .scheme))
+  pub match : matches (site A) ≡ true
+  pub room : addedDarts (site A) ≤ roomOf (site A)
+
 module _ (E : Site) where
   open Site E using (map as m, scheme as S, orbit as O)
+
+  -- the table t′ is t without the deleted darts
+  pub record Bare (t t′ : List ℕ) : Type 0 where
+    pub long : length t′ ≡ length t
+    pub at : (f : Field) (y : ℕ) → fieldAt t′ f y ≡ fieldOf (afterDeletion E) f y
+
+  -- where the darts of the added pairs will stand, the store has the tags for them
+  pub record Tagged (s : List ℕ) (size : ℕ) : Type 0 where
+    pub at : (u v : ℕ) → O u ≡ true → v < S .nodes → added S v ≡ true
+        → dartAt s (columnStart (m .slots) size (countBelow v (added S))) (mark s u - 1) ≡ m .tag (image E u (donor S v))
 
   -- the darts of all pairs stand in columns
   pub record Darts (s cols : List ℕ) (size : ℕ) : Type 0 where
@@ -37,9 +66,9 @@ module _ (E : Site) where
     pub isAdded : added S node ≡ true
     pub same : dartOf E dart node ≡ y
 
-  -- the table t′ is t with the darts of the added pairs live, each with the tag of the dart of its donor
+  -- the table t′ is t without the deleted darts and with those of the added pairs live, each with the tag of the dart of its donor
   pub record Given (t t′ : List ℕ) : Type 0 where
     pub long : length t′ ≡ length t
     pub fresh : (u s : ℕ) (f : Field) → O u ≡ true → s < S .nodes → added S s ≡ true
-        → fieldAt t′ f (dartOf E u s) ≡ newField m (m .tag (image E u (donor S s))) (dartOf E u s) f
-    pub other : (y : ℕ) (f : Field) → (AddedDart y → ⊥) → fieldAt t′ f y ≡ fieldAt t f y
+        → fieldAt t′ f (dartOf E u s) ≡ newField (afterDeletion E) (m .tag (image E u (donor S s))) (dartOf E u s) f
+    pub other : (y : ℕ) (f : Field) → (AddedDart y → ⊥) → fieldAt t′ f y ≡ fieldOf (afterDeletion E) f y

@@ -1,3 +1,4 @@
 pub mod Darts
 pub mod Slots
 pub mod Links
+pub mod Room

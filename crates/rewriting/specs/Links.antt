@@ -6,17 +6,16 @@ use mathlib.Core.Bool.{true, cond}
 use mathlib.Core.List.{List}
 use lib.ListN.{length, getD}
 use lib.Dec.{eqb, ltb}
-use Rattle.base.specs.Below.{countBelow}
 use Rattle.base.specs.Steps.{steps}
-use Rattle.model.specs.Map.{Link, put, view, unused}
+use Rattle.model.specs.Map.{Link, put}
 use Rattle.model.specs.Scheme.{left, right}
 use Rattle.model.specs.Match.{matches}
-use Rattle.model.specs.Edit.{addedDarts}
-use Rattle.table.specs.Words.{Sized, blanked}
+use Rattle.model.specs.Edit.{addedDarts, roomOf}
+use Rattle.table.specs.Words.{Sized}
 use Rattle.orbit.specs.Store.{next, dartAt}
 use Rattle.orbit.specs.At.{At, site, WalkedAt}
 use Rattle.model.specs.Shaped.{Coded}
-use Rattle.rewriting.specs.Darts.{Darts, Given}
+use Rattle.rewriting.specs.Darts.{HoldsSlots, Darts, Given}
 
 -- ---- what is written
 
@@ -27,19 +26,6 @@ placeBy N store code r = cond (ltb code 16) r (next N store r (code - 16))
 -- the i-links of the slots `at 0` .. `at (n - 1)` become `v 0` .. `v (n - 1)`
 unfoldable pub overwritten : ℕ → (ℕ → ℕ) → (ℕ → ℕ) → ℕ → List ℕ → List ℕ
 overwritten i at v n = steps n (λ r t. put t (Link i) (at r) (v r))
-
--- the records of the slots `at 0` .. `at (n - 1)` become zeros
-unfoldable pub erased : (ℕ → ℕ) → ℕ → List ℕ → List ℕ
-erased at n = steps n (λ r. blanked (at r))
-
--- the records of the darts of the node whose column of the store begins at `base`, where its kind is deleted
-unfoldable pub clearedBy : List ℕ → ℕ → ℕ → ℕ → List ℕ → List ℕ
-clearedBy store size base kind t = cond (eqb kind 1) (erased (dartAt store base) size t) t
-
-module _ (store : List ℕ) (size : ℕ) (cols : List ℕ) where
-  -- the records of the darts of those of the first n nodes that are deleted
-  unfoldable pub cleared : List ℕ → ℕ → List ℕ → List ℕ
-  cleared kinds n = steps n (λ v. clearedBy store size (getD cols v 0) (getD kinds v 0))
 
 module _ (N : ℕ) (store : List ℕ) (size : ℕ) (cols : List ℕ) where
   -- the i-links of the darts of the node whose column of the store begins at `base`, by the code of an arc
@@ -61,11 +47,6 @@ pub record Changed (lefts rights codes : List ℕ) : Type 0 where
   pub at : (k : ℕ) → k < 64 → getD codes k 0 ≡ changed (getD lefts k 0) (getD rights k 0)
 
 -- ---- what makes it safe
-
--- from `base` on, the store holds `size` slots
-pub record HoldsSlots (N : ℕ) (store : List ℕ) (base size : ℕ) : Type 0 where
-  pub inside : base + size ≤ length store
-  pub slot : (r : ℕ) → r < size → dartAt store base r < N
 
 -- from each place, the link at position p leads to a place
 pub record Turnable (N : ℕ) (store : List ℕ) (size p : ℕ) : Type 0 where
@@ -91,7 +72,7 @@ pub record Codes (N : ℕ) (store : List ℕ) (size : ℕ) (codes : List ℕ) (c
 -- ---- what the phase is handed
 
 -- the site of the edit in the table before it, with what the earlier phases found and left
-pub record BeforeRewriting (slots : ℕ) (table store : List ℕ) (size : ℕ) (kinds lefts rights : List ℕ) (c : ℕ) (cols : List ℕ) : Type 0 where
+pub record BeforeRewriting (slots : ℕ) (table store : List ℕ) (size : ℕ) (lefts rights : List ℕ) (c : ℕ) (cols : List ℕ) : Type 0 where
   pub before : List ℕ
   pub at : At slots before
   pub sized : Sized slots table
@@ -99,9 +80,8 @@ pub record BeforeRewriting (slots : ℕ) (table store : List ℕ) (size : ℕ) (
   pub walked : WalkedAt (site at) store size
   pub darts : Darts (site at) store cols size
   pub match : matches (site at) ≡ true
-  pub room : addedDarts (site at) ≤ countBelow slots (unused (view slots before))
+  pub room : addedDarts (site at) ≤ roomOf (site at)
   pub given : Given (site at) before table
   pub nodes : c ≡ at .scheme .nodes
-  pub kinded : kinds ≡ at .scheme .kinds
   pub leftCoded : Coded (at .scheme) left lefts
   pub rightCoded : Coded (at .scheme) right rights

@@ -12,14 +12,14 @@ use Rattle.base.specs.Test.{_and_}
 use Rattle.base.specs.Below.{countBelow}
 use Rattle.base.specs.First.{nthLowest}
 use Rattle.base.specs.Binary.{binary}
-use Rattle.model.specs.Map.{Field, State, Link, Tag, fieldAt, put, view, unused, maxSlots}
+use Rattle.model.specs.Map.{Field, State, Link, Tag, fieldOf, fieldAt, put, view, maxSlots}
 use Rattle.model.specs.Scheme.{donor, added}
 use Rattle.model.specs.Site.{Site}
-use Rattle.model.specs.Match.{image, matches}
-use Rattle.model.specs.Edit.{addedDarts, rank, dartOf}
+use Rattle.model.specs.Match.{image}
+use Rattle.model.specs.Edit.{isFree, rank, dartOf, afterDeletion}
 use Rattle.orbit.specs.Store.{mark, place, dartAt, among, Kept, Assigned}
-use Rattle.orbit.specs.At.{At, site, WalkedAt}
-use Rattle.rewriting.specs.Darts.{Darts, newField, Given}
+use Rattle.orbit.specs.At.{At, site}
+use Rattle.rewriting.specs.Darts.{Darts, newField, Given, columnStart, Grant, Bare, Tagged}
 
 -- ---- one slot
 
@@ -43,10 +43,6 @@ revived t y v = put (put (put t State y 1) (Link 3) y y) Tag y v
 
 -- ---- the columns of the added nodes
 
--- where the column of the a-th added node begins
-abbrev pub columnStart : ℕ → ℕ → ℕ → ℕ
-columnStart N size a = 2 * N + a * size
-
 -- different nodes, with room for their columns
 pub record Apart (N size : ℕ) (nodes : List ℕ) (many : ℕ) : Type 0 where
   pub few : many ≤ 16
@@ -61,18 +57,6 @@ pub record ColumnsBegin (N size : ℕ) (nodes : List ℕ) (many : ℕ) (cols col
   pub at : (a : ℕ) → a < many → getD cols′ (getD nodes a 0) 0 ≡ columnStart N size a
   pub other : (v : ℕ) → ((a : ℕ) → a < many → getD nodes a 0 ≡ v → ⊥) → getD cols′ v 0 ≡ getD cols v 0
 
--- ---- the columns of the donors
-
--- the first `many` of `nodes`, and their donors, can have columns
-pub record Donating (nodes : List ℕ) (many : ℕ) (donors : List ℕ) : Type 0 where
-  pub few : many ≤ 16
-  pub node : (a : ℕ) → a < many → getD nodes a 0 < 16
-  pub donor : (a : ℕ) → a < many → getD donors (getD nodes a 0) 0 < 16
-
--- `givers` has the begins of the columns of the donors of the first `many` of `nodes`
-pub record DonorColumns (nodes : List ℕ) (many : ℕ) (donors cols givers : List ℕ) : Type 0 where
-  pub at : (a : ℕ) → a < many → getD givers a 0 ≡ getD cols (getD donors (getD nodes a 0) 0) 0
-
 -- ---- the pairs one after the other, in the order of their ranks
 
 module _ {N : ℕ} {t₀ : List ℕ} (A : At N t₀) where
@@ -81,20 +65,6 @@ module _ {N : ℕ} {t₀ : List ℕ} (A : At N t₀) where
 
   open Site E using (map as m, scheme as S, orbit as O)
 
-  -- what is known before the first slot is given: the orbit stands in the store, the scheme matches, and there is room
-  pub record Grant (s₀ : List ℕ) (size many : ℕ) : Type 0 where
-    pub long : length s₀ ≡ 16 * N
-    pub walked : WalkedAt E s₀ size
-    pub every : many ≡ countBelow (S .nodes) (added S)
-    pub match : matches E ≡ true
-    pub room : addedDarts E ≤ countBelow N (unused m)
-
-  -- for each added node, `givers` has the begin of the column of its donor
-  pub record Givers (s₀ : List ℕ) (size : ℕ) (givers : List ℕ) : Type 0 where
-    pub inside : (v : ℕ) → v < S .nodes → added S v ≡ true → getD givers (countBelow v (added S)) 0 + size ≤ 2 * N
-    pub dart : (v r : ℕ) → v < S .nodes → added S v ≡ true → r < size
-        → dartAt s₀ (getD givers (countBelow v (added S)) 0) r ≡ image E (place N s₀ r) (donor S v)
-
   -- (u, v) is one of the first `done` added pairs
   pub record Due (done u v : ℕ) : Type 0 where
     pub inOrbit : O u ≡ true
@@ -102,25 +72,26 @@ module _ {N : ℕ} {t₀ : List ℕ} (A : At N t₀) where
     pub isAdded : added S v ≡ true
     pub early : rank E u v < done
 
-  -- the first `done` added pairs have their slots, all below `free`: the table is t and the store s, which were t₀ and s₀
+  -- the first `done` added pairs have their slots, all below `free`, and the store has the tags for the others: the table is t and the store s. Before
+  -- the first pair these were the table without the deleted darts and s₀
   pub record Granting (s₀ : List ℕ) (size done free : ℕ) (t s : List ℕ) : Type 0 where
     pub tableLong : length t ≡ length t₀
     pub storeLong : length s ≡ length s₀
-    pub taken : countBelow free (unused m) ≡ done
+    pub taken : countBelow free (isFree E (image E)) ≡ done
     pub low : (u v : ℕ) → Due done u v → dartOf E u v < free
-    pub was : (u v : ℕ) → Due done u v → m .state (dartOf E u v) ≡ 0
-    pub fresh : (u v : ℕ) (f : Field) → Due done u v → fieldAt t f (dartOf E u v) ≡ newField m (m .tag (image E u (donor S v))) (dartOf E u v) f
-    pub other : (y : ℕ) (f : Field) → ((u v : ℕ) → Due done u v → dartOf E u v ≡ y → ⊥) → fieldAt t f y ≡ fieldAt t₀ f y
+    pub fresh : (u v : ℕ) (f : Field) → Due done u v → fieldAt t f (dartOf E u v) ≡ newField (afterDeletion E) (m .tag (image E u (donor S v))) (dartOf E u v) f
+    pub other : (y : ℕ) (f : Field) → ((u v : ℕ) → Due done u v → dartOf E u v ≡ y → ⊥) → fieldAt t f y ≡ fieldOf (afterDeletion E) f y
+    pub tag : (u v : ℕ) → O u ≡ true → v < S .nodes → added S v ≡ true → done ≤ rank E u v
+        → dartAt s (columnStart N size (countBelow v (added S))) (mark s₀ u - 1) ≡ m .tag (image E u (donor S v))
     pub dart : (u v : ℕ) → Due done u v → dartAt s (columnStart N size (countBelow v (added S))) (mark s₀ u - 1) ≡ dartOf E u v
     pub kept : (i : ℕ) → (i < 2 * N) ⊎ (3 * N ≤ i) → getD s i 0 ≡ getD s₀ i 0
 
 -- the pairs of the orbit dart at place r, which is `dart`, come next; how it all stood before the first slot was given is in the fields
-pub record Turn (N : ℕ) (t s : List ℕ) (size many : ℕ) (givers : List ℕ) (r free : ℕ) : Type 0 where
+pub record Turn (N : ℕ) (t s : List ℕ) (size many r free : ℕ) : Type 0 where
   pub table : List ℕ
   pub at : At N table
   pub store : List ℕ
   pub grant : Grant at store size many
-  pub giving : Givers at store size givers
   pub dart : ℕ
   pub inOrbit : site at .orbit dart ≡ true
   pub place : mark store dart ≡ r + 1
@@ -156,23 +127,24 @@ pub record Digits (p : ℕ → Bool) (bits : List ℕ) : Type 0 where
   pub at : (w : ℕ) → w < digitWords → getD bits w 0 ≡ binary 64 (λ k. p (64 * w + k))
 
 -- the pairs of the orbit darts from 64 × w to 64 × w + 63 come next, with a digit for each; the other fields are as in `Turn`
-pub record Block (N : ℕ) (t s : List ℕ) (size many : ℕ) (givers : List ℕ) (w number free : ℕ) : Type 0 where
+pub record Block (N : ℕ) (t s : List ℕ) (size many w number free : ℕ) : Type 0 where
   pub table : List ℕ
   pub at : At N table
   pub store : List ℕ
   pub grant : Grant at store size many
-  pub giving : Givers at store size givers
   pub digits : number ≡ binary 64 (λ k. site at .orbit (64 * w + k))
   pub granting : Granting at store size (countBelow (64 * w) (site at .orbit) * many) free t s
 
 -- ---- all pairs
 
 -- what the giving of slots is handed by the phases before it: `nodes` lists the added nodes of the scheme, ascending
-pub record BeforeGiving (N : ℕ) (t s : List ℕ) (size : ℕ) (nodes : List ℕ) (many : ℕ) (donors cols : List ℕ) : Type 0 where
-  pub at : At N t
+pub record BeforeGiving (N : ℕ) (t s : List ℕ) (size : ℕ) (nodes : List ℕ) (many : ℕ) (cols : List ℕ) : Type 0 where
+  pub before : List ℕ
+  pub at : At N before
   pub grant : Grant at s size many
+  pub bare : Bare (site at) before t
+  pub tagged : Tagged (site at) s size
   pub node : (a : ℕ) → a < many → nthLowest (at .scheme .nodes) (added (at .scheme)) a ≡ some (getD nodes a 0)
-  pub donorsAre : donors ≡ at .scheme .donors
   pub assigned : Assigned (site at) s cols size
   pub wide : length cols ≡ 16
 

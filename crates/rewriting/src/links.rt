@@ -1,8 +1,7 @@
-// The new links of preserved and added pairs, and zeros in deleted records. Every link from before the edit that is needed stands
+// The new links of preserved and added pairs. Every link from before the edit that is needed stands
 // in the store by place, so nothing is read from the table; a link whose arc is on the left side too stands already.
 use conditions::arcs::wide;
 use orbit::store::word;
-use table::words::blank;
 use table::words::put_link;
 ghost use mathlib.Core.Path.{_≡_};
 ghost use Prim.Native.Nat.{_+_, _*_, _-_, _≤_, _<_};
@@ -12,8 +11,9 @@ ghost use Rattle.model.specs.Edit.{edited};
 ghost use Rattle.table.specs.Words.{Sized};
 ghost use Rattle.orbit.specs.Store.{dartAt};
 ghost use Rattle.orbit.specs.At.{site};
-ghost use Rattle.rewriting.specs.Links.{placeBy, overwritten, erased, followed, relinked, cleared, changed, Changed};
-ghost use Rattle.rewriting.specs.Links.{HoldsSlots, Turnable, Legible, Columns, Codes, BeforeRewriting};
+ghost use Rattle.rewriting.specs.Links.{placeBy, overwritten, followed, relinked, changed, Changed};
+ghost use Rattle.rewriting.specs.Links.{Turnable, Legible, Columns, Codes, BeforeRewriting};
+ghost use Rattle.rewriting.specs.Darts.{HoldsSlots};
 
 // The place of which an arc takes the dart at place r: r itself where its code is a node, and by a position, that to which the link leads.
 fn place(slots: usize, store: &[u32], code: usize, r: usize) -> usize
@@ -49,20 +49,6 @@ fn join(
         let x = word(store, from + r);
         let q = place(slots, store, code, r);
         put_link(slots, table, i, x, store[to + q]);
-        r += 1;
-    }
-}
-
-// The records of the darts of one node become zeros.
-fn erase(slots: usize, table: &mut [u32], store: &[u32], size: usize, base: usize)
-    requires { ⌜ Sized slots (now table) ⌝ }
-    requires { ⌜ HoldsSlots slots (now store) base size ⌝ }
-    ensures { λ _. ⌜ now (table .exit) ≡ erased (dartAt (now (store .entry)) base) size (now (table .entry)) ⌝ }
-{
-    let mut r = 0;
-    while r < size {
-        let x = word(store, base + r);
-        blank(slots, table, x);
         r += 1;
     }
 }
@@ -124,30 +110,6 @@ fn relink(
     }
 }
 
-// The records of the darts of deleted nodes become zeros.
-fn clear(
-    slots: usize,
-    table: &mut [u32],
-    store: &[u32],
-    size: usize,
-    kinds: &[u8; 16],
-    c: usize,
-    cols: &[usize; 16],
-)
-    requires { ⌜ Sized slots (now table) ⌝ }
-    requires { ⌜ Columns slots (now store) size c (now cols) ⌝ }
-    ensures { λ _. ⌜ now (table .exit) ≡ cleared (now (store .entry)) size (now (cols .entry))
-        (now (kinds .entry)) c (now (table .entry)) ⌝ }
-{
-    let mut v = 0;
-    while v < c {
-        if kinds[v] == 1 {
-            erase(slots, table, store, size, cols[v]);
-        }
-        v += 1;
-    }
-}
-
 // The code of an arc of the right side, and that of no arc where the left side has the same.
 fn change(before: u8, after: u8) -> u8
     ensures { λ r. ⌜ r ≡ changed before after ⌝ }
@@ -170,25 +132,23 @@ fn changes(lefts: &[u8; 64], rights: &[u8; 64], codes: &mut [u8; 64])
     }
 }
 
-// The table after the edit, from the table with the darts of the added pairs.
+// The table after the edit, from the table without the deleted darts and with those of the added pairs.
 pub fn rewrite(
     slots: usize,
     table: &mut [u32],
     store: &[u32],
     size: usize,
-    kinds: &[u8; 16],
     lefts: &[u8; 64],
     rights: &[u8; 64],
     c: usize,
     cols: &[usize; 16],
 )
-    requires { ⌜ BeforeRewriting slots (now table) (now store) size (now kinds) (now lefts) (now rights) c (now cols) ⌝ }
-    ensures { λ _. ⌜ ((R : BeforeRewriting slots (now (table .entry)) (now (store .entry)) size (now (kinds .entry)) (now (lefts .entry))
+    requires { ⌜ BeforeRewriting slots (now table) (now store) size (now lefts) (now rights) c (now cols) ⌝ }
+    ensures { λ _. ⌜ ((R : BeforeRewriting slots (now (table .entry)) (now (store .entry)) size (now (lefts .entry))
         (now (rights .entry)) c (now (cols .entry)))
         → now (table .exit) ≡ tableOf (edited (site (R .at)))) ⌝ }
 {
     let mut codes = [255u8; 64];
     changes(lefts, rights, &mut codes);
     relink(slots, table, store, size, &codes, c, cols);
-    clear(slots, table, store, size, kinds, c, cols);
 }

@@ -1,5 +1,5 @@
-// The darts of the added pairs: each takes the lowest slot that is left of those unused before the edit, by orbit dart and then by node, and the tag of
-// the dart of its donor.
+// The darts of the added pairs: each takes the lowest slot that is left of those unused in the table without the deleted darts, by orbit dart and then
+// by node, and the tag of the dart of its donor.
 use model::MAX_SLOTS;
 use orbit::store::keep;
 use orbit::store::word;
@@ -7,14 +7,13 @@ use table::words::put_link;
 use table::words::put_state;
 use table::words::put_tag;
 use table::words::state;
-use table::words::tag;
 ghost use mathlib.Core.Path.{_≡_};
 ghost use Prim.Native.Nat.{_+_, _*_, _<_};
 ghost use lib.ListN.{length};
 ghost use Rattle.base.specs.Below.{countBelow};
 ghost use Rattle.table.specs.Words.{Sized};
 ghost use Rattle.orbit.specs.At.{site};
-ghost use Rattle.rewriting.specs.Slots.{Room, Lowest, revived, Apart, ColumnsBegin, Donating, DonorColumns, Turn, Granting};
+ghost use Rattle.rewriting.specs.Slots.{Room, Lowest, revived, Apart, ColumnsBegin, Turn, Granting};
 ghost use Rattle.rewriting.specs.Slots.{early, Placed, NoDigits, Digits, Block, BeforeGiving, Granted};
 
 // The words that hold a binary digit for each slot of the largest table.
@@ -54,32 +53,31 @@ fn revive(slots: usize, table: &mut [u32], y: usize, v: u32)
 }
 
 // The darts of the orbit dart at place r with each added node. The answer is the slot past the last that was taken.
-// The dart x of a donor was live before the edit, so it is none of the slots taken here, and its tag is still the one from before.
+// Until a pair has its dart, the store holds the tag for it in the same word: the slot of the donor may be taken already.
 fn row(
     slots: usize,
     table: &mut [u32],
     store: &mut [u32],
     size: usize,
     many: usize,
-    givers: &[usize; 16],
     r: usize,
     free: usize,
 ) -> usize
-    requires { ⌜ Turn slots (now table) (now store) size many (now givers) r free ⌝ }
-    ensures { λ f. ⌜ ((T : Turn slots (now (table .entry)) (now (store .entry)) size many (now (givers .entry)) r free)
+    requires { ⌜ Turn slots (now table) (now store) size many r free ⌝ }
+    ensures { λ f. ⌜ ((T : Turn slots (now (table .entry)) (now (store .entry)) size many r free)
         → Granting (T .at) (T .store) size (countBelow (T .dart) (site (T .at) .orbit) * many + many) f (now (table .exit)) (now (store .exit))) ⌝ }
 {
     let mut from = free;
-    let mut a = 0;
-    while a < many {
+    let mut base = 2 * slots;
+    let mut rest = many;
+    while rest != 0 {
         let y = lowest(slots, table, from);
-        let base = givers[a];
-        let x = word(store, base + r);
-        let v = tag(slots, table, x);
-        revive(slots, table, y, v);
-        keep(store, 2 * slots + a * size + r, y);
+        let i = base + r;
+        revive(slots, table, y, store[i]);
+        keep(store, i, y);
         from = y + 1;
-        a += 1;
+        base += size;
+        rest -= 1;
     }
     from
 }
@@ -94,27 +92,6 @@ fn columns(slots: usize, size: usize, added: &[u8; 16], many: usize, cols: &mut 
     while a < many {
         let s = added[a] as usize;
         cols[s] = 2 * slots + a * size;
-        a += 1;
-    }
-}
-
-// The begins of the columns of the donors of the added nodes.
-fn donor_columns(
-    added: &[u8; 16],
-    many: usize,
-    donors: &[u8; 16],
-    cols: &[usize; 16],
-    givers: &mut [usize; 16],
-)
-    requires { ⌜ Donating (now added) many (now donors) ⌝ }
-    requires { ⌜ length (now givers) ≡ 16 ⌝ }
-    ensures { λ _. ⌜ DonorColumns (now (added .entry)) many (now (donors .entry)) (now (cols .entry)) (now (givers .exit)) ⌝ }
-{
-    let mut a = 0;
-    while a < many {
-        let s = added[a] as usize;
-        let d = donors[s] as usize;
-        givers[a] = cols[d];
         a += 1;
     }
 }
@@ -141,13 +118,12 @@ fn block(
     store: &mut [u32],
     size: usize,
     many: usize,
-    givers: &[usize; 16],
     w: usize,
     digits: u64,
     free: usize,
 ) -> usize
-    requires { ⌜ Block slots (now table) (now store) size many (now givers) w digits free ⌝ }
-    ensures { λ f. ⌜ ((B : Block slots (now (table .entry)) (now (store .entry)) size many (now (givers .entry)) w digits free)
+    requires { ⌜ Block slots (now table) (now store) size many w digits free ⌝ }
+    ensures { λ f. ⌜ ((B : Block slots (now (table .entry)) (now (store .entry)) size many w digits free)
         → Granting (B .at) (B .store) size (countBelow (64 * w + 64) (site (B .at) .orbit) * many) f (now (table .exit)) (now (store .exit))) ⌝ }
 {
     let mut rest = digits;
@@ -157,7 +133,7 @@ fn block(
         rest = rest - (1 << t);
         let u = 64 * w + t;
         let r = word(store, u) - 1;
-        from = row(slots, table, store, size, many, givers, r, from);
+        from = row(slots, table, store, size, many, r, from);
     }
     from
 }
@@ -170,19 +146,15 @@ pub fn give(
     size: usize,
     added: &[u8; 16],
     many: usize,
-    donors: &[u8; 16],
     cols: &mut [usize; 16],
 )
-    requires { ⌜ BeforeGiving slots (now table) (now store) size (now added) many (now donors) (now cols) ⌝ }
-    ensures { λ _. ⌜ ((R : BeforeGiving slots (now (table .entry)) (now (store .entry)) size (now (added .entry)) many (now (donors .entry))
-        (now (cols .entry)))
-        → Granted (site (R .at)) (now (table .entry)) (now (store .entry)) (now (table .exit)) (now (store .exit)) (now (cols .exit)) size) ⌝ }
+    requires { ⌜ BeforeGiving slots (now table) (now store) size (now added) many (now cols) ⌝ }
+    ensures { λ _. ⌜ ((R : BeforeGiving slots (now (table .entry)) (now (store .entry)) size (now (added .entry)) many (now (cols .entry)))
+        → Granted (site (R .at)) (R .before) (now (store .entry)) (now (table .exit)) (now (store .exit)) (now (cols .exit)) size) ⌝ }
 {
     if many == 0 {
         return;
     }
-    let mut givers = [0usize; 16];
-    donor_columns(added, many, donors, cols, &mut givers);
     columns(slots, size, added, many, cols);
     let mut bits: [u64; DIGITS] = [0; DIGITS];
     mark_bits(slots, store, size, &mut bits);
@@ -190,7 +162,7 @@ pub fn give(
     let mut w = 0;
     while w < DIGITS {
         let digits = bits[w];
-        free = block(slots, table, store, size, many, &givers, w, digits, free);
+        free = block(slots, table, store, size, many, w, digits, free);
         w += 1;
     }
 }

@@ -4,7 +4,7 @@ use Prim.Native.Nat.{_*_, _≤_}
 use native.Mathlib.Omega.{arith}
 use borrow.Author.Needs.{needs}
 use Rattle.model.specs.Map.{maxSlots}
-use Rattle.edit.proofs.ApplyLaws.{pairs-few, no-room, give-ready, link-ready, done}
+use Rattle.edit.proofs.ApplyLaws.{room-few, pairs-few, no-room, room-ready, give-ready, link-ready, done}
 use Rattle.edit.proofs.settle.Statement.{statement}
 use Rattle.edit.proofs.settle.Tie as tie
 
@@ -19,11 +19,17 @@ gone-few : (k : tie.After-of-kind2) → (start k .args .size ≤ maxSlots) × (s
 gone-few k = pairs-few (start k .pre) (k .before .of-kind .ensures .listed)
 
 -- the places passed on the way to the last call
-abbrev room-left : tie.After-give → tie.Else1
-room-left g = g .before .before .before .before .before .before
+abbrev room-left : tie.After-prepare → tie.Else1
+room-left p = p .before .before .before .before .before .before
+
+abbrev prepared : tie.After-give → tie.After-prepare
+prepared g = g .before .before .before .before .before .before .before .before .before .before
 
 abbrev given : tie.After-rewrite → tie.After-give
 given r = r .before .before .before .before .before .before .before .before
+
+abbrev listed : tie.After-give → tie.After-of-kind2
+listed g = room-left (prepared g) .before .before
 
 of-kind-requires : tie.Need-of-kind-requires
 of-kind-requires c κs = search needs
@@ -32,52 +38,73 @@ of-kind-requires-2 : tie.Need-of-kind-requires-2
 of-kind-requires-2 c κs = search needs
 
 mul-if1 : tie.Need-mul-if1
-mul-if1 c = record { fits = omega (arith, new-few c) }
+mul-if1 c = record { fits = omega (arith, gone-few (c .before)) }
+
+add-if1 : tie.Need-add-if1
+add-if1 c = record { fits = omega (arith, gone-few (c .before), room-few (start (c .before) .pre)) }
+
+mul-if1-2 : tie.Need-mul-if1-2
+mul-if1-2 c = record { fits = omega (arith, new-few (c .before)) }
 
 returns : tie.Need-returns
-returns c = λ P. no-room P (c .before .of-kind2 .ensures .listed) (c .if1 .taken)
+returns c = let k = c .before .before in λ P. no-room P (k .of-kind2 .ensures .listed) (k .before .of-kind .ensures .listed) (c .if1 .taken)
+
+prepare-requires : tie.Need-prepare-requires
+prepare-requires c κs =
+    let e = c .before .before .before .before .before in
+    let k = e .before .before in
+    room-ready (start k .pre) (k .of-kind2 .ensures .listed) (k .before .of-kind .ensures .listed) (e .if1 .left)
 
 give-requires : tie.Need-give-requires
 give-requires c κs =
-    let e = c .before .before .before .before .before in
-    let k = e .before in
-    give-ready (start k .pre) (k .of-kind2 .ensures .listed) (e .if1 .left)
+    let p = c .before .before .before .before .before .before .before .before .before in
+    let e = room-left p in
+    let k = e .before .before in
+    let P = start k .pre in
+    let n = k .of-kind2 .ensures .listed in
+    let o = k .before .of-kind .ensures .listed in
+    give-ready P n o (e .if1 .left) (p .prepare .ensures (room-ready P n o (e .if1 .left)))
 
 rewrite-requires : tie.Need-rewrite-requires
 rewrite-requires c κs =
     let g = c .before .before .before .before .before .before .before in
-    let e = room-left g in
-    let k = e .before in
+    let p = prepared g in
+    let e = room-left p in
+    let k = e .before .before in
     let P = start k .pre in
     let n = k .of-kind2 .ensures .listed in
-    link-ready P n (e .if1 .left) (g .give .ensures (give-ready P n (e .if1 .left)))
+    let o = k .before .of-kind .ensures .listed in
+    let r = p .prepare .ensures (room-ready P n o (e .if1 .left)) in
+    link-ready P n o (e .if1 .left) r (g .give .ensures (give-ready P n o (e .if1 .left) r))
 
-cast-t30 : tie.Need-cast-t30
-cast-t30 c = record { fits = omega (arith, new-few (room-left (given (c .before .before)) .before)) }
+cast-t38 : tie.Need-cast-t38
+cast-t38 c = record { fits = omega (arith, new-few (listed (given (c .before .before)))) }
 
 mul-t16 : tie.Need-mul-t16
-mul-t16 c = record { fits = omega (arith, new-few (room-left (given (c .before .before)) .before)) }
+mul-t16 c = record { fits = omega (arith, new-few (listed (given (c .before .before)))) }
 
-cast-t31 : tie.Need-cast-t31
-cast-t31 c = record { fits = omega (arith, new-few (room-left (given (c .before .before)) .before)) }
+cast-t39 : tie.Need-cast-t39
+cast-t39 c = record { fits = omega (arith, new-few (listed (given (c .before .before)))) }
 
-mul-t32 : tie.Need-mul-t32
-mul-t32 c = record { fits = omega (arith, gone-few (room-left (given (c .before .before .before)) .before)) }
+mul-t17 : tie.Need-mul-t17
+mul-t17 c = record { fits = omega (arith, gone-few (listed (given (c .before .before .before)))) }
 
-cast-t33 : tie.Need-cast-t33
-cast-t33 c = record { fits = omega (arith, gone-few (room-left (given (c .before .before .before)) .before)) }
+cast-t40 : tie.Need-cast-t40
+cast-t40 c = record { fits = omega (arith, gone-few (listed (given (c .before .before .before)))) }
 
 returns-2 : tie.Need-returns-2
 returns-2 c =
-    let r = c .before .before .before in
-    let g = given r in
-    let e = room-left g in
-    let k = e .before in
+    let w = c .before .before .before in
+    let g = given w in
+    let p = prepared g in
+    let e = room-left p in
+    let k = e .before .before in
     let n = k .of-kind2 .ensures .listed in
-    λ P. done P n (e .if1 .left) (k .before .of-kind .ensures .listed)
-    (r .rewrite .ensures (link-ready P n (e .if1 .left) (g .give .ensures (give-ready P n (e .if1 .left)))))
+    let o = k .before .of-kind .ensures .listed in
+    λ P. let r = p .prepare .ensures (room-ready P n o (e .if1 .left)) in
+    done P n o (e .if1 .left) (w .rewrite .ensures (link-ready P n o (e .if1 .left) r (g .give .ensures (give-ready P n o (e .if1 .left) r))))
 
 pub settle-spec : {M : Type 1} → statement M
 settle-spec =
-    tie.close (tie.spec of-kind-requires of-kind-requires-2 mul-if1 returns give-requires rewrite-requires cast-t30 mul-t16 cast-t31 mul-t32
-    cast-t33 (λ c. search needs) (λ c. search needs) returns-2)
+    tie.close (tie.spec of-kind-requires of-kind-requires-2 mul-if1 add-if1 mul-if1-2 returns prepare-requires give-requires rewrite-requires
+    cast-t38 mul-t16 cast-t39 mul-t17 cast-t40 (λ c. search needs) (λ c. search needs) returns-2)

@@ -12,12 +12,12 @@ use Rattle.rewriting.proofs.slots.block.Statement.{statement}
 use Rattle.rewriting.proofs.slots.block.Tie as tie
 
 abbrev Inv-loop : tie.InvT-loop
-Inv-loop slots table₀ store₀ size many givers w digits free rest₀ from₀ table store rest from =
-    (B : Block slots table₀ store₀ size many givers w digits free)
+Inv-loop slots table₀ store₀ size many w digits free rest₀ from₀ table store rest from =
+    (B : Block slots table₀ store₀ size many w digits free)
     → Passed (B .at) (B .store) size many w rest from table store
 
 abbrev μ-loop : tie.MeasureT-loop
-μ-loop slots table₀ store₀ size many givers w digits free rest₀ from₀ table store rest from = rest
+μ-loop slots table₀ store₀ size many w digits free rest₀ from₀ table store rest from = rest
 
 abbrev start : tie.At-loop Inv-loop μ-loop → tie.Start Inv-loop μ-loop
 start l = l .before .before .before
@@ -68,7 +68,7 @@ row-requires c κs =
     let a = c .before .before in
     let i = a .before .before in
     let B = start (i .before) .pre in
-    turn-of (B .grant) (i .before .loop .inv B) (i .loop-test .taken) _ refl (B .giving) _ (a .word .ensures)
+    turn-of (B .grant) (i .before .loop .inv B) (i .loop-test .taken) _ refl _ (a .word .ensures)
 
 loop-less : tie.Need-loop-less Inv-loop μ-loop
 loop-less c = less (c .before .before .before .before .before .before .before .before .before) .1
@@ -78,7 +78,7 @@ loop-again c =
     let o = c .before .before .before .before in
     let a = o .before .before .before in
     let i = a .before .before in
-    λ B. passed-more (B .grant) (i .before .loop .inv B) (i .loop-test .taken) _ refl (B .giving) _ _ _ _ _ (a .word .ensures) refl (o .row .ensures)
+    λ B. passed-more (B .grant) (i .before .loop .inv B) (i .loop-test .taken) _ refl _ _ _ _ _ (a .word .ensures) refl (o .row .ensures)
 
 same-length : tie.Need-same-length Inv-loop μ-loop
 same-length c = let B = start (c .before) .pre in c .before .loop .inv B .granting .tableLong ∙ sym (B .granting .tableLong)

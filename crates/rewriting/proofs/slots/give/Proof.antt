@@ -1,55 +1,51 @@
 -- `rewriting::slots::give` meets its contract. The loop's invariant: the pairs of the orbit darts below 64 × w have their slots.
 -- Assumes nothing.
-use Prim.Native.Nat.{_*_, _-_, _≤_}
-use mathlib.Core.Path.{refl}
+use Prim.Native.Nat.{ℕ, _*_, _-_, _≤_}
+use mathlib.Core.Path.{refl, sym, _∙_}
+use mathlib.Core.List.{List}
 use native.Mathlib.Omega.{arith}
 use borrow.Author.Needs.{needs}
 use denote.Ref.{now}
 use Rattle.base.specs.Below.{countBelow}
 use Rattle.orbit.specs.At.{At, site}
-use Rattle.rewriting.specs.Slots.{Grant, Givers, Granting, early, digitWords, Digits}
+use Rattle.rewriting.specs.Darts.{Grant, Bare, Tagged}
+use Rattle.rewriting.specs.Slots.{Granting, early, digitWords, Digits}
 use Rattle.rewriting.proofs.SlotBlockLaws.{blank}
-use Rattle.rewriting.proofs.SlotGiveLaws.{placed-of, apart-of, donating-of, givers-of, granting-start, block-of, next-block, granted, granted-none}
+use Rattle.rewriting.proofs.SlotGiveLaws.{placed-of, apart-of, granting-start, block-of, next-block, granted, granted-none}
 use Rattle.rewriting.proofs.slots.give.Statement.{statement}
 use Rattle.rewriting.proofs.slots.give.Tie as tie
 
 abbrev Inv-loop : tie.InvT-loop
-Inv-loop slots table₀ store₀ size added many donors cols givers bits free₀ w₀ table store free w = (w ≤ digitWords) × Digits (early slots store₀ size) bits
-    × ((A : At slots table₀) → Grant A store₀ size many → Givers A store₀ size givers
+Inv-loop slots table₀ store₀ size added many cols bits free₀ w₀ table store free w = (w ≤ digitWords) × Digits (early slots store₀ size) bits
+    × ((before : List ℕ) (A : At slots before) → Grant A store₀ size many → Bare (site A) before table₀ → Tagged (site A) store₀ size
     → Granting A store₀ size (countBelow (64 * w) (site A .orbit) * many) free table store)
 
 abbrev μ-loop : tie.MeasureT-loop
-μ-loop slots table₀ store₀ size added many donors cols givers bits free₀ w₀ table store free w = digitWords - w
+μ-loop slots table₀ store₀ size added many cols bits free₀ w₀ table store free w = digitWords - w
 
 -- the places passed on the way to the loop
 abbrev columned : tie.At-loop Inv-loop μ-loop → tie.After-columns Inv-loop μ-loop
 columned l = l .before .before .before .before
 
-abbrev donated : tie.At-loop Inv-loop μ-loop → tie.After-donor-columns Inv-loop μ-loop
-donated l = columned l .before .before
-
 abbrev start : tie.At-loop Inv-loop μ-loop → tie.Start Inv-loop μ-loop
-start l = donated l .before .before .before .before .before .before
+start l = columned l .before .before .before .before .before
 
 -- what stands at the loop's head, for the site that the caller has
 abbrev so-far : (l : tie.At-loop Inv-loop μ-loop) → let b = start l in Granting (b .pre .at) (now (b .args .store)) (b .args .size)
     (countBelow (64 * l .loop .w) (site (b .pre .at) .orbit) * b .args .many) (l .loop .free) (l .loop .table) (l .loop .store)
-so-far l = let R = start l .pre in l .loop .inv .2 _ (R .grant) (givers-of R (donated l .donor-columns .ensures))
+so-far l = let R = start l .pre in l .loop .inv .2 (R .before) (R .at) (R .grant) (R .bare) (R .tagged)
 
 returns : tie.Need-returns Inv-loop μ-loop
 returns c = λ R. granted-none R (c .if1 .taken)
 
-donor-columns-requires : tie.Need-donor-columns-requires Inv-loop μ-loop
-donor-columns-requires c κs = (donating-of (c .before .before .before .before .before .pre), refl)
-
 columns-requires : tie.Need-columns-requires Inv-loop μ-loop
-columns-requires c κs = let R = c .before .before .before .before .before .before .before .pre in (apart-of R, R .wide)
+columns-requires c κs = let R = c .before .before .before .before .pre in (apart-of R, R .wide)
 
 mark-bits-requires : tie.Need-mark-bits-requires Inv-loop μ-loop
-mark-bits-requires c κs = (placed-of (c .before .before .before .before .before .before .before .before .before .before .pre), blank)
+mark-bits-requires c κs = (placed-of (c .before .before .before .before .before .before .before .pre), blank)
 
 loop-holds : tie.Need-loop-holds Inv-loop μ-loop
-loop-holds c = (omega arith, c .mark-bits .ensures, λ A G D. granting-start G)
+loop-holds c = (omega arith, c .mark-bits .ensures, λ t A G b g. granting-start G b g)
 
 mul-digits : tie.Need-mul-digits Inv-loop μ-loop
 mul-digits c = search needs
@@ -59,10 +55,10 @@ array-read-digits c = search needs
 
 block-requires : tie.Need-block-requires Inv-loop μ-loop
 block-requires c κs =
-    let i = c .before .before .before in
+    let i = c .before .before in
     let l = i .before in
     let R = start l .pre in
-    block-of (R .grant) (givers-of R (donated l .donor-columns .ensures)) (l .loop .inv .1) (so-far l) (i .loop-test .taken) _ refl
+    block-of (R .grant) (l .loop .inv .1) (so-far l) (i .loop-test .taken) _ refl
 
 add-w : tie.Need-add-w Inv-loop μ-loop
 add-w c = search needs
@@ -73,12 +69,15 @@ loop-less c = search needs
 loop-again : tie.Need-loop-again Inv-loop μ-loop
 loop-again c =
     let b = c .before .before .before .before in
-    let i = b .before .before .before .before in
-    let l = i .before in
-    (omega arith, l .loop .inv .1, λ A G D. next-block G D (l .loop .inv .1) (l .loop .inv .2 A G D) (i .loop-test .taken) _ _ _ _ refl (b .block .ensures))
+    let i = b .before .before .before in
+    let l = i .before in (
+      omega arith,
+      l .loop .inv .1,
+      λ t A G b′ g. next-block G (l .loop .inv .1) (l .loop .inv .2 t A G b′ g) (i .loop-test .taken) _ _ _ _ refl (b .block .ensures),
+    )
 
 same-length : tie.Need-same-length Inv-loop μ-loop
-same-length c = so-far (c .before) .tableLong
+same-length c = so-far (c .before) .tableLong ∙ sym (start (c .before) .pre .bare .long)
 
 same-length-2 : tie.Need-same-length-2 Inv-loop μ-loop
 same-length-2 c = so-far (c .before) .storeLong
@@ -87,9 +86,9 @@ returns-2 : tie.Need-returns-2 Inv-loop μ-loop
 returns-2 c =
     let l = c .before in
     λ R. granted R (columned l .columns .ensures) (omega (arith, R .at .sized .few))
-    (l .loop .inv .2 _ (R .grant) (givers-of R (donated l .donor-columns .ensures)))
+    (l .loop .inv .2 (R .before) (R .at) (R .grant) (R .bare) (R .tagged))
 
 pub give-spec : {M : Type 1} → statement M
 give-spec =
-    tie.close (tie.spec Inv-loop μ-loop returns donor-columns-requires columns-requires mark-bits-requires loop-holds mul-digits array-read-digits
+    tie.close (tie.spec Inv-loop μ-loop returns columns-requires mark-bits-requires loop-holds mul-digits array-read-digits
     block-requires add-w loop-less loop-again same-length same-length-2 returns-2)

@@ -1,14 +1,15 @@
--- `rewriting::links::erase` meets its contract. The loop's invariant: the records of the first r darts are zero.
+-- `rewriting::room::erase` meets its contract. The loop's invariant: the records of the first r darts are zero.
 -- Assumes nothing.
 use Prim.Native.Nat.{_-_}
 use borrow.Author.Needs.{needs}
 use Rattle.table.specs.Words.{blanked}
 use Rattle.orbit.specs.Store.{dartAt}
-use Rattle.rewriting.specs.Links.{erased}
+use Rattle.rewriting.specs.Room.{erased}
 use Rattle.table.proofs.StageLaws.{Stage, stage-none, stage-more, stage-length, stage-done}
-use Rattle.rewriting.proofs.LinkLaws.{slot-at, blanked-at}
-use Rattle.rewriting.proofs.links.erase.Statement.{statement}
-use Rattle.rewriting.proofs.links.erase.Tie as tie
+use Rattle.rewriting.proofs.LinkLaws.{slot-at}
+use Rattle.rewriting.proofs.ClearLaws.{blanked-at}
+use Rattle.rewriting.proofs.room.erase.Statement.{statement}
+use Rattle.rewriting.proofs.room.erase.Tie as tie
 
 abbrev Inv-loop : tie.InvT-loop
 Inv-loop slots table₀ store size base r₀ table r = Stage slots table₀ (λ k. blanked (dartAt store base k)) size r table

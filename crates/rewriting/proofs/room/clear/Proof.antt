@@ -1,15 +1,15 @@
--- `rewriting::links::clear` meets its contract. The loop's invariant: the first v nodes are cleared where they are deleted.
+-- `rewriting::room::clear` meets its contract. The loop's invariant: the first v nodes are cleared where they are deleted.
 -- Assumes nothing.
 use Prim.Native.Nat.{_-_}
 use mathlib.Core.Path.{ap, _∙_}
 use mathlib.Core.Logic.{⊎-elim}
 use lib.ListN.{length, getD}
 use borrow.Author.Needs.{needs}
-use Rattle.rewriting.specs.Links.{clearedBy, cleared}
+use Rattle.rewriting.specs.Room.{clearedBy, cleared}
 use Rattle.table.proofs.StageLaws.{Stage, stage-none, stage-more, stage-length, stage-done}
-use Rattle.rewriting.proofs.LinkLaws.{by-deleted, by-other}
-use Rattle.rewriting.proofs.links.clear.Statement.{statement}
-use Rattle.rewriting.proofs.links.clear.Tie as tie
+use Rattle.rewriting.proofs.ClearLaws.{by-deleted, by-other}
+use Rattle.rewriting.proofs.room.clear.Statement.{statement}
+use Rattle.rewriting.proofs.room.clear.Tie as tie
 
 abbrev Inv-loop : tie.InvT-loop
 Inv-loop slots table₀ store size kinds c cols v₀ table v =
@@ -33,7 +33,7 @@ element-copy-out-erase c = search needs
 erase-requires : tie.Need-erase-requires Inv-loop μ-loop
 erase-requires c κs =
     let t = c .before .before .before .before in
-    (t .before .loop .inv .sized, t .before .before .before .before .pre .1 .at _ (t .loop-test .taken))
+    (t .before .loop .inv .sized, t .before .before .before .before .pre .1 .at _ (t .loop-test .taken) (c .before .before .if1 .taken))
 
 add-v : tie.Need-add-v Inv-loop μ-loop
 add-v c = search needs
