@@ -32,10 +32,11 @@
 extern "C" {
 #endif
 
-/* The version of this interface, 100 times its first number and its second: 2.3.
+/* The version of this interface, 100 times its first number and its second: 3.0.
  * The second grows where something is added; the first where a program that was
- * written for the version before must be looked at again. */
-#define GMAP_VERSION 203
+ * written for the version before must be looked at again, as since 3.0 where it
+ * takes a slot's state for a sign of a new dart (see gmap_edit). */
+#define GMAP_VERSION 300
 
 /* ---- limits and sizes */
 
@@ -82,7 +83,7 @@ enum {
     GMAP_BAD_TABLE = 7,        /* table not well-formed */
     GMAP_NO_DART = 8,          /* a dart not below slots, or not live */
     GMAP_NO_MATCH = 9,         /* the scheme's left side is not there at the dart or darts */
-    GMAP_NO_ROOM = 10,         /* too few unused slots before the edit */
+    GMAP_NO_ROOM = 10,         /* more new darts than unused slots and deleted darts */
     GMAP_BAD_FILE = 11,        /* file not in its form, or not of this n and slots */
     GMAP_SHORT_OUTPUT = 12     /* output shorter than the file, or than the counts */
 };
@@ -109,11 +110,17 @@ uint64_t gmap_check_scheme(const uint8_t *scheme, size_t scheme_len);
  * Answers 0, 1, 2, 3, 4, 5, 6, 7, 8, 9, 10; 2 also for a scheme with two hooks.
  * Done carries gmap_orbit, gmap_added and gmap_deleted.
  * table: the edited map after 0, which is well-formed again; unchanged after any
- * refusal. New darts take the lowest unused slots. Each has the tag that the dart
- * of its donor had before the edit, also where that dart is deleted in it; the
- * donor is node 0 where the scheme names none. Records of deleted darts become six
- * zeros.
+ * refusal. New darts take the lowest slots among those that were unused and those
+ * of the darts that this edit deletes; a deleted dart's record that none of them
+ * takes becomes six zeros. Each has the tag that the dart of its donor had before
+ * the edit, also where that dart is deleted in it and another has its slot; the
+ * donor is node 0 where the scheme names none.
  * store: of any content on entry; all zero afterwards, save after 1.
+ *
+ * So a slot that is live before and after may hold another dart: how many darts
+ * are new and how many are gone, the answer says, and the states do not. Before
+ * version 3.0 new darts took unused slots alone, so an edit that deletes and adds
+ * may give other slots now; map files are read and written as before.
  *
  * After 10 a part can be given more room. A link is a slot's number, whatever
  * the number of slots, so the records go to the beginning of a larger table as

@@ -1,6 +1,6 @@
 /* Scheme check, edit at one dart and at two, load, write and count through the C interface: the samples P4 to P13, every answer of each
- * call, the order of refusals and of the pairs of a refusal 5, what each call leaves in each buffer, whose tag a new dart takes, and the
- * counts of maps whose cells are known. */
+ * call, the order of refusals and of the pairs of a refusal 5, what each call leaves in each buffer, whose tag and which slot a new dart
+ * takes, and the counts of maps whose cells are known. */
 #include "gmap.h"
 #include "check.h"
 #include <string.h>
@@ -45,6 +45,18 @@ static const uint8_t seam_lots[36] = { 50, 1, 0, 4, 2, 0, 0, 2, 0, 0, 3, 255, 0,
 static const uint8_t seam_last[36] = { 50, 1, 0, 4, 2, 0, 0, 3, 255, 0, 0, 3, 255, 0, 3, 2, 0, 0, 3, 2, 2, 0, 0, 2, 3, 3, 3, 1, 1, 2, 2, 0, 1, 2, 2, 3 };
 /* With n = 3, a lone dart is added: */
 static const uint8_t grow3[20] = { 19, 0, 2, 2, 3, 0, 0, 4, 0, 1, 1, 1, 1, 1, 2, 1, 1, 3, 1, 1 };
+
+/* Schemes that delete and add. The darts of an edge go, and each of the two that are added has the other's tag: */
+static const uint8_t exchange[41] = { 18, 0, 4, 1, 1, 3, 1, 3, 0, 5, 0, 0, 1, 1, 0, 0, 1, 1, 1, 2, 0, 0, 2, 1, 1,
+                                      5, 0, 2, 3, 1, 2, 2, 1, 3, 3, 2, 2, 2, 2, 3, 3 };
+/* ... of two pieces, where the new ones have each other's tags: */
+static const uint8_t exchange2[39] = { 50, 3, 0, 1, 2, 4, 1, 0, 1, 2, 255, 255, 255, 1, 0, 1, 2, 255, 255, 255,
+                                       3, 255, 255, 255, 0, 1, 2, 1, 3, 255, 255, 255, 0, 1, 2, 0, 1, 0, 0 };
+/* A piece goes, and its dual is added: its 0-links become 2-links, and with n = 3 the 0-links 3-links, the 1-links 2-links: */
+static const uint8_t dual[22] = { 2, 3, 0, 1, 2, 2, 1, 0, 1, 2, 255, 255, 255, 3, 255, 255, 255, 2, 1, 0, 0, 0 };
+static const uint8_t dual3[27] = { 3, 4, 0, 1, 2, 3, 2, 1, 0, 1, 2, 3, 255, 255, 255, 255, 3, 255, 255, 255, 255, 3, 2, 1, 0, 0, 0 };
+/* An edge goes, with both sides, and one like it comes beside the map; what was next to it on one side is joined to what was on the other: */
+static const uint8_t take_off[28] = { 2, 2, 0, 2, 3, 1, 0, 2, 255, 255, 2, 255, 255, 255, 1, 3, 255, 255, 0, 2, 1, 1, 0, 1, 1, 1, 2, 2 };
 
 /* The file of the sample map E: n, N, then slots, tags and links, each after their count. */
 enum { SLOT = 5, TAG = 11, LINK = 21 };
@@ -441,19 +453,17 @@ static void edits_with_donors(void)
 
     sample();
     expect("the donor goes", edit(2, N, renew, sizeof renew, 0), edited(1, 1, 1));
-    record("the donor goes, dart 0", 0, 2, 0, 0, 0, 7);
-    record("the donor goes, new dart 2", 2, 0, 2, 2, 2, 9);
-    expect("the donor goes, its record", all(table + GMAP_RECORD, 4 * GMAP_RECORD, 0), 1);
-    others("the donor goes, other records and store", 7);
+    record("the donor goes, dart 0", 0, 1, 0, 0, 0, 7);
+    record("the donor goes, the new dart in its slot", 1, 0, 1, 1, 1, 9);
+    others("the donor goes, other records and store", 3);
     sample();
     expect("another node goes", edit(2, N, but(renew, sizeof renew, RENEW_DONOR, 0), sizeof renew, 0), edited(1, 1, 1));
-    record("another node goes, new dart 2", 2, 0, 2, 2, 2, 7);
+    record("another node goes, the new dart in its slot", 1, 0, 1, 1, 1, 7);
     sample();
     expect("the piece goes", edit(2, N, renew_piece, sizeof renew_piece, 1), edited(2, 2, 2));
-    record("the piece goes, new dart 2", 2, 3, 2, 2, 2, 7);
-    record("the piece goes, new dart 3", 3, 2, 3, 3, 3, 9);
-    expect("the piece goes, its records", all(table, 2 * 4 * GMAP_RECORD, 0), 1);
-    others("the piece goes, other records and store", 15);
+    record("the piece goes, new dart 0", 0, 1, 0, 0, 0, 7);
+    record("the piece goes, new dart 1", 1, 0, 1, 1, 1, 9);
+    others("the piece goes, other records and store", 3);
     two_edges(0);
     expect("donors, n = 3", edit(3, N, grow3, sizeof grow3, 6), edited(1, 1, 0));
     record("donors, n = 3, new dart 2", 2, 2, 2, 2, 2, 13);
@@ -524,6 +534,218 @@ static void edits_with_donors_at_two_darts(void)
     refuse("edit2, donors, 8", edit2(2, N, seam_lots, sizeof seam_lots, 0, UNUSED), refusal(8), N);
     refuse("edit2, donors, 9", edit2(2, N, seam_lots, sizeof seam_lots, 0, 0), refusal(9), N);
     refuse("edit2, donors, 10", edit2(2, 7, seam_lots, sizeof seam_lots, 0, 6), refusal(10), 7);
+}
+
+/* Four darts, at these slots: the i-link of the dart at place e leads to that at place e ^ by[i], and the tags are 7, 9, 11, 13. Each of the
+ * slots in the list `lone` has a dart by itself; other records hold anything, and so does the store. */
+static void four(const uint32_t at[4], const uint32_t by[4], uint32_t lone)
+{
+    sample();
+    table[GMAP_STATE] = table[GMAP_RECORD + GMAP_STATE] = 0;
+    for (uint32_t x = 0; x < N; x++) {
+        uint32_t record[GMAP_RECORD] = { 1, x, x, x, x, 100 + x };
+        if (lone >> x & 1) memcpy(table + GMAP_RECORD * x, record, sizeof record);
+    }
+    for (uint32_t e = 0; e < 4; e++) {
+        uint32_t record[GMAP_RECORD] = { 1, at[e ^ by[0]], at[e ^ by[1]], at[e ^ by[2]], at[e ^ by[3]], 7 + 2 * e };
+        memcpy(table + GMAP_RECORD * at[e], record, sizeof record);
+    }
+    memcpy(before, table, sizeof table);
+}
+
+/* An edit of the first slots that is done, and leaves this table: every record is compared, and the store. */
+static void leaves(const char *what, uint64_t answer, uint64_t counts, const uint32_t *wanted, uint32_t slots)
+{
+    expect(what, answer, counts);
+    for (uint32_t w = 0; w < GMAP_RECORD * N; w++)
+        if (table[w] != wanted[w]) expect(what, table[w], wanted[w]);
+    expect("  store", all(store, 4 * GMAP_STORE * slots, 0), 1);
+    expect("  store beyond its length", all(store + GMAP_STORE * slots, sizeof store - 4 * GMAP_STORE * slots, JUNK), 1);
+    memset(store, JUNK, sizeof store);
+}
+
+/* New darts take the lowest slots of those unused and those freed, and the tags and links used are the old ones. */
+static void edits_that_free_slots(void)
+{
+    static const uint32_t apart[4] = { 1, 2, 4, 6 }, full[4] = { 0, 1, 2, 3 };
+    static const uint32_t by[4] = { 1, 3, 2, 0 }, by3[4] = { 1, 2, 0, 3 }, edges[4] = { 1, 0, 0, 0 };
+
+    sample();
+    expect("tags exchanged", edit(2, N, exchange, sizeof exchange, 0), edited(1, 2, 2));
+    record("tags exchanged, the first new dart", 0, 1, 0, 0, 0, 9);
+    record("tags exchanged, the second, whose donor's slot is taken", 1, 0, 1, 1, 1, 7);
+    others("tags exchanged, other records and store", 3);
+    sample();
+    expect("tags exchanged, from dart 1", edit(2, N, exchange, sizeof exchange, 1), edited(1, 2, 2));
+    record("from dart 1, the first new dart", 0, 1, 0, 0, 0, 7);
+    record("from dart 1, the second", 1, 0, 1, 1, 1, 9);
+    others("from dart 1, other records and store", 3);
+    two_edges(0);
+    expect("tags of two pieces exchanged", edit2(2, N, exchange2, sizeof exchange2, 0, 6), edited(2, 4, 4));
+    record("two pieces, the first new dart", 0, 2, 0, 0, 0, 13);
+    record("two pieces, the second, whose donor's slot is taken", 1, 3, 1, 1, 1, 7);
+    record("two pieces, the third", 2, 0, 2, 2, 2, 11);
+    record("two pieces, the fourth, whose donor's slot is taken", 3, 1, 3, 3, 3, 9);
+    for (uint32_t x = 4; x < 8; x += 2) expect("two pieces, slots not taken", all(table + GMAP_RECORD * x, 4 * GMAP_RECORD, 0), 1);
+    others("two pieces, other records and store", 15 | 1 << 4 | 1 << 6);
+
+    four(apart, by, 0);
+    expect("a freed slot before an unused one", edit(2, N, dual, sizeof dual, 6), edited(4, 4, 4));
+    record("its dual, the new dart of 1", 0, 2, 3, 1, 0, 7);
+    record("its dual, the new dart of 2", 1, 3, 2, 0, 1, 9);
+    record("its dual, the new dart of 4", 2, 0, 1, 3, 2, 11);
+    record("its dual, the new dart of 6", 3, 1, 0, 2, 3, 13);
+    for (uint32_t x = 4; x < 8; x += 2) expect("its dual, slots not taken", all(table + GMAP_RECORD * x, 4 * GMAP_RECORD, 0), 1);
+    others("its dual, other records and store", 15 | 1 << 4 | 1 << 6);
+    four(full, by3, 0);
+    expect("n = 3, every record anew", edit(3, 4, dual3, sizeof dual3, 0), edited(4, 4, 4));
+    record("every record anew, dart 0", 0, 3, 0, 2, 1, 7);
+    record("every record anew, dart 1", 1, 2, 1, 3, 0, 9);
+    record("every record anew, dart 2", 2, 1, 2, 0, 3, 11);
+    record("every record anew, dart 3", 3, 0, 3, 1, 2, 13);
+    expect("every record anew, other records", memcmp(table + 4 * GMAP_RECORD, before + 4 * GMAP_RECORD, 4 * 4 * GMAP_RECORD) == 0, 1);
+    expect("every record anew, store", all(store, 4 * GMAP_STORE * 4, 0), 1);
+    four(full, edges, 0);
+    expect("a full table at two darts", edit2(2, 4, exchange2, sizeof exchange2, 1, 3), edited(2, 4, 4));
+    record("a full table, dart 0", 0, 2, 0, 0, 0, 11);
+    record("a full table, dart 1", 1, 3, 1, 1, 1, 7);
+    record("a full table, dart 2", 2, 0, 2, 2, 2, 13);
+    record("a full table, dart 3", 3, 1, 3, 3, 3, 9);
+    expect("a full table, other records", memcmp(table + 4 * GMAP_RECORD, before + 4 * GMAP_RECORD, 4 * 4 * GMAP_RECORD) == 0, 1);
+    expect("a full table, store", all(store, 4 * GMAP_STORE * 4, 0), 1);
+
+    static const uint32_t edge[N][3] = { { 5, 3, 2 }, { 1, 5, 1 }, { 7, 6, 0 }, { 3, 0, 3 }, { 4, 7, 4 }, { 0, 1, 7 }, { 6, 2, 6 }, { 2, 4, 5 } };
+    static const uint32_t after[N] = { 0, 4, 2, 6, 1, 5, 3, 7 }; /* the 1-links */
+    sample();
+    for (uint32_t x = 0; x < N; x++) {
+        uint32_t record[GMAP_RECORD] = { 1, edge[x][0], edge[x][1], edge[x][2], x, 100 + x };
+        memcpy(table + GMAP_RECORD * x, record, sizeof record);
+    }
+    expect("2-links of darts that go", edit(2, N, take_off, sizeof take_off, 5), edited(4, 4, 4));
+    for (uint32_t x = 0; x < N; x++) record("2-links of darts that go, records", x, edge[x][0], after[x], edge[x][2], x, 100 + x);
+    expect("2-links of darts that go, store", all(store, sizeof store, 0), 1);
+}
+
+/* A scheme for E: its two darts are nodes 0 and 1, the last `gone` of which are deleted, and lone darts are added. */
+static size_t replacing(uint8_t *scheme, uint8_t n, uint32_t hooks, uint8_t gone, uint8_t added)
+{
+    uint8_t *b = scheme, *count, kept = 2 - gone;
+    *b++ = (uint8_t)(hooks == 2 ? n + 32 : n), *b++ = 0, *b++ = 2 + added;
+    for (uint8_t v = 0; v < 2 + added; v++) *b++ = v >= 2 ? 3 : v >= kept ? 1 : 2;
+    if (hooks == 2) *b++ = 1;
+    *b++ = 1 + 2 * n;
+    *b++ = 0, *b++ = 0, *b++ = 1;
+    for (uint8_t i = 1; i <= n; i++)
+        for (uint8_t v = 0; v < 2; v++) *b++ = i, *b++ = v, *b++ = v;
+    count = b++, *count = 0;
+    if (gone == 0) *b++ = 0, *b++ = 0, *b++ = 1, ++*count;
+    for (uint8_t i = 0; i <= n; i++)
+        for (uint8_t v = 0; v < 2 + added; v++)
+            if (v >= 2 || (v < kept && (i > 0 || gone > 0))) *b++ = i, *b++ = v, *b++ = v, ++*count;
+    return (size_t)(b - scheme);
+}
+
+/* E in each number of slots, with none, one or both of its darts deleted and each number of darts added: done where these are not more
+ * than the unused slots and the deleted darts together, and else refused with 10. */
+static void room(void)
+{
+    for (uint32_t turn = 0; turn < 7 * 3 * 15 * 4; turn++) {
+        uint32_t slots = 2 + turn % 7, gone = turn / 7 % 3, added = turn / 21 % 15, n = 2 + turn / 315 % 2, hooks = 1 + turn / 630, left = added;
+        uint8_t scheme[256];
+        size_t length = replacing(scheme, (uint8_t)n, hooks, (uint8_t)gone, (uint8_t)added);
+        uint32_t wanted[GMAP_RECORD * N];
+        sample();
+        memcpy(wanted, table, sizeof table);
+        memset(wanted + GMAP_RECORD * (2 - gone), 0, 4 * GMAP_RECORD * gone);
+        if (gone == 1) wanted[GMAP_LINK] = 0;
+        for (uint32_t x = 0; x < slots && left > 0; x++) {
+            uint32_t record[GMAP_RECORD] = { 1, x, x, x, x, 7 };
+            if (wanted[GMAP_RECORD * x]) continue;
+            memcpy(wanted + GMAP_RECORD * x, record, sizeof record);
+            left--;
+        }
+        uint64_t answer = hooks == 2 ? edit2(n, slots, scheme, length, 0, 1) : edit(n, slots, scheme, length, 0);
+        if (left > 0) refuse("no room", answer, refusal(10), slots);
+        else leaves("room", answer, edited(1, added, gone), wanted, slots);
+    }
+}
+
+/* A scheme that deletes one piece or two and adds some: the right word of each added node, and its donor. */
+typedef struct { const char *what; uint8_t n, hooks, added; uint32_t by[4]; struct { uint8_t word[4], donor; } node[3]; } renewal;
+
+static size_t renewing(uint8_t *scheme, const renewal *r)
+{
+    uint8_t *b = scheme, k = r->n + 1;
+    *b++ = (uint8_t)(r->n + 16 + (r->hooks == 2 ? 32 : 0)), *b++ = k;
+    for (uint8_t i = 0; i < k; i++) *b++ = i;
+    *b++ = r->hooks + r->added;
+    for (uint8_t v = 0; v < r->hooks; v++) {
+        *b++ = 1;
+        for (uint8_t p = 0; p < 2 * k; p++) *b++ = p < k ? p : 255;
+    }
+    for (uint8_t a = 0; a < r->added; a++) {
+        *b++ = 3;
+        for (uint8_t p = 0; p < 2 * k; p++) *b++ = p < k ? 255 : r->node[a].word[p - k];
+        *b++ = r->node[a].donor;
+    }
+    if (r->hooks == 2) *b++ = 1;
+    *b++ = 0, *b++ = 0;
+    return (size_t)(b - scheme);
+}
+
+/* The four darts at these slots, beside lone darts, are renewed. The orbit has all four places, or two where there are two hooks, and then
+ * the second hook falls on the dart two places on. */
+static void renewed(const renewal *r, const uint32_t at[4], uint32_t lone)
+{
+    uint8_t scheme[64];
+    size_t length = renewing(scheme, r);
+    uint32_t size = r->hooks == 2 ? 2 : 4, now[4][3], available = 0, x = 0, wanted[GMAP_RECORD * N];
+    four(at, r->by, lone);
+    uint64_t answer = r->hooks == 2 ? edit2(r->n, N, scheme, length, at[0], at[2]) : edit(r->n, N, scheme, length, at[0]);
+    for (uint32_t y = 0; y < N; y++) available += !(lone >> y & 1);
+    if (size * r->added > available) {
+        refuse(r->what, answer, refusal(10), N);
+        return;
+    }
+    memcpy(wanted, before, sizeof before);
+    for (uint32_t e = 0; e < 4; e++) memset(wanted + GMAP_RECORD * at[e], 0, 4 * GMAP_RECORD);
+    for (uint32_t u = 0; u < N; u++)
+        for (uint32_t e = 0; e < size; e++)
+            for (uint32_t a = 0; a < r->added && at[e] == u; a++) {
+                while (lone >> x & 1) x++;
+                now[e][a] = x++;
+            }
+    for (uint32_t e = 0; e < size; e++)
+        for (uint32_t a = 0; a < r->added; a++) {
+            uint32_t *record = wanted + GMAP_RECORD * now[e][a];
+            record[GMAP_STATE] = 1;
+            record[GMAP_LINK + 3] = now[e][a];
+            for (uint32_t p = 0; p <= r->n; p++) record[GMAP_LINK + r->node[a].word[p]] = now[e ^ r->by[p]][a];
+            record[GMAP_TAG] = 7 + 2 * (r->node[a].donor ? e ^ 2 : e);
+        }
+    leaves(r->what, answer, edited(size, size * r->added, 4), wanted, N);
+    expect(r->what, gmap_check_table(r->n, N, table, GMAP_RECORD * N), 0);
+}
+
+/* Renewals of four darts in every order of slots, beside lone darts in every other slot or not, up to full tables; they end at the first
+ * that is wrong. */
+static void renewals(void)
+{
+    static const renewal list[] = {
+        { "a piece to its dual", 2, 1, 1, { 1, 3, 2, 0 }, { { { 2, 1, 0 }, 0 } } },
+        { "a piece to two", 2, 1, 2, { 1, 3, 2, 0 }, { { { 0, 1, 2 }, 0 }, { { 2, 1, 0 }, 0 } } },
+        { "a piece to its dual, n = 3", 3, 1, 1, { 1, 2, 0, 3 }, { { { 3, 2, 1, 0 }, 0 } } },
+        { "two pieces to one", 2, 2, 1, { 1, 0, 0, 0 }, { { { 0, 1, 2 }, 1 } } },
+        { "two pieces to two, tags exchanged", 2, 2, 2, { 1, 0, 0, 0 }, { { { 0, 1, 2 }, 1 }, { { 2, 1, 0 }, 0 } } },
+        { "two pieces to three, n = 3", 3, 2, 3, { 1, 0, 0, 1 }, { { { 0, 1, 2, 3 }, 1 }, { { 3, 2, 1, 0 }, 0 }, { { 0, 1, 2, 3 }, 1 } } },
+    };
+    for (uint32_t order = 0; order < 1 << 12; order++) {
+        uint32_t at[4] = { order & 7, order >> 3 & 7, order >> 6 & 7, order >> 9 }, taken = 0, different = 1;
+        for (uint32_t e = 0; e < 4; e++) different &= ~taken >> at[e], taken |= 1u << at[e];
+        for (uint32_t lone = 0; lone < 1 << N && different; lone++)
+            for (size_t e = 0; e < sizeof list / sizeof list[0] && wrong == 0; e++)
+                if (!(lone & taken)) renewed(&list[e], at, lone);
+    }
 }
 
 static void refusals_at_two_darts(void)
@@ -945,6 +1167,9 @@ int main(void)
     refusals_at_two_darts();
     edits_with_donors();
     edits_with_donors_at_two_darts();
+    edits_that_free_slots();
+    room();
+    renewals();
     writes();
     loads_of_wrong_size();
     loads_out_of_form();

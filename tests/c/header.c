@@ -4,8 +4,8 @@
 #include "check.h"
 #include <string.h>
 
-#if !defined GMAP_VERSION || GMAP_VERSION < 203 || GMAP_VERSION >= 300
-#error "this program is written for version 2.3 of gmap.h"
+#if !defined GMAP_VERSION || GMAP_VERSION < 300 || GMAP_VERSION >= 400
+#error "this program is written for version 3.0 of gmap.h"
 #endif
 
 enum { N = 3, MORE = 4 };

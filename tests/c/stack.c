@@ -137,6 +137,8 @@ int main(void)
     static const uint8_t look[] = { 2, 0, 2, 2, 2, 1, 0, 0, 1, 1, 0, 0, 1 };
     static const uint8_t split_donor[] = { 18, 2, 0, 2, 2, 2, 0, 2, 255, 2, 3, 255, 255, 1, 2, 0, 0, 1, 0, 0, 1 };
     static const uint8_t renew_piece[] = { 18, 3, 0, 1, 2, 2, 1, 0, 1, 2, 255, 255, 255, 3, 255, 255, 255, 0, 1, 2, 0, 0, 0 };
+    static const uint8_t exchange[] = { 50, 3, 0, 1, 2, 4, 1, 0, 1, 2, 255, 255, 255, 1, 0, 1, 2, 255, 255, 255, 3, 255, 255, 255, 0, 1, 2, 1,
+                                        3, 255, 255, 255, 0, 1, 2, 0, 1, 0, 0 };
     static const uint8_t tube[] = { 50, 2, 0, 1, 6, 2, 0, 1, 0, 1, 2, 0, 1, 0, 1, 3, 255, 255, 0, 255, 0, 3, 255, 255, 255, 2, 0, 3, 255, 255, 255, 2, 1,
                                     3, 255, 255, 0, 255, 1, 1, 2, 2, 0, 0, 2, 1, 1, 5, 0, 3, 4, 1, 2, 3, 1, 4, 5, 2, 0, 2, 2, 1, 5 };
     for (n = 2; n <= 3; n++) {
@@ -205,9 +207,13 @@ int main(void)
     use(split_donor, sizeof split_donor);
     measure("check_scheme, donors", check_scheme, 0);
     measure("edit n=2, split an edge, donors", edit, 0);
-    polygon(N / 2);
+    polygon(N);
     use(renew_piece, sizeof renew_piece);
-    measure("edit n=2, renew a piece of 512 darts", edit, 0);
+    measure("edit n=2, renew a piece of 1024 darts", edit, 0);
+    polygons(2, N / 2);
+    other = N / 2;
+    use(exchange, sizeof exchange);
+    measure("edit2 n=2, renew two pieces of 512 darts", edit2, 0);
     polygons(2, N / 6 / 2 * 2);
     other = N / 6 / 2 * 2;
     use(tube, sizeof tube);
