@@ -333,7 +333,7 @@ static void edit2(const char *name, u64 want) { measure(name, E2, want != 0, wan
 /* The same edit, or a count where no operation is given, on tables of 64 to 1,024 slots, live to the given part: how the time grows. */
 static void growth(const char *name, const char *operation, u32 part)
 {
-    static char names[16][64];
+    static char names[20][64];
     static u32 used;
     double base_first = 0, gmap_first = 0;
     dim = 2; dart = 0;
@@ -478,6 +478,25 @@ int main(int argc, char **argv)
     zero(); polygon(85); other = polygon(85);
     text("2;01;P01>01 P01>01 A0_ A_2 A_2 A0_;200 211;034 123 145 202 215;h1;d0011");
                                               edit2("edit2 n=2 tube, donors (orbit 170, four added)", 0);
+    /* edits that delete and add, in full tables */
+    zero(); torus(16, 8); dart = 0;
+    text("2;012;D012 A012;;");                edit("edit n=2 renew piece, full table (orbit 1024)", 0);
+    shuffle();                                edit("edit n=2 renew piece, full table, shuffled", 0);
+    zero(); polygon(256); polygon(256); for (u32 x = 0; x < 512; x++) join(x, 512 + x, 2);
+    dart = 0;
+    text("2;2;P2>2 D2 D2 P2>2 A2 A2;001 023 112;004 035 145;d12");
+                                              edit("edit n=2 renew corner, full table (orbit 2)", 0);
+    shuffle();                                edit("edit n=2 renew corner, full table, shuffled", 0);
+    zero(); torus(16, 8); dart = 0;
+    text("2;02;D02 P__>_1 A02;101;122");      edit("edit n=2 edge off its faces, full (orbit 4)", 0);
+    dim = 3; zero(); mirrored(8, 512);
+    text("3;012;D012 P012>012 A012;301;312"); edit("edit n=3 renew volume, full table (orbit 512)", 0);
+    shuffle();                                edit("edit n=3 renew volume, full table, shuffled", 0);
+    dim = 2; zero(); dart = torus(8, 8); other = torus(8, 8);
+    text("2;012;D012 D012 A012;;;h1;d1");     edit2("edit2 n=2 two pieces to one, full (orbit 512)", 0);
+    shuffle(); dart = moved[0]; other = moved[512]; edit2("edit2 n=2 two pieces to one, full, shuffled", 0);
+    zero(); torus(16, 8); dart = 0;
+    text("2;012;D012 A012 A210;;");           edit("edit refused 10 (orbit 1024, room freed)", 10);
     /* counts */
     dim = 2; zero(); torus(16, 8);            measure("count n=2 full", CO, 1, 0);
     shuffle();                                measure("count n=2 full, slots shuffled", CO, 1, 0);
@@ -506,6 +525,7 @@ int main(int argc, char **argv)
                                               measure("load + check refused 7 (last link)", LC, 1, 7);
     }
     growth("drop piece, full table", "2;012;D012;;", 1);
+    growth("renew piece, full table", "2;012;D012 A012;;", 1);
     growth("edge split, half full table", "2;02;P02>_2 A12;;001", 2);
     growth("full table", NULL, 1);
     if (!instr_mode) summarize();
