@@ -9,9 +9,10 @@ import unittest
 from common import Case, run
 
 from gmap import map as maps
+from gmap.edit import Edit
 from gmap.files import data_of
 from gmap.kernel import Kernel
-from gmap.scheme import bytes_in
+from gmap.scheme import bytes_in, scheme_in
 
 
 def outcome(path):
@@ -86,10 +87,36 @@ class Applied(Case):
                  "the scheme does not fit here: the orbit of dart 0 has 8 darts, that of dart 8 has 6, and they must be of one shape"),
                 (("bend-split", "join-flanges-by-strip", "0", "9"), "bend-split.map: join-flanges-by-strip at darts 0 and 9: refused 10: "
                  "the table has too little room: 8 new darts, 4 for each of the orbit's 2, and 4 unused slots"),
-                (("bend-full", "trim-flange", "2"), "bend-full.map: trim-flange at dart 2: refused 10: "
-                 "the table has too little room: 6 new darts, 3 for each of the orbit's 2, and 0 unused slots")):
+                (("bend-full", "spoke-face", "0"), "bend-full.map: spoke-face at dart 0: refused 10: "
+                 "the table has too little room: 16 new darts, 2 for each of the orbit's 8, and no unused slot"),
+                (("gusset-tight", "square-flange", "2"), "gusset-tight.map: square-flange at dart 2: refused 10: the table has too little room: "
+                 "8 new darts, 4 for each of the orbit's 2, and room for 7: 1 unused slot and the 6 that the edit frees")):
             done = run("tools/apply", f"schemes/maps/{words[0]}.map", *words[1:])
             self.assertEqual((done.returncode, done.stderr), (1, f"schemes/maps/{said}\n"))
+
+    def test_room_in_words(self):
+        """A 10 says how many darts are new and how many slots there are for them, unused ones and those that the edit frees; with as many slots
+        as there are new darts the edit is done."""
+        piece, lone = (maps.map_in(data_of(f"schemes/maps/{name}.map")) for name in ("square", "lone"))
+        twice = self.file("twice.scheme", "n 2\norbit 0 1 2\nnode 0 deleted 0 1 2 ->\nnode 1 added -> 0 1 2\nnode 2 added -> 0 1 2\n")
+        beside = self.file("beside.scheme", "n 2\norbit 0\nnode 0 preserved 0 -> 0\nnode 1 added -> 0\nright 1: 1-1\nright 2: 1-1\n")
+        for m, scheme, slots, said in (
+                (piece, twice, 8, "16 new darts, 2 for each of the orbit's 8, and room for 8: no unused slot and the 8 that the edit frees"),
+                (piece, twice, 9, "16 new darts, 2 for each of the orbit's 8, and room for 9: 1 unused slot and the 8 that the edit frees"),
+                (piece, twice, 15, "16 new darts, 2 for each of the orbit's 8, and room for 15: 7 unused slots and the 8 that the edit frees"),
+                (piece, twice, 16, None),
+                (piece, beside, 8, "2 new darts, 1 for each of the orbit's 2, and no unused slot"),
+                (piece, beside, 9, "2 new darts, 1 for each of the orbit's 2, and 1 unused slot"),
+                (piece, beside, 10, None),
+                (lone, twice, 1, "2 new darts for the orbit's one dart, and room for 1: no unused slot and the 1 that the edit frees"),
+                (lone, twice, 2, None),
+                (lone, beside, 1, "1 new dart for the orbit's one dart, and no unused slot"),
+                (lone, beside, 2, None)):
+            m.slots = slots
+            path = self.file("a.map", m.text())
+            done = run("tools/apply", path, scheme, "0")
+            wanted = f"{path}: {scheme} at dart 0: refused 10: the table has too little room: {said}\n" if said else ""
+            self.assertEqual((done.returncode, done.stderr), (1 if said else 0, wanted))
 
     def test_forms(self):
         """Text and bytes of both arguments and of what is written come to the same."""
@@ -161,22 +188,40 @@ class Applied(Case):
             self.assertEqual([after.live[x][1] for x in range(8, 12)], [after.live[after.live[x][0][1]][1] for x in range(8, 12)])
 
     def test_a_donor_that_goes(self):
-        """What is trimmed has the lots of the darts that are deleted in the same edit, dart by dart, and not those of the sheet that stays."""
-        m = maps.map_in(data_of("schemes/maps/bend.map"))
-        m.live = {x: (links, 100 + x) for x, (links, _) in m.live.items()}
-        after = self.after(m, data_of("schemes/trim-flange.scheme"), 2)
-        self.assertEqual({x: tag for x, (_, tag) in after.live.items()},
-                         {**{x: 100 + x for x in range(8)}, 16: 115, 17: 108, 18: 109, 19: 114, 20: 113, 21: 112})
+        """What is trimmed or squared off has the lots of the darts that are deleted in the same edit, dart by dart, though their slots are taken by
+        others of its darts, and not those of the sheet that stays."""
+        for on, name, lots in (("bend", "trim-flange", [115, 108, 109, 114, 113, 112]),
+                               ("gusset", "square-flange", [108, 109, 110, 110, 111, 112, 113, 113])):
+            m = maps.map_in(data_of(f"schemes/maps/{on}.map"))
+            m.live = {x: (links, 100 + x) for x, (links, _) in m.live.items()}
+            after = self.after(m, data_of(f"schemes/{name}.scheme"), 2)
+            self.assertEqual({x: tag for x, (_, tag) in after.live.items()}, dict(enumerate([*range(100, 108), *lots])))
+
+    def test_trimmed_and_squared(self):
+        """bend-full is gusset once trimmed; squared off again it is as it was but for slots, and trimmed again it is gusset, slots and all."""
+        full, trimmed = self.stored("bend-full", "trim-flange", 2)
+        gusset, squared = self.stored("gusset", "square-flange", 2)
+        self.assertEqual(trimmed.file(), gusset.file())
+        self.assertEqual(self.after(squared, data_of("schemes/trim-flange.scheme"), 2).file(), gusset.file())
+        to = [*range(8), 9, 10, 11, 15, 14, 13, 12, 8]
+        self.assertEqual({to[x]: ([to[y] for y in links], tag) for x, (links, tag) in full.live.items()}, squared.live)
+        tight = maps.map_in(data_of("schemes/maps/gusset-tight.map"))  # the same part in a table with a slot less
+        self.assertEqual((tight.live, tight.slots), (gusset.live, gusset.slots - 1))
 
     def test_without_the_mark(self):
-        """The same scheme without its donors line gives the same map but for tags: every new dart has that of its orbit dart."""
+        """The same scheme without its donors line gives the same map but for tags: every new dart has that of its orbit dart, every other its own."""
         for name, on, darts in (("join-flanges-by-strip", "two-pieces", (2, 15)), ("bend-strip", "bend", (2,)), ("slit-corner", "two-lots", (1,)),
-                                ("divide-face", "two-lots", (6,)), ("trim-flange", "bend", (2,))):
+                                ("divide-face", "two-lots", (6,)), ("trim-flange", "bend", (2,)), ("trim-flange", "bend-full", (2,)),
+                                ("square-flange", "gusset", (2,))):
             before, marked = self.stored(on, name, *darts)
             text = data_of(f"schemes/{name}.scheme").splitlines(True)
-            unmarked = self.after(before, b"".join(line for line in text if not line.startswith((b"donors", b"bytes"))), *darts)
+            scheme = b"".join(line for line in text if not line.startswith((b"donors", b"bytes")))
+            unmarked, edit = self.after(before, scheme, *darts), Edit(before, scheme_in(scheme), darts)
             self.assertEqual({x: links for x, (links, _) in marked.live.items()}, {x: links for x, (links, _) in unmarked.live.items()})
-            self.assertEqual({tag for x, (_, tag) in unmarked.live.items() if x not in before.live}, {before.live[darts[0]][1]})
+            self.assertGreater(len(edit.new), 0)
+            tags = {x: tag for x, (_, tag) in before.live.items() if x not in edit.deleted}
+            tags.update({x: before.live[u][1] for x, (u, _) in edit.new.items()})
+            self.assertEqual({x: tag for x, (_, tag) in unmarked.live.items()}, tags)
             self.assertNotEqual(marked.file(), unmarked.file())
 
     def test_both_sides(self):

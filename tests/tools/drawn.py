@@ -1,7 +1,7 @@
 #!/usr/bin/env python3
 """Pictures: those of the catalogue are what is drawn now, and a check that something was changed says so; what a map's picture shows
-is held to the map's records, and what is marked in it to the map's faults; any map and any scheme in the form is drawn; the same input
-gives the same bytes."""
+is held to the map's records, and what is marked in it to the map's faults and to the darts that an edit deletes and adds; any map and any
+scheme in the form is drawn; the same input gives the same bytes."""
 import contextlib
 import copy
 import glob
@@ -21,7 +21,9 @@ from importlib.util import module_from_spec, spec_from_loader
 from common import ROOT, Case, run
 
 from gmap import draw_map, draw_scheme, explain, graphviz, look, map as maps
+from gmap.edit import Edit
 from gmap.files import Trouble, data_of
+from gmap.layout import cost, laid_out
 from gmap.map_lines import LETTERS, STUB
 from gmap.polygon import DISC
 from gmap.scheme import scheme_in
@@ -41,11 +43,13 @@ def map_at(path):
 
 
 def sample(name):
-    """The maps before and after in the stored outcome of an operation."""
+    """The maps before and after in the stored outcome of an operation, the darts, and the edit."""
     lines = data_of(f"schemes/{name}.outcome").decode().split("\n")
-    before = map_at("schemes/maps/" + next(line[4:] for line in lines if line.startswith("map ")) + ".map")
+    on, darts = (next(line.split()[1:] for line in lines if line.startswith(word)) for word in ("map ", "dart "))
+    before, darts = map_at(f"schemes/maps/{on[0]}.map"), [int(dart) for dart in darts]
     first = next(k for k, line in enumerate(lines) if line.startswith("slot ")) + 1
-    return [before, maps.map_of_text("\n".join([f"n {before.n}", f"slots {before.slots}", *lines[first:]]))]
+    after = maps.map_of_text("\n".join([f"n {before.n}", f"slots {before.slots}", *lines[first:]]))
+    return [before, after], darts, Edit(before, scheme_in(data_of(f"schemes/{name}.scheme")), darts)
 
 
 def torus(width, height):
@@ -239,11 +243,13 @@ class Maps(Case):
     def test_outcomes(self):
         for name in names():
             with self.subTest(name):
-                before, after = sample(name)
+                (before, after), _, edit = sample(name)
                 self.held(after)
                 seen = Seen(data_of(f"schemes/pictures/{name}-sample.svg"))
                 self.assertEqual({slot: len(found) for slot, found in seen.discs.items()},
                                  {slot: (slot in before.live) + (slot in after.live) for slot in {*before.live, *after.live}})
+                self.assertEqual(seen.marks, {slot: ["gone" if slot in edit.deleted else "dart"] * (slot in before.live)
+                                              + ["new" if slot in edit.new else "dart"] * (slot in after.live) for slot in seen.marks})
                 self.apart(seen)
 
     def test_large(self):
@@ -259,8 +265,9 @@ class Maps(Case):
             seen = Seen(draw_map.drawn([m]))
             self.assertEqual(sorted(seen.discs), sorted(m.live))
             other = other if other.n == m.n else m
-            seen = Seen(draw_map.drawn([m, other]))
-            self.assertEqual(sorted(seen.discs), sorted({*m.live, *other.live}))
+            for new in ((), source.sample(sorted(other.live), len(other.live) // 2)):
+                seen = Seen(draw_map.drawn([m, other], new=new))
+                self.assertEqual(sorted(seen.discs), sorted({*m.live, *other.live}))
 
     def test_broken(self):
         path, out = self.file("a.map", "n 2\nslots 8\n0 1 0 0 7\n1 0 5 900 7\n"), self.path("a.svg")
@@ -324,6 +331,41 @@ class Maps(Case):
             self.assertEqual({slot for slot, marks in seen.marks.items() if marks == ["dart", "dart"]}, set(range(16)))
             ways = [(after[0] - before[0], after[1] - before[1]) for before, after in (seen.discs[x] for x in range(16))]
             self.assertLess(max(math.dist(way, ways[0]) for way in ways), 0.3)
+
+    def test_a_slot_that_is_taken_again(self):
+        """A new dart in the slot of a deleted one: with the edit the old one is marked as deleted and the new one as new; without it they are taken
+        for one dart."""
+        stored, by_slots = Seen(data_of("schemes/pictures/trim-flange-sample.svg")), Seen(draw_map.drawn(sample("trim-flange")[0]))
+        stays, taken, free = range(8), range(8, 14), range(14, 16)
+        for seen, marks in ((stored, ["gone", "new"]), (by_slots, ["dart", "dart"])):
+            self.assertEqual(seen.marks, {**{x: ["dart", "dart"] for x in stays}, **{x: marks for x in taken}, **{x: ["gone"] for x in free}})
+        self.assertEqual([sum(text == words for _, _, text in stored.texts) for words in ("deleted", "new")], [1, 1])
+        self.assertEqual([sum(text == words for _, _, text in by_slots.texts) for words in ("deleted", "new")], [1, 0])
+
+    def test_new_faces_have_places_of_their_own(self):
+        """A piece goes and darts alone come: in its slots they are drawn at the same places as in slots that were unused."""
+        before, after, beyond = (map_at("schemes/maps/two-pieces.map") for _ in range(3))
+        stays, taken = range(8), range(8, 16)
+        after.live.update({x: ([x] * 3, 4712) for x in taken})
+        beyond.live = {x + 8 if x in taken else x: ([x + 8] * 3, tag) if x in taken else (links, tag) for x, (links, tag) in after.live.items()}
+        seen, there, by_slots = (Seen(draw_map.drawn([before, m], new=new)) for m, new in ((after, taken), (beyond, ()), (after, ())))
+        self.assertEqual({x: seen.discs[x] for x in stays}, {x: there.discs[x] for x in stays})
+        self.assertEqual({x: seen.discs[x] for x in taken}, {x: there.discs[x] + there.discs[x + 8] for x in taken})
+        self.assertNotEqual(by_slots.discs, seen.discs)
+        kept = set(stays)
+        layouts = laid_out([before, after], kept)
+        self.assertEqual(cost(layouts, kept)[1], 0)
+        self.assertGreater(cost(layouts, kept | set(taken))[1], 0)
+
+    def test_a_face_is_turned_by_what_stays(self):
+        """Two edges of a face change places, one of them by new darts in its old slots: the other is drawn where it was."""
+        before, after = map_at("schemes/maps/square.map"), map_at("schemes/maps/square.map")
+        to = {0: 2, 1: 3, 2: 0, 3: 1}
+        after.live = {to.get(x, x): ([to.get(y, y) for y in links], tag) for x, (links, tag) in before.live.items()}
+        pitch = draw_map.TITLE + 2 * draw_map.MARGIN
+        for new, still in (((0, 1), {2, 3}), ((), {0, 1})):
+            seen = Seen(draw_map.drawn([before, after], new=new))
+            self.assertEqual({x for x, (here, there) in seen.discs.items() if math.dist((here[0] + pitch, here[1]), there) < 0.3}, still)
 
     def test_tags(self):
         m = torus(5, 3)
@@ -492,6 +534,17 @@ class Catalogue(Case):
         ("the page", "schemes/README.md", "](pictures/drop-piece.svg)", "](pictures/split-edge.svg)", "schemes/README.md: it lacks these lines:\n### drop-piece\n"),
         ("words of the page", "schemes/README.md", "at dart 2: The bend line", "at dart 3: The bend line", "schemes/README.md: it lacks these lines:\nOn [bend](maps/bend.map) at dart 2"),
         ("darts of the page", "schemes/README.md", "at darts 11 and 16: ", "at dart 11: ", "schemes/README.md: it lacks these lines:\nOn [pan](maps/pan.map) at darts 11 and 16"),
+        ("what the sample deletes", "schemes/trim-flange.scheme", "node 4 deleted   0 ->", "node 4 preserved 0 -> 0",
+         "trim-flange-sample.svg: it is not what is drawn now"),
+        ("a scheme out of its form", "schemes/drop-piece.scheme", "deleted 0 1 2", "deleted 0 1",
+         "schemes/drop-piece.outcome:1: its scheme is not in the form"),
+        ("one dart less", "schemes/sew-edges.outcome", "dart 11 16", "dart 11",
+         "schemes/sew-edges.outcome:1: it has two hooks, nodes 0 and 1, and one dart was given"),
+        ("a dart that is not there", "schemes/split-edge.outcome", "dart 2", "dart 23", "schemes/split-edge.outcome:1: slot 23 is unused"),
+        ("a scheme for other maps", "schemes/look-at-edge.scheme", "n 2\norbit", "n 3\norbit",
+         "schemes/look-at-edge.outcome:1: the scheme is for n = 3, the map has n = 2"),
+        ("a sample map that is broken", "schemes/maps/two-pieces.map", "2   3  1  2", "2   3  1 16",
+         "schemes/drop-piece.outcome:1: the map is not well-formed"),
         ("an outcome", "schemes/drop-piece.outcome", "\nslot ", "\nslots ", "schemes/drop-piece.outcome:1: expected a line 'slot ..'"),
         ("a record", "schemes/drop-piece.outcome", "   8  9", "   x  9", "schemes/drop-piece.outcome:8: found 'x 9 15 8 4712', expected 5 numbers"),
         ("a link of a map", "docs/pictures/broken.map", "2   3  1 99", "2   3  1 15", "docs/pictures/broken.svg: it is not what is drawn now"),
@@ -601,8 +654,8 @@ class Use(Case):
                 for name, exact in (("sin", math.sin), ("cos", math.cos), ("atan2", math.atan2), ("hypot", math.hypot)):
                     stack.enter_context(unittest.mock.patch.object(math, name, lambda *x, exact=exact: exact(*x) * (1 + k * 4e-16)))
                 for operation in names():
-                    darts = [int(dart) for dart in re.search("^dart (.*)", data_of(f"schemes/{operation}.outcome").decode(), re.M).group(1).split()]
-                    self.assertEqual(draw_map.drawn(sample(operation), darts).encode(), data_of(f"schemes/pictures/{operation}-sample.svg"), operation)
+                    both, darts, edit = sample(operation)
+                    self.assertEqual(draw_map.drawn(both, darts, edit.new).encode(), data_of(f"schemes/pictures/{operation}-sample.svg"), operation)
                 self.assertEqual(draw_map.drawn([map_at("docs/pictures/broken.map")]).encode(), data_of("docs/pictures/broken.svg"))
 
     def test_apply_draws(self):
@@ -612,6 +665,11 @@ class Use(Case):
         done = run("tools/apply", "schemes/maps/pan.map", "sew-edges", "11", "16", "--draw", self.path("a.svg"))
         self.assertEqual((done.returncode, done.stderr), (0, ""))
         self.assertEqual(data_of(self.path("a.svg")), data_of("schemes/pictures/sew-edges-sample.svg"))
+        done = run("tools/apply", "schemes/maps/bend-full.map", "trim-flange", "2", "-o", self.path("a.map"), "--draw", self.path("a.svg"))
+        self.assertEqual((done.returncode, done.stderr), (0, ""))
+        self.assertEqual(data_of(self.path("a.svg")), data_of("schemes/pictures/trim-flange-sample.svg"))
+        run("tools/map", "draw", "schemes/maps/bend-full.map", self.path("a.map"), "-o", self.path("a.svg"))
+        self.assertEqual(data_of(self.path("a.svg")).decode(), draw_map.drawn(sample("trim-flange")[0]))
         done = run("tools/apply", "schemes/maps/bend.map", "split-edge", "23", "--draw", self.path("b.svg"))
         self.assertEqual(done.returncode, 1)
         self.assertFalse(os.path.exists(self.path("b.svg")))

@@ -1,6 +1,7 @@
 #!/usr/bin/env python3
 """Why the kernel refuses: the words of tools/scheme explain and tools/map check at their places, and, over thousands of schemes, maps
-and edits, that the reasons they look for are the kernel's: each refusal has its reason, and nothing that is accepted has one."""
+and edits, that the reasons they look for are the kernel's: each refusal has its reason, and nothing that is accepted has one; and that
+the darts of an edit stand where the tools say."""
 import collections
 import copy
 import glob
@@ -12,6 +13,7 @@ import unittest
 from common import Case, run, wrong_kernel
 
 from gmap import explain, map as maps, scheme as schemes
+from gmap.edit import Edit
 from gmap.files import Fault, data_of
 from gmap.kernel import Kernel
 
@@ -361,6 +363,38 @@ def sample_maps():
     return found
 
 
+def crowded(source, m):
+    """The same map with its darts anywhere in a table that has few slots more, each with a tag of its own."""
+    found = maps.Map(m.n, len(m.live) + source.choice((0, 0, 1, 2, 4, 8)))
+    to = dict(zip(sorted(m.live), source.sample(range(found.slots), len(m.live))))
+    found.live = {to[x]: ([to[y] for y in links], 4711 + to[x]) for x, (links, _) in m.live.items()}
+    return found
+
+
+def grown(source, s):
+    """The same scheme with some added nodes more, each a dart by itself, and with donors or without: it is accepted, and fits where it did."""
+    s = copy.deepcopy(s)
+    for v in range(len(s.nodes), source.randint(len(s.nodes), min(len(s.nodes) + 5, schemes.NODES))):
+        s.nodes.append((explain.ADDED, [schemes.REMOVES] * len(s.orbit), [schemes.REMOVES] * len(s.orbit)))
+        s.arcs["right"] += [(d, v, v) for d in range(s.n + 1)]
+    s.donors = {v: source.choice(s.there("left")) for v in s.added()} if source.random() < 0.7 else None
+    return s
+
+
+# A scheme for two pieces of one shape, of which the second goes.
+EXCHANGE = "n 2\norbit 0 1 2\nnode 0 preserved 0 1 2 -> 0 1 2\nnode 1 deleted 0 1 2 ->\nhook 1\n"
+
+
+def room_kinds(edit, room, darts):
+    """The kinds of edits that a test of room must have met, each with whether this one is of it; `room` is what is left, or lacks."""
+    unused, freed, taken = edit.unused, edit.deleted, set(edit.new)
+    return [("refused, though slots come free", room < 0 and freed), ("one slot too few, though some come free", room == -1 and freed),
+            ("just enough with those that come free", room == 0 and freed and taken), ("too few without them", room >= 0 and len(taken) > len(unused)),
+            ("a slot that comes free is taken", room >= 0 and freed & taken), ("likewise at two darts", room >= 0 and freed & taken and len(darts) == 2),
+            ("it is taken, and an unused one is left", room >= 0 and freed & taken and unused - taken),
+            ("it is left, and an unused one is taken", room >= 0 and freed - taken and unused & taken)]
+
+
 class Edits(Case):
     def first_reason(self, m, data, darts):
         """The number of the first refusal that the tools find a reason for before the match, or 0."""
@@ -404,6 +438,49 @@ class Edits(Case):
             self.assertGreater(two[number], 2, two)
         print(f"edits by answer: {dict(sorted(seen.items()))}, at two darts: {dict(sorted(two.items()))}", file=sys.stderr)
 
+    def stands(self, m, s, edit, answer, after):
+        """The darts of an edit that is done stand where the tools say: what is deleted is gone, but for new darts in its slots; a new dart has the
+        tag of its donor's dart, every other its own; right arcs lead from dart to dart; and what no copy has is as it was."""
+        self.assertEqual((answer.orbit, answer.added, answer.deleted), (len(edit.copies), len(edit.new), len(edit.deleted)))
+        kept = set(m.live) - edit.deleted
+        self.assertEqual(set(after.live), kept | set(edit.new))
+        self.assertEqual({x: after.live[x][1] for x in kept}, {x: m.live[x][1] for x in kept})
+        donors = s.donors or dict.fromkeys(s.added(), 0)
+        self.assertEqual({x: after.live[x][1] for x in edit.new}, {x: m.live[edit.copies[u][donors[v]]][1] for x, (u, v) in edit.new.items()})
+        slots = {pair: x for x, pair in edit.new.items()}
+        for u, copy_of_u in edit.copies.items():
+            of = {**copy_of_u, **{v: slots[u, v] for v in s.added()}}
+            for i, a, b in s.arcs["right"]:
+                self.assertEqual((after.live[of[a]][0][i], after.live[of[b]][0][i]), (of[b], of[a]))
+        for x in kept.difference(*(copy_of_u.values() for copy_of_u in edit.copies.values())):
+            self.assertEqual(after.live[x], m.live[x])
+
+    def test_slots_are_the_kernels(self):
+        """Stored operations that add some darts more, in tables with little room: an edit that fits is refused with 10 just where the tools find
+        too little room, also where it frees some, and one that is done leaves its darts where the tools say."""
+        kernel, source, seen = Kernel.loaded(), random.Random(4716), collections.Counter()
+        stored, on = catalogue(), sample_maps()
+        deleting = [s for s in stored if explain.DELETED in [node[0] for node in s.nodes]] + [schemes.scheme_in(EXCHANGE.encode())] * 3  # it fits seldom
+        for _ in range(12000):
+            s = grown(source, source.choice(deleting if source.random() < 0.8 else stored))
+            m = crowded(source, source.choice([m for m in on if m.n == s.n]))
+            darts = [source.choice(sorted(m.live)) for _ in s.hooks()]
+            _, table = kernel.load(m.n, m.slots, m.file())
+            answer = kernel.edit(m.n, m.slots, table, bytes(s.bytes()), *darts)
+            if answer.number == 9:
+                continue
+            edit = Edit(m, s, darts)
+            room, reason = len(edit.unused) + len(edit.deleted) - len(edit.pairs), explain.edit_reason(10, m, s, darts)
+            self.assertEqual((answer.number, bool(reason)), (10, True) if room < 0 else (0, False), (s.bytes(), darts, m.text()))
+            self.assertEqual("that the edit frees" in reason, room < 0 and bool(edit.deleted))
+            if answer.number == 0:
+                self.stands(m, s, edit, answer, maps.map_of_file(kernel.write(m.n, m.slots, table)))
+            for what, so in room_kinds(edit, room, darts):
+                seen[what] += bool(so)
+        for what, count in seen.items():
+            self.assertGreater(count, 20, what)
+        print(f"edits by room: {dict(seen)}", file=sys.stderr)
+
     def test_no_reason_is_said(self):
         """An edit that is refused with what is not so: the tools say that they find no reason, and make none up."""
         m, kernel = maps.map_in(data_of("schemes/maps/pan.map")), Kernel.loaded()
@@ -411,6 +488,9 @@ class Edits(Case):
             answer = kernel.answer(1 << 63 | number)
             lines = explain.edit_refusal(kernel, "m", "sew-edges", ("f", data_of("schemes/sew-edges.scheme")), m, [11, 16], answer)
             self.assertEqual(lines, [f"m: sew-edges at darts 11 and 16: refused {number}: {kernel.words(number)}; {explain.NO_REASON}"])
+        for darts in ([11], [63, 16], [11, 64]):  # a 10 where the scheme cannot even be tried
+            lines = explain.edit_refusal(kernel, "m", "sew-edges", ("f", data_of("schemes/sew-edges.scheme")), m, darts, kernel.answer(1 << 63 | 10))
+            self.assertIn(f"refused 10: {kernel.words(10)}; {explain.NO_REASON}", lines[0])
 
 
 class Maps(Case):

@@ -203,9 +203,10 @@ def draw_faults(picture, panels, top):
 
 # ---- pictures
 
-def panels_of(maps, pointed):
+def panels_of(maps, pointed, new):
     """The panels of one map or of two, side by side; their width and height."""
-    layouts = laid_out(maps)
+    kept = set.intersection(*(set(m.live) for m in maps)) - set(new)
+    layouts = laid_out(maps, kept)
     polygons = [polygon for layout in layouts for polygon in layout.polygons]
     left, top, right, below = bounds(polygons) if polygons else (0.0, 0.0, 120.0, 40.0)
     pitch = max(right - left, TITLE) + 2 * MARGIN
@@ -214,15 +215,16 @@ def panels_of(maps, pointed):
         start = k * pitch + MARGIN
         panels.append(Panel(when, layout, (start, HEAD + 18.0), (start - left, HEAD + MARGIN - top)))
     if len(maps) == 2:
-        for panel, other, mark in ((panels[0], panels[1], "gone"), (panels[1], panels[0], "new")):
-            panel.marked, panel.mark = set(panel.m.live) - set(other.m.live), mark
+        for panel, mark in zip(panels, ("gone", "new")):
+            panel.marked, panel.mark = set(panel.m.live) - kept, mark
     panels[0].pointed = pointed
     return panels, pitch, HEAD + MARGIN + below - top
 
 
-def drawn(maps, pointed=()):
-    """The SVG of a map, or of a map before and after an edit at the darts `pointed`, of which there are one or two."""
-    panels, pitch, end = panels_of(maps, pointed)
+def drawn(maps, pointed=(), new=()):
+    """The SVG of a map, or of a map before and after an edit at the darts `pointed`, of which there are one or two. `new` has the slots of the
+    edit's new darts; where it has none, what is live before and after in a slot is taken for one dart."""
+    panels, pitch, end = panels_of(maps, pointed, new)
     fills = look.tag_fills(record[1] for m in maps for record in m.live.values())
     picture = Picture(look.rules() + look.map_rules(fills))
     for panel in panels:

@@ -2,6 +2,7 @@
 
 The kernel alone judges. What stands here looks for the reason of a refusal that the kernel gave, and says so where it finds none;
 tests/tools/explained.py holds both to each other."""
+from gmap.edit import Edit
 from gmap.files import Fault
 from gmap.map import file_in, head, map_in
 from gmap.scheme import KINDS, NAMES, REMOVES, bytes_in, scheme_in
@@ -216,6 +217,23 @@ def orbits_reason(m, dimensions, dart, other):
     return ""
 
 
+def counted(count, thing):
+    """'no unused slot', '1 unused slot' or '8 unused slots'."""
+    return f"{count or 'no'} {thing}{'s' if count > 1 else ''}"
+
+
+def room_reason(edit):
+    """What an edit has too little room for, and what room it has, where that is so, else nothing."""
+    orbit, new, unused, freed = len(edit.copies), len(edit.pairs), len(edit.unused), len(edit.deleted)
+    if new <= unused + freed:
+        return ""
+    each = f", {new // orbit} for each of the orbit's {orbit}" if orbit > 1 else " for the orbit's one dart"
+    room = counted(unused, "unused slot")
+    if freed:
+        room = f"room for {unused + freed}: {room} and the {freed} that the edit frees"
+    return f"{counted(new, 'new dart')}{each}, and {room}"
+
+
 def edit_reason(number, m, s, darts):
     """What the refusal of an edit at these darts of a well-formed map comes from, where map, scheme and darts say it, else nothing.
     The scheme is in the form."""
@@ -229,10 +247,14 @@ def edit_reason(number, m, s, darts):
         return "; ".join(dict.fromkeys(lacking))
     if number == 9 and len(darts) == 2:
         return orbits_reason(m, s.orbit, *darts)
-    if number == 10:
-        orbit, added, unused = len(m.orbit(darts[0], s.orbit)), sum(node[0] == ADDED for node in s.nodes), m.slots - len(m.live)
-        return f"{orbit * added} new darts, {added} for each of the orbit's {orbit}, and {unused} unused slots" if orbit * added > unused else ""
+    if number == 10 and not untried(m, s, darts):
+        return room_reason(Edit(m, s, darts))
     return ""
+
+
+def untried(m, s, darts):
+    """Why a scheme cannot be tried at these darts of a well-formed map, where it cannot, else nothing."""
+    return next(filter(None, (edit_reason(number, m, s, darts) for number in (2, 6, 8))), "")
 
 
 def edit_refusal(kernel, path, name, stored, m, darts, answer):

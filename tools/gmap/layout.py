@@ -19,9 +19,9 @@ def side_length(maps):
 class Layout:
     """The polygons of a map in place."""
 
-    def __init__(self, m, length, like=None):
-        """With `like`, the layout of the map before or after an edit, faces that stay are drawn where they are there."""
-        self.m = m
+    def __init__(self, m, length, like=None, kept=frozenset()):
+        """With `like`, the layout of the map before or after an edit that keeps the darts `kept`, faces that stay are drawn where they are there."""
+        self.m, self.kept = m, kept
         self.polygons = [Polygon(m, face, length) for face in faces(m)]
         self.of = {x: polygon for polygon in self.polygons for x in polygon.face.darts}
         self.placed = []
@@ -37,14 +37,13 @@ class Layout:
         return not any(polygon.lies_on(other, 0.9 * GAP) for other in others)
 
     def follow(self, like):
-        """Places each face where the face that shares most darts with it is, if no other has taken that place."""
+        """Places each face where the face is that shares most of the darts that are kept with it, if no other has taken that place."""
         taken = set()
         shared = []
         for k, polygon in enumerate(self.polygons):
             counts = {}
-            for x in polygon.face.darts:
-                if x in like.of:
-                    counts[like.of[x]] = counts.get(like.of[x], 0) + 1
+            for x in self.kept.intersection(polygon.face.darts):
+                counts[like.of[x]] = counts.get(like.of[x], 0) + 1
             shared += [(-count, k, like.polygons.index(there)) for there, count in counts.items()]
         for _, k, j in sorted(shared):
             polygon, there = self.polygons[k], like.polygons[j]
@@ -67,8 +66,8 @@ class Layout:
         return False
 
     def turn_like(self, polygon, there):
-        """Puts a polygon where another is, turned so that the first outer dart of both looks the same way."""
-        both = [x for x in sorted(polygon.darts) if x in there.darts and not polygon.darts[x].inner]
+        """Puts a polygon where another is, turned so that the first outer dart of both that is kept looks the same way."""
+        both = [x for x in sorted(polygon.darts) if x in self.kept and x in there.darts and not polygon.darts[x].inner]
         polygon.place(there.centre, there.angle)
         if not both:
             return
@@ -158,21 +157,22 @@ def joined(layout, x, y):
     return not any(polygon.holds(plus(here.at, way, k / 12)) for k in range(1, 12) for polygon in others)
 
 
-def cost(layouts):
-    """How bad two layouts are beside each other: links without a line, then how far the darts move that are in both."""
+def cost(layouts, kept):
+    """How bad two layouts are beside each other: links without a line, then how far the darts move that are kept."""
     far = sum(not joined(layout, x, y) for layout in layouts for x in layout.m.live for y in [beyond(layout.m, x, 2)] if y is not None)
-    moved = sum(math.hypot(*minus(dart.at, layouts[1].darts[x].at)) for x, dart in layouts[0].darts.items() if x in layouts[1].darts)
+    moved = sum(math.hypot(*minus(dart.at, layouts[1].darts[x].at)) for x, dart in layouts[0].darts.items() if x in kept)
     return far, round(moved)
 
 
-def laid_out(maps):
-    """A layout for each map of a list of one or of two, which are before and after an edit: one of them follows the other."""
+def laid_out(maps, kept):
+    """A layout for each map of a list of one or of two, which are before and after an edit that keeps the darts `kept`: one of them follows the
+    other."""
     length = side_length(maps)
     if len(maps) == 1:
         return [Layout(maps[0], length)]
     pairs = []
     for lead in (0, 1):
         first = Layout(maps[lead], length)
-        second = Layout(maps[1 - lead], length, first)
+        second = Layout(maps[1 - lead], length, first, kept)
         pairs.append([first, second] if lead == 0 else [second, first])
-    return min(pairs, key=cost)
+    return min(pairs, key=lambda pair: cost(pair, kept))
