@@ -1,8 +1,8 @@
 /* controller PART ARCHIVE: a shift at a small cell, as an integrator would write it.
  *
- * It loads the part's map file and checks it, splits an edge, drops a piece, adds a flange, sews it to a flange of another lot, joins
- * the two ends by a strip, half of which is of each lot, and writes the archive's map file. Before the first edit and after the last it
- * counts the part's vertices, edges, faces and pieces.
+ * It loads the part's map file and checks it, splits an edge, drops a piece, adds a flange, trims it in a table that is full, sews it to
+ * a flange of another lot, joins the two ends by a strip, half of which is of each lot, and writes the archive's map file. Before the
+ * first edit and after the last it counts the part's vertices, edges, faces and pieces.
  * A part that is broken is shown as it was loaded, with the links that break it, and the shift ends there.
  * Every answer of the kernel is printed in words; the exit status is 0 only where the archive file was written.
  *
@@ -21,11 +21,12 @@ static uint32_t store[GMAP_STORE * GMAP_MAX_SLOTS];
 static uint8_t file[GMAP_MAX_FILE + 1];
 static uint32_t n, slots;
 
-/* The states before the last edit, by which its new darts are told. */
-static uint32_t before[GMAP_MAX_SLOTS];
+/* The table before the last edit, to compare lots and unused slots with. New darts cannot be told by it: one may stand in a slot that was
+ * live, in the place of a dart that the same edit deleted. How many are new and how many are gone, the answer says. */
+static uint32_t before[GMAP_RECORD * GMAP_MAX_SLOTS];
 
 /* The part's dart that the operator points at for each operation; for sewing and joining two darts, one on each edge. */
-enum { EDGE = 8, PIECE = 0, FLANGE = 10, SEAM = 3, OTHER_SEAM = 23, END = 15, OTHER_END = 18 };
+enum { EDGE = 8, PIECE = 0, FLANGE = 10, SEAM = 1, OTHER_SEAM = 23, END = 15, OTHER_END = 18 };
 
 /* Prints an answer, with the node of a refused scheme, and says whether the call was done. */
 static int told(const char *what, uint64_t answer)
@@ -39,19 +40,25 @@ static int told(const char *what, uint64_t answer)
     return number == GMAP_DONE;
 }
 
-/* Prints the answer of an edit, with its counts, and says whether it was done. */
+/* The number of unused slots of a table. */
+static uint32_t unused_in(const uint32_t *of)
+{
+    uint32_t unused = 0;
+    for (uint32_t x = 0; x < slots; x++) unused += of[GMAP_RECORD * x + GMAP_STATE] == 0;
+    return unused;
+}
+
+/* Prints the answer of an edit, with its counts and the room before and after it, and says whether it was done. */
 static int edited(const char *what, uint64_t answer)
 {
     if (!told(what, answer)) return 0;
-    printf("  %" PRIu32 " darts matched, %" PRIu32 " added, %" PRIu32 " deleted\n", gmap_orbit(answer), gmap_added(answer), gmap_deleted(answer));
+    printf("  %" PRIu32 " darts matched, %" PRIu32 " added, %" PRIu32 " deleted; ", gmap_orbit(answer), gmap_added(answer), gmap_deleted(answer));
+    printf("%" PRIu32 " unused slots before, %" PRIu32 " after\n", unused_in(before), unused_in(table));
     return 1;
 }
 
-/* Keeps the states as they are now. */
-static void keep_states(void)
-{
-    for (uint32_t x = 0; x < slots; x++) before[x] = table[GMAP_RECORD * x + GMAP_STATE];
-}
+/* Keeps the table as it is now. */
+static void keep_table(void) { memcpy(before, table, sizeof before); }
 
 /* After an edit that found too little room, gives the part twice the slots, or as many as there may be, and says whether to try again.
  * The records stay as they are, and those that come are unused. */
@@ -71,7 +78,7 @@ static int apply(const char *what, const uint8_t *scheme, size_t length, uint32_
 {
     uint64_t answer;
     do {
-        keep_states();
+        keep_table();
         answer = gmap_edit(n, slots, table, GMAP_RECORD * slots, store, GMAP_STORE * slots, scheme, length, dart);
     } while (made_room(what, answer));
     return edited(what, answer);
@@ -82,7 +89,7 @@ static int apply_at_two(const char *what, const uint8_t *scheme, size_t length, 
 {
     uint64_t answer;
     do {
-        keep_states();
+        keep_table();
         answer = gmap_edit2(n, slots, table, GMAP_RECORD * slots, store, GMAP_STORE * slots, scheme, length, dart, other);
     } while (made_room(what, answer));
     return edited(what, answer);
@@ -94,21 +101,22 @@ static int live(uint32_t x) { return x < slots && table[GMAP_RECORD * x + GMAP_S
 /* The i-link of a dart that there is. */
 static uint32_t link_of(uint32_t x, uint32_t i) { return table[GMAP_RECORD * x + GMAP_LINK + i]; }
 
-/* Lists the lots on the part, as the label printer would, each with its number of darts and how many of them are new. */
+/* The number of darts of a lot in the slots from `from` on of a table. */
+static uint32_t darts_of(uint32_t lot, const uint32_t *of, uint32_t from)
+{
+    uint32_t darts = 0;
+    for (uint32_t x = from; x < slots; x++) darts += of[GMAP_RECORD * x + GMAP_STATE] == 1 && of[GMAP_RECORD * x + GMAP_TAG] == lot;
+    return darts;
+}
+
+/* Lists the lots on the part, as the label printer would, each with its number of darts, and with the number before where it has changed. */
 static void print_lots(void)
 {
     for (uint32_t x = 0; x < slots; x++) {
-        uint32_t lot = table[GMAP_RECORD * x + GMAP_TAG], darts = 0, added = 0, first = 1;
-        if (!live(x)) continue;
-        for (uint32_t y = 0; y < slots; y++) {
-            if (!live(y) || table[GMAP_RECORD * y + GMAP_TAG] != lot) continue;
-            if (y < x) first = 0;
-            if (before[y] == 0) added++;
-            darts++;
-        }
-        if (!first) continue;
+        uint32_t lot = table[GMAP_RECORD * x + GMAP_TAG], darts = darts_of(lot, table, 0), old = darts_of(lot, before, 0);
+        if (!live(x) || darts_of(lot, table, x) != darts) continue; /* it is listed at its first dart */
         printf("  lot %" PRIu32 ": %" PRIu32 " darts", lot, darts);
-        if (added > 0) printf(", %" PRIu32 " of them new", added);
+        if (darts != old) printf(", %" PRIu32 " before", old);
         printf("\n");
     }
 }
@@ -205,7 +213,7 @@ int main(int argc, char **argv)
         return 2;
     }
     if (!load_part(argv[1])) return 1;
-    keep_states();
+    keep_table();
     print_lots();
     if (!check_part() || !count_part()) return 1;
 
@@ -223,7 +231,11 @@ int main(int argc, char **argv)
     if (!apply("add a flange", add_flange, sizeof add_flange, FLANGE)) return 1;
     print_lots();
 
-    /* The flange and one of the piece of lot 4713 become one edge, and each keeps its lot; then neither edge is free any more. */
+    /* The table is full. A smaller flange replaces this one all the same: its darts take slots that come free in the same edit. */
+    if (!apply("trim the flange", trim_flange, sizeof trim_flange, FLANGE)) return 1;
+    print_lots();
+
+    /* A side of the flange and one of the piece of lot 4713 become one edge, and each keeps its lot; then neither edge is free any more. */
     if (!apply_at_two("sew the two flanges", sew_edges, sizeof sew_edges, SEAM, OTHER_SEAM)) return 1;
     print_lots();
     apply_at_two("sew them again", sew_edges, sizeof sew_edges, SEAM, OTHER_SEAM);
