@@ -34,8 +34,8 @@ extern "C" {
 
 /* The version of this interface, 100 times its first number and its second: 3.0.
  * The second grows where something is added; the first where a program that was
- * written for the version before must be looked at again, as since 3.0 where it
- * takes a slot's state for a sign of a new dart (see gmap_edit). */
+ * written for the version before must be looked at again. With 3.0 that is one that
+ * tells new darts by the states before an edit (see gmap_edit). */
 #define GMAP_VERSION 300
 
 /* ---- limits and sizes */
