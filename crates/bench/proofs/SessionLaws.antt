@@ -23,7 +23,7 @@ use Rattle.bench.specs.Bench.{tableAfter}
 use Rattle.model.specs.declared.Darts.{Darts}
 use Rattle.model.specs.declared.Darts.the-variants.{One}
 use Rattle.model.specs.declared.Answer.{Answer}
-use Rattle.model.proofs.AnswerLaws.{answers-same}
+use Rattle.demands.proofs.OneOutcome.{answer-of, table-of, store-of}
 use Rattle.numbers.specs.Places.{Put}
 use Rattle.numbers.proofs.PlaceLaws.{put-then}
 use Rattle.demands.specs.Promises.{MapEdited}
@@ -86,8 +86,8 @@ module _ (b : List ℕ) (n N : ℕ) (m : MapOpen (mapBytes b) n N) where
 pub edit-part : (n N : ℕ) (t s part scheme : List ℕ) (d : Darts) (r : Answer) (t′ s′ : List ℕ) → part ≡ scheme → MapEdited n N t s part d r t′ s′
     → (r ≡ editAnswer n N t s scheme d) × ((t′ ≡ editTable n N t s scheme d) × (s′ ≡ editStore n N t s scheme d))
 edit-part n N t s part scheme d r t′ s′ p x = (
-  answers-same (x .answer) ∙ ap (λ (y : List ℕ). editAnswer n N t s y d) p,
-  (x .table ∙ ap (λ (y : List ℕ). editTable n N t s y d) p, x .cleared ∙ ap (λ (y : List ℕ). editStore n N t s y d) p),
+  answer-of x ∙ ap (λ (y : List ℕ). editAnswer n N t s y d) p,
+  (table-of x ∙ ap (λ (y : List ℕ). editTable n N t s y d) p, store-of x ∙ ap (λ (y : List ℕ). editStore n N t s y d) p),
 )
 
 -- an empty store stays empty

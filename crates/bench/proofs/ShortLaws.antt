@@ -2,7 +2,7 @@
 -- Assumes nothing.
 use Prim.Native.Nat.{ℕ, _*_, _≤_, _<_}
 use mathlib.Core.Path.{_≡_, refl, sym, subst}
-use mathlib.Core.Option.{Option, none, some, Option·getD}
+use mathlib.Core.Option.{Option, none, some}
 use mathlib.Core.List.{List}
 use native.Mathlib.Nat.{mul-le-mul-left}
 use native.Mathlib.Omega.{arith}
@@ -10,7 +10,7 @@ use lib.ListN.{length}
 use borrow.Author.Tests.{ne-eqb}
 use Rattle.base.specs.Below.{countBelow}
 use Rattle.base.proofs.BelowLaws.{count-le}
-use Rattle.model.specs.Answer.{number}
+use Rattle.model.specs.Answer.{number, answered}
 use Rattle.model.specs.Map.{maxSlots}
 use Rattle.model.specs.Bytes.{nodesOf}
 use Rattle.model.specs.Scheme.{schemeOf, deleted}
@@ -20,13 +20,13 @@ use Rattle.model.specs.Calls.{siteDone, siteOf, editFault, editAnswer}
 use Rattle.bench.specs.Bench.{shown, dartLine, lastLine}
 use Rattle.model.specs.declared.Darts.the-variants.{One}
 use Rattle.model.specs.declared.Answer.{Answer}
-use Rattle.model.specs.declared.Answer.the-variants.{Edited}
-use Rattle.model.proofs.AnswerLaws.{number-few}
+use Rattle.model.specs.declared.Answer.the-variants.{Edited, Refused}
+use Rattle.model.specs.declared.Refusal.{Refusal}
+use Rattle.model.proofs.AnswerLaws.{number-few, number-bounds}
 use Rattle.model.proofs.SizeLaws.{sizes-iff}
 use Rattle.model.proofs.CallLaws.{granted, ready}
 use Rattle.model.proofs.EditLaws.{enough}
 use Rattle.model.proofs.SchemeLaws.{nodes-few}
-use Rattle.demands.proofs.RefusalLaws.{edit-within}
 use Rattle.program.proofs.DecimalLaws.{decimal-short}
 use Rattle.program.proofs.LineLaws.{digits}
 use Rattle.bench.proofs.LineLaws.{dart-length, last-length}
@@ -70,10 +70,10 @@ module _ (n N : ℕ) (t store b : List ℕ) (d : ℕ) where
   unfolding editAnswer
   line-short h = go (editFault n N t store b (One d)) refl
     where
-      go : (o : Option Answer) → editFault n N t store b (One d) ≡ o
-          → length (dartLine d (Option·getD (editFault n N t store b (One d)) (siteDone (siteOf N t b (One d))))) ≤ 23
+      go : (o : Option Refusal) → editFault n N t store b (One d) ≡ o
+          → length (dartLine d (answered (siteDone (siteOf N t b (One d))) (editFault n N t store b (One d)))) ≤ 23
       go none q = rw q (granted-short q)
-      go (some a) q = rw q (refused-short d a h (λ e. omega (arith, edit-within n N t store b (One d) .least a q)))
+      go (some f) q = rw q (refused-short d (Refused f) h (λ e. omega (arith, number-bounds f .0)))
 
 -- ---- the last line
 

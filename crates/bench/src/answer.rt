@@ -10,6 +10,16 @@ pub struct Values {
     pub deleted: u32,
 }
 
+fn nothing() -> Values
+    ensures { λ r. ⌜ (r .orbit ≡ 0) × (r .added ≡ 0) × (r .deleted ≡ 0) ⌝ }
+{
+    Values {
+        orbit: 0,
+        added: 0,
+        deleted: 0,
+    }
+}
+
 pub fn shown(a: Answer) -> Values
     ensures { λ r. ⌜ (r .orbit ≡ shownOf a 0) × (r .added ≡ shownOf a 1) × (r .deleted ≡ shownOf a 2) ⌝ }
 {
@@ -28,22 +38,7 @@ pub fn shown(a: Answer) -> Values
             added: 0,
             deleted: 0,
         },
-        Answer::Counted {
-            live,
-            vertices,
-            edges,
-            faces: _,
-            pieces: _,
-            volumes: _,
-        } => Values {
-            orbit: live,
-            added: vertices,
-            deleted: edges,
-        },
-        _ => Values {
-            orbit: 0,
-            added: 0,
-            deleted: 0,
-        },
+        Answer::Done => nothing(),
+        Answer::Refused(_) => nothing(),
     }
 }

@@ -3,7 +3,7 @@
 use Prim.Native.Nat.{ℕ, _≤_, _<_}
 use mathlib.Core.Path.{_≡_, refl, sym, ap, _∙_}
 use mathlib.Core.Bool.{Bool, true, false, not, cond}
-use mathlib.Core.Option.{Option, none, some, Option·getD}
+use mathlib.Core.Option.{Option, none, some}
 use mathlib.Core.List.{List}
 use native.Mathlib.Omega.{arith}
 use lib.ListN.{length}
@@ -13,16 +13,18 @@ use Rattle.model.specs.Conditions.{hookFault, noted, schemeFault}
 use Rattle.model.specs.Twice.{twiceOf}
 use Rattle.model.specs.Shaped.{Shaped}
 use Rattle.model.specs.declared.Scheme.{Scheme}
-use Rattle.model.specs.declared.Answer.{Answer}
-use Rattle.model.specs.declared.Answer.the-variants.{Done, BadHook}
+use Rattle.model.specs.Answer.{faultOf}
+use Rattle.model.specs.declared.Refusal.{Refusal}
+use Rattle.model.specs.declared.Refusal.the-variants.{BadHook}
+use Rattle.model.specs.declared.Fault.{Fault}
+use Rattle.model.specs.declared.Fault.the-variants.{Given}
 use Rattle.model.proofs.AcceptedLaws as AcceptedLaws
 use Rattle.model.proofs.HookLaws.{wrong-hook}
 use Rattle.model.specs.Shaped.{Coded}
 use Rattle.conditions.specs.Arcs.{Joining}
 use Rattle.conditions.specs.Tree.{rootsOf, Aimed, Lefts, Spanning, TreeOf}
 use Rattle.conditions.specs.Hook.{hookedBy, leftOut, hookBy}
-use Rattle.incidence.specs.Incidence.{foundOf}
-use Rattle.incidence.specs.Incidence.{arcsAnswer}
+use Rattle.incidence.specs.Incidence.{foundOf, arcsFault}
 use Rattle.incidence.specs.Cycles.{Coding}
 use Rattle.conditions.specs.Verdict.{hookElse, faultBy, Judging, VerdictOf}
 use Rattle.incidence.specs.declared.Found.{Found}
@@ -67,13 +69,13 @@ module _ (S : Scheme) (f : Shaped S) (lefts rights : List ℕ) (cl : Coded S lef
         go false k o = refl
 
     pub fault-is : (out : Found) → out ≡ foundOf (least (S .nodes) (leftOut (S .kinds) (t .reached)))
-        → (r : Answer) → r ≡ faultBy (S .n) (S .places) (S .nodes) (S .orbit) (S .kinds) (S .lwords) (S .second) out lefts rights ltwice rtwice
-        → r ≡ Option·getD (schemeFault S) Done
-    unfolding schemeFault faultBy arcsAnswer _orElse_
+        → (r : Fault) → r ≡ faultBy (S .n) (S .places) (S .nodes) (S .orbit) (S .kinds) (S .lwords) (S .second) out lefts rights ltwice rtwice
+        → r ≡ faultOf (schemeFault S)
+    unfolding schemeFault faultBy arcsFault _orElse_
     fault-is out eo r e = rw (incidence-is S f lefts rights ltwice rtwice cl cr tl tr, cycle-is S f lefts rights cl cr)
         (rw (eo, sym hook-found) at e ∙ go (hookFault S) _)
       where
-        go : (o : Option ℕ) (q : Option Answer) → hookElse (foundOf o) (Option·getD q Done) ≡ Option·getD (noted BadHook o orElse q) Done
+        go : (o : Option ℕ) (q : Option Refusal) → hookElse (foundOf o) (faultOf q) ≡ faultOf (noted BadHook o orElse q)
         go none q = refl
         go (some x) q = refl
 
@@ -81,11 +83,11 @@ module _ (S : Scheme) (f : Shaped S) (lefts rights : List ℕ) (cl : Coded S lef
 
 module _ (n places nodes : ℕ) (orbit kinds words : List ℕ) (second : ℕ) (out : Found) (lefts rights : List ℕ) (ltwice rtwice : List Bool)
     (h : Found) (eh : h ≡ hookBy places orbit kinds words second out) where
-  pub fault-hook : (x : ℕ) → h ≡ Node x → BadHook x ≡ faultBy n places nodes orbit kinds words second out lefts rights ltwice rtwice
+  pub fault-hook : (x : ℕ) → h ≡ Node x → Given (BadHook x) ≡ faultBy n places nodes orbit kinds words second out lefts rights ltwice rtwice
   unfolding faultBy
   fault-hook x e = let o = sym eh ∙ e in rw o
 
-  pub fault-arcs : h ≡ Nothing → (r : Answer) → r ≡ arcsAnswer n nodes orbit kinds lefts rights ltwice rtwice
+  pub fault-arcs : h ≡ Nothing → (r : Fault) → r ≡ arcsFault n nodes orbit kinds lefts rights ltwice rtwice
       → r ≡ faultBy n places nodes orbit kinds words second out lefts rights ltwice rtwice
   unfolding faultBy
   fault-arcs e r g = let o = sym eh ∙ e in rw o g
@@ -109,10 +111,10 @@ module _ {n places nodes second : ℕ} {orbit kinds lwords ltargets rtargets : L
     pub judge-asks : ((2 ≤ n) × (n ≤ 3) × (p ≤ 4) × (c ≤ 16) × (h < 16)) × (Coding c ltargets × Coding c rtargets)
     judge-asks = rw (ep, ec, eh, J .nIs, J .placesIs, J .nodesIs, J .secondIs) (fault-asks (J .scheme) (J .shaped) ltargets rtargets left-coded right-coded)
 
-    -- the trees and the answer that come of it
+    -- the trees and the fault that come of it
     pub judge-is : (l : ℕ) → l ≡ lcount → (t : Tree) → Spanning larcs l h t → t .roots ≡ rootsOf h
         → (out : Found) → out ≡ foundOf (least c (leftOut kinds (t .reached)))
-        → (r : Answer) → r ≡ faultBy n p c orbit kinds lwords h out ltargets rtargets ltwice rtwice → VerdictOf (J .scheme) (record { answer = r; tree = t })
+        → (r : Fault) → r ≡ faultBy n p c orbit kinds lwords h out ltargets rtargets ltwice rtwice → VerdictOf (J .scheme) (record { fault = r; tree = t })
     judge-is l el t g er out eo r e =
         let span : Spanning (J .scheme .larcs) (J .scheme .lcount) (J .scheme .second) t = rw (J .larcsIs, el, J .lcountIs, eh, J .secondIs) at g in
         let tree = tree-of (J .scheme) (J .shaped) t span (er ∙ ap rootsOf (eh ∙ J .secondIs)) in
@@ -120,7 +122,7 @@ module _ {n places nodes second : ℕ} {orbit kinds lwords ltargets rtargets : L
         let left = rw (ec, J .nodesIs, J .kindsIs) at eo in
         let by = rw (ep, ec, eh, J .nIs, J .placesIs, J .nodesIs, J .secondIs, J .orbitIs, J .kindsIs, J .lwordsIs) at e in
         record {
-          answer = fault-is (J .scheme) (J .shaped) ltargets rtargets left-coded right-coded long t tree ltwice rtwice (J .ltwiceIs)
+          fault = fault-is (J .scheme) (J .shaped) ltargets rtargets left-coded right-coded long t tree ltwice rtwice (J .ltwiceIs)
               (J .rtwiceIs) out left r by;
           tree = tree;
         }

@@ -9,12 +9,12 @@ use Rattle.base.proofs.FirstLaws.{or-else-cases, first-at, when-at, least-at}
 use Rattle.model.specs.Conditions.{hookFault, incidenceFault, cycleFault, schemeFault}
 use Rattle.model.specs.Shaped.{Shaped}
 use Rattle.model.specs.declared.Scheme.{Scheme}
-use Rattle.model.specs.declared.Answer.{Answer}
-use Rattle.model.specs.declared.Answer.the-variants.{BadHook, BadIncidence, BadCycle}
+use Rattle.model.specs.declared.Refusal.{Refusal}
+use Rattle.model.specs.declared.Refusal.the-variants.{BadHook, BadIncidence, BadCycle}
 use Rattle.model.proofs.AcceptedLaws as AcceptedLaws
 use Rattle.model.proofs.AcceptedLaws.{node-small, noted-at}
 
-pub data SmallFault : Answer → Type 0 where
+pub data SmallFault : Refusal → Type 0 where
   hookSmall : {x : ℕ} → x < 16 → SmallFault (BadHook x)
   incidenceSmall : {x : ℕ} → x < 16 → SmallFault (BadIncidence x)
   cycleSmall : {x i j : ℕ} → x < 16 → i ≤ 3 → j ≤ 3 → SmallFault (BadCycle x i j)
@@ -31,7 +31,7 @@ module _ (S : Scheme) (f : Shaped S) where
   unfolding incidenceFault
   incidence-small x e = node-small S f x (least-at _ _ x e .0)
 
-  cycle-small : (a : Answer) → cycleFault S ≡ some a → SmallFault a
+  cycle-small : (a : Refusal) → cycleFault S ≡ some a → SmallFault a
   unfolding cycleFault
   cycle-small a e =
       let n3 = AcceptedLaws.small S f in
@@ -40,7 +40,7 @@ module _ (S : Scheme) (f : Shaped S) where
       let j = first-at _ _ a (i .2) in
       subst SmallFault (when-at _ (j .2) .1) (cycleSmall (node-small S f (s .0) (s .1)) (omega (arith, i .1)) (omega (arith, j .1)))
 
-  pub fault-small : (a : Answer) → schemeFault S ≡ some a → SmallFault a
+  pub fault-small : (a : Refusal) → schemeFault S ≡ some a → SmallFault a
   unfolding schemeFault
   fault-small a e = ⊎-elim
       (λ w. let n = noted-at BadHook _ a w in subst SmallFault (n .2) (hookSmall (hook-small (n .0) (n .1))))

@@ -1,9 +1,8 @@
--- What comes of a scheme: its first fault, or done, and the trees of its left arcs.
+-- What comes of a scheme: its first fault, if any, and the trees of its left arcs.
 -- Assumes nothing.
 use Prim.Native.Nat.{ℕ}
 use mathlib.Core.Path.{_≡_}
 use mathlib.Core.Bool.{Bool}
-use mathlib.Core.Option.{Option·getD}
 use mathlib.Core.List.{List}
 use lib.ListN.{length}
 use Rattle.model.specs.Scheme.{left, right}
@@ -11,24 +10,26 @@ use Rattle.model.specs.Conditions.{schemeFault}
 use Rattle.model.specs.Twice.{twiceOf}
 use Rattle.model.specs.Shaped.{Shaped}
 use Rattle.model.specs.declared.Scheme.{Scheme}
-use Rattle.model.specs.declared.Answer.{Answer}
-use Rattle.model.specs.declared.Answer.the-variants.{Done, BadHook}
+use Rattle.model.specs.Answer.{faultOf}
+use Rattle.model.specs.declared.Refusal.the-variants.{BadHook}
+use Rattle.model.specs.declared.Fault.{Fault}
+use Rattle.model.specs.declared.Fault.the-variants.{Given}
 use Rattle.conditions.specs.Hook.{hookBy}
-use Rattle.incidence.specs.Incidence.{arcsAnswer}
+use Rattle.incidence.specs.Incidence.{arcsFault}
 use Rattle.conditions.specs.Tree.{TreeOf}
 use Rattle.incidence.specs.declared.Found.{Found}
 use Rattle.incidence.specs.declared.Found.the-variants.{Node, Nothing}
 use Rattle.conditions.specs.declared.Verdict.{Verdict}
 
--- the hook's fault, or else an answer
-abbrev pub hookElse : Found → Answer → Answer
-hookElse Nothing a = a
-hookElse (Node x) a = BadHook x
+-- the hook's fault, or else another
+abbrev pub hookElse : Found → Fault → Fault
+hookElse Nothing f = f
+hookElse (Node x) f = Given (BadHook x)
 
 -- the first fault, over the lists that go with a scheme: the hook's, then those of the arcs
-unfoldable pub faultBy : ℕ → ℕ → ℕ → List ℕ → List ℕ → List ℕ → ℕ → Found → List ℕ → List ℕ → List Bool → List Bool → Answer
+unfoldable pub faultBy : ℕ → ℕ → ℕ → List ℕ → List ℕ → List ℕ → ℕ → Found → List ℕ → List ℕ → List Bool → List Bool → Fault
 faultBy n places nodes orbit kinds words second out lefts rights leftTwice rightTwice =
-    hookElse (hookBy places orbit kinds words second out) (arcsAnswer n nodes orbit kinds lefts rights leftTwice rightTwice)
+    hookElse (hookBy places orbit kinds words second out) (arcsFault n nodes orbit kinds lefts rights leftTwice rightTwice)
 
 -- the numbers and lists are parts of a scheme in the form, and its nodes with two arcs of a dimension
 pub record Judging (n places nodes second : ℕ) (orbit kinds lwords ltargets rtargets : List ℕ) (lcount : ℕ) (larcs : List ℕ)
@@ -51,5 +52,5 @@ pub record Judging (n places nodes second : ℕ) (orbit kinds lwords ltargets rt
   pub longWords : length lwords ≡ 64
 
 pub record VerdictOf (S : Scheme) (v : Verdict) : Type 0 where
-  pub answer : v .answer ≡ Option·getD (schemeFault S) Done
+  pub fault : v .fault ≡ faultOf (schemeFault S)
   pub tree : TreeOf S (v .tree)

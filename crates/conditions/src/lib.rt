@@ -7,7 +7,8 @@ use arcs::wide;
 use hook::hooked;
 use incidence::Found;
 use incidence::arcs_fault;
-use model::Answer;
+use model::Fault;
+use model::Refusal;
 use tree::Tree;
 use tree::reach_of;
 ghost use mathlib.Core.Path.{_≡_};
@@ -39,7 +40,8 @@ fn hook_fault<'a>(
     out
 }
 
-// The first fault, from the left node that the trees leave out, if any, and the targets of both sides.
+// The first of refusals 3, 4 and 5 that applies. `out` is the least left node that no hook reaches, if there is one; it has been found already, while
+// the trees were grown.
 fn fault<'a>(
     n: u8,
     places: usize,
@@ -53,25 +55,25 @@ fn fault<'a>(
     rights: &'a [u8; 64],
     ltwice: &'a [bool; 16],
     rtwice: &'a [bool; 16],
-) -> Answer
+) -> Fault
     requires { ⌜ (2 ≤ n) × (n ≤ 3) × (places ≤ 4) × (nodes ≤ 16) × (second < 16) ⌝ }
     requires { ⌜ Coding nodes (now lefts) × Coding nodes (now rights) ⌝ }
     ensures { λ r. ⌜ r ≡ faultBy n places nodes (now (orbit .entry)) (now (kinds .entry)) (now (words .entry)) second out (now (lefts .entry)) (now (rights .entry)) (now (ltwice .entry)) (now (rtwice .entry)) ⌝ }
 {
     let hook = hook_fault(places, orbit, kinds, words, second, out);
     if let Found::Node(x) = hook {
-        return Answer::BadHook(x);
+        return Fault::Given(Refusal::BadHook(x));
     }
     arcs_fault(n, nodes, orbit, kinds, lefts, rights, ltwice, rtwice)
 }
 
-// What is known of a scheme: its first fault of refusals 3 to 5, or done where it is accepted, and the trees of its left arcs.
+// What is known of a scheme: its first fault of refusals 3 to 5, none where it is accepted, and the trees of its left arcs.
 pub struct Verdict {
-    pub answer: Answer,
+    pub fault: Fault,
     pub tree: Tree,
 }
 
-// Judges a scheme, which is lent in its parts, since it is long to copy, with its nodes that have two arcs of a dimension.
+// Judges a scheme. It is lent in its parts, since it is long to copy; `ltwice` and `rtwice` say which nodes have two arcs of a dimension.
 pub fn judge<'a>(
     n: u8,
     places: u8,
@@ -94,7 +96,7 @@ pub fn judge<'a>(
     let h = wide(second);
     let reach = reach_of(c, h, kinds, ltargets, wide(lcount), larcs);
     let out = reach.out;
-    let answer = fault(
+    let found = fault(
         n,
         wide(places),
         c,
@@ -110,7 +112,7 @@ pub fn judge<'a>(
     );
     let tree = reach.tree;
     Verdict {
-        answer: answer,
+        fault: found,
         tree: tree,
     }
 }

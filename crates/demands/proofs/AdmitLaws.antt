@@ -4,7 +4,7 @@ use Prim.Native.Nat.{ℕ, _*_, _≤_, _<_}
 use mathlib.Core.Path.{_≡_, refl, sym, ap, _∙_, subst}
 use mathlib.Core.Logic.{_⊎_, inl, inr, ⊎-elim}
 use mathlib.Core.Bool.{Bool, true, false, not, true≢false}
-use mathlib.Core.Option.{Option, none, Option·getD}
+use mathlib.Core.Option.{Option, none}
 use mathlib.Core.List.{List}
 use native.Mathlib.Omega.{arith}
 use lib.ListN.{length}
@@ -20,14 +20,17 @@ use Rattle.model.specs.Scheme.{schemeOf}
 use Rattle.model.specs.Match.{matches}
 use Rattle.model.specs.Edit.{addedDarts, roomOf, dartOf, edited}
 use Rattle.model.specs.Rewriting.{Rewriting}
-use Rattle.model.specs.Answer.{number, values}
+use Rattle.model.specs.Answer.{refusalNumber, number, answered}
 use Rattle.model.specs.Site.{Site, Sound}
 use Rattle.model.specs.Calls.{bytesFault, firstDart, secondDart, takes, isDart, fitFault, siteFault, siteDone, siteOf, storedOk}
 use Rattle.model.specs.Calls.{editFaultAt, editFault, editAnswer, editTable}
-use Rattle.model.specs.Sequence.{Holds}
+use Rattle.model.specs.Sequence.{edit, Lent, Outcome, outcomeOf}
 use Rattle.model.specs.declared.Darts.{Darts}
 use Rattle.model.specs.declared.Answer.{Answer}
-use Rattle.model.specs.declared.Answer.the-variants.{NoMatch, NoRoom}
+use Rattle.model.specs.declared.Answer.the-variants.{Refused}
+use Rattle.model.specs.declared.Refusal.{Refusal}
+use Rattle.model.specs.declared.Refusal.the-variants.{NoMatch, NoRoom}
+use Rattle.model.proofs.AnswerLaws.{answered-free}
 use Rattle.model.proofs.SizeLaws.{sizes-iff}
 use Rattle.model.proofs.WellFormedLaws.{wellFormed-iff}
 use Rattle.model.proofs.SchemeLaws.{shaped}
@@ -38,20 +41,22 @@ use Rattle.model.proofs.RewritingOnce.{edit-once}
 use Rattle.model.proofs.CallLaws.{passed, darts-alone, ready, edit-table}
 use Rattle.model.proofs.HoldsLaws.{edit-holds}
 use Rattle.demands.specs.Refusals.{Orbit, siteOver, Matched}
-use Rattle.demands.specs.Demands.{counts, Admitted, Applicable, EditDone}
-use Rattle.demands.specs.Promises.{MapEdited}
+use Rattle.demands.specs.Demands.{doneAt, Admitted, Applicable, EditDone}
 use Rattle.demands.proofs.FaultLaws.{many-iff, taken-iff, darts-iff, orbit-of, site-one, matched-iff}
-use Rattle.demands.proofs.RefusalLaws.{within-test, bytes-within, fit-within, past, done-none}
+use Rattle.demands.proofs.RefusalLaws.{within-test, bytes-within, fit-within, past}
 
 -- refusal 9 comes before 10
-missed : (s r : Bool) (done : Answer) → (s ≡ true → ⊥) → number (Option·getD (someIf (not s) NoMatch orElse someIf r NoRoom) done) ≡ 9
+missed : (s r : Bool) (done : Answer) → (s ≡ true → ⊥) → answered done (someIf (not s) NoMatch orElse someIf r NoRoom) ≡ Refused NoMatch
 unfolding someIf _orElse_
 missed true r done f = absurd (f refl)
 missed false r done f = refl
 
-module _ (n N : ℕ) (t store b : List ℕ) (d : Darts) where
+module _ (n N : ℕ) (t b : List ℕ) (d : Darts) (l : Lent) where
   abbrev E : Site
   E = siteOf N t b d
+
+  abbrev store : List ℕ
+  store = l .store
 
   -- where none of 1 to 8 applies, 9 and 10 are left
   admitted-fault : Admitted n N t store b d → editFault n N t store b d ≡ fitFault E
@@ -71,14 +76,14 @@ module _ (n N : ℕ) (t store b : List ℕ) (d : Darts) where
     beside j g h = ⊎-elim (λ e. inl (omega arith)) (λ l. inr (omega arith)) far
 
     -- one test of the chain
-    by-test : (s : Bool) (a : Answer) (o : Option Answer) → 1 ≤ number a → number a ≤ 8
-        → number (Option·getD (someIf (not s) a orElse o) done) ≡ k → (s ≡ true) × (number (Option·getD o done) ≡ k)
+    by-test : (s : Bool) (a : Refusal) (o : Option Refusal) → 1 ≤ refusalNumber a → refusalNumber a ≤ 8
+        → number (answered done (someIf (not s) a orElse o)) ≡ k → (s ≡ true) × (number (answered done o) ≡ k)
     by-test s a o g h e =
-        let p = past k (someIf (not s) a) o done (within-test (number a) (number a) (not s) a (omega arith) (omega arith)) (beside (number a) g h) e in
+        let p = past k (someIf (not s) a) o done (within-test (refusalNumber a) (refusalNumber a) (not s) a (omega arith) (omega arith)) (beside (refusalNumber a) g h) e in
         (passed s a (p .0), p .1)
 
-    admitted-by : number (Option·getD (editFault n N t store b d) done) ≡ k
-        → Admitted n N t store b d × (number (Option·getD (fitFault E) done) ≡ k)
+    admitted-by : number (answered done (editFault n N t store b d)) ≡ k
+        → Admitted n N t store b d × (number (answered done (fitFault E)) ≡ k)
     unfolding editFault editFaultAt siteFault bytesFault
     admitted-by e =
         let p1 = by-test (storedOk n N t store) _ _ (omega arith) (omega arith) e in
@@ -125,20 +130,20 @@ module _ (n N : ℕ) (t store b : List ℕ) (d : Darts) where
     one-site = site-one N t b d sound
 
     -- no match is refusal 9
-    pub no-match : (Matched N t b d → ⊥) → number (editAnswer n N t store b d) ≡ 9
+    pub no-match : (Matched N t b d → ⊥) → editAnswer n N t store b d ≡ Refused NoMatch
     unfolding editAnswer fitFault
     no-match never = rw (admitted-fault a) (missed (matches E) _ _ (λ m. never (is-matched m)))
 
   -- and refusal 9 is no match
-  pub nine-is : number (editAnswer n N t store b d) ≡ 9 → Admitted n N t store b d × (Matched N t b d → ⊥)
+  pub nine-is : editAnswer n N t store b d ≡ Refused NoMatch → Admitted n N t store b d × (Matched N t b d → ⊥)
   unfolding editAnswer fitFault siteDone someIf _orElse_
   nine-is e =
-      let p = admitted-by 9 (inr (omega arith)) _ e in (
+      let p = admitted-by 9 (inr (omega arith)) _ (ap number e) in (
         p .0,
         λ m. fits (ltb (roomOf E) (addedDarts E)) _ _ (matched-is (p .0) m) refl (p .1),
       )
     where
-      fits : (r s : Bool) (done : Answer) → s ≡ true → number done ≡ 0 → number (Option·getD (someIf (not s) NoMatch orElse someIf r NoRoom) done) ≡ 9 → ⊥
+      fits : (r s : Bool) (done : Answer) → s ≡ true → number done ≡ 0 → number (answered done (someIf (not s) NoMatch orElse someIf r NoRoom)) ≡ 9 → ⊥
       fits true true done m z e = omega arith
       fits false true done m z e = omega arith
       fits r false done m z e = true≢false (sym m)
@@ -161,7 +166,7 @@ module _ (n N : ℕ) (t store b : List ℕ) (d : Darts) where
   unfolding editAnswer fitFault siteDone
   free-applicable e =
       let p = admitted-by 0 (inl refl) _ e in
-      let free = or-else-none _ _ (done-none _ _ (fit-within E) (omega arith) (p .1)) in
+      let free = or-else-none _ _ (answered-free _ _ (p .1)) in
       let m = is-matched (p .0) (passed _ _ (free .0)) in
       record {
         admitted = p .0;
@@ -170,34 +175,33 @@ module _ (n N : ℕ) (t store b : List ℕ) (d : Darts) where
             (ltb-false (roomOf E) (addedDarts E) (when-none _ NoRoom (free .1)));
       }
 
-  module _ (a : Applicable n N t store b d) where
+  module _ (a : Applicable n N t (l .store) b d) where
     at : Ready E
     at = ready n N t store b d (applicable-free a)
 
     done-answer : editAnswer n N t store b d ≡ siteDone E
     unfolding editAnswer
-    done-answer = ap (λ (o : Option Answer). Option·getD o (siteDone E)) (applicable-free a)
+    done-answer = ap (λ (o : Option Refusal). answered (siteDone E) o) (applicable-free a)
 
-    pub edit-done : (r : Answer) (t′ store′ : List ℕ) → MapEdited n N t store b d r t′ store′ → EditDone n N t b d r t′
+    pub edit-done : EditDone n N t b d (outcomeOf n N t (edit b d) l)
     unfolding siteDone
-    edit-done r t′ store′ p = record {
+    edit-done = record {
       orbit = E .orbit;
       isOrbit = orbit-of N t b d (sound (a .admitted));
       new = edited E;
       dart = dartOf E;
       rewriting = rewriting at;
-      table = p .table ∙ edit-table n N t store b d (applicable-free a);
-      done = p .answer .sameNumber ∙ ap number done-answer;
-      counted = p .answer .sameValues ∙ ap values done-answer;
-      well = subst (Holds n N) (sym (p .table)) (edit-holds n N t store b d (applicable-free a));
+      table = edit-table n N t store b d (applicable-free a);
+      answer = done-answer;
+      well = edit-holds n N t store b d (applicable-free a);
     }
 
     -- and what demand 2 says of an edit is all of it: it has our answer and our table
-    pub done-is : (r : Answer) (t′ : List ℕ) → EditDone n N t b d r t′ → (values r ≡ values (editAnswer n N t store b d)) × (t′ ≡ editTable n N t store b d)
+    pub done-is : (o : Outcome) → EditDone n N t b d o → (o .answer ≡ editAnswer n N t store b d) × (o .table ≡ editTable n N t store b d)
     unfolding siteDone
-    done-is r t′ e =
+    done-is o e =
         let same : siteOver N t b d (e .orbit) ≡ E = one-site (a .admitted) (e .isOrbit) in
         let own : Rewriting E (e .new) (e .dart) = subst (λ (F : Site). Rewriting F (e .new) (e .dart)) same (e .rewriting) in (
-          e .counted ∙ ap counts same ∙ sym (ap values done-answer),
+          e .answer ∙ ap doneAt same ∙ sym done-answer,
           e .table ∙ edit-once at own ∙ sym (edit-table n N t store b d (applicable-free a)),
         )

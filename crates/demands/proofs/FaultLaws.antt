@@ -25,8 +25,8 @@ use Rattle.model.specs.Calls.{firstDart, secondDart, asMany, takes, isDart, sit
 use Rattle.model.specs.declared.Scheme.{Scheme}
 use Rattle.model.specs.declared.Darts.{Darts}
 use Rattle.model.specs.declared.Darts.the-variants.{One, Two}
-use Rattle.model.specs.declared.Answer.{Answer}
-use Rattle.model.specs.declared.Answer.the-variants.{BadCycle}
+use Rattle.model.specs.declared.Refusal.{Refusal}
+use Rattle.model.specs.declared.Refusal.the-variants.{BadCycle}
 use Rattle.model.proofs.HookLaws.{hook-iff, hook-below, found-reached, reached-found}
 use Rattle.model.proofs.OrbitLaws.{orbit-is, orbit-only}
 use Rattle.model.proofs.MatchIff.{match-iff}
@@ -137,7 +137,7 @@ module _ (S : Scheme) where
   )
 
   -- what is looked for at a node and i, and at a node
-  at-pair : ℕ → ℕ → ℕ → Option Answer
+  at-pair : ℕ → ℕ → ℕ → Option Refusal
   at-pair s i j = someIf (leb (i + 2) j and not (cycleOk S s i j)) (BadCycle s i j)
 
   no-pair : (s i j : ℕ) → at-pair s i j ≡ none → Offends S s i j → ⊥
@@ -150,7 +150,7 @@ module _ (S : Scheme) where
   no-node : (s : ℕ) → first (suc (S .n)) (λ i. first (suc (S .n)) (at-pair s i)) ≡ none → (i j : ℕ) → Offends S s i j → ⊥
   no-node s e i j o = no-row s i (first-none _ _ e i (omega (arith, o .within, o .apart))) j o
 
-  pub cycle-found : (a : Answer) → cycleFault S ≡ some a → (s i j : ℕ) × FirstPair S s i j × (a ≡ BadCycle s i j)
+  pub cycle-found : (a : Refusal) → cycleFault S ≡ some a → (s i j : ℕ) × FirstPair S s i j × (a ≡ BadCycle s i j)
   unfolding cycleFault at-pair
   cycle-found a e =
       let node = first-at (S .nodes) _ a e in

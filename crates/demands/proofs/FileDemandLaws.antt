@@ -4,35 +4,34 @@ use Prim.Native.Nat.{ℕ, _≤_, _<_}
 use mathlib.Core.Path.{_≡_, refl, sym, ap, _∙_, subst}
 use mathlib.Core.Logic.{⊎-elim, inl, inr}
 use mathlib.Core.Bool.{true, false, cond}
-use mathlib.Core.Option.{Option, none, Option·getD}
+use mathlib.Core.Option.{none}
 use mathlib.Core.List.{List, _++_}
 use native.Mathlib.Omega.{arith}
-use lib.ListN.{length, getD, take, drop}
-use lib.Dec.{ltb}
+use lib.ListN.{length, getD, drop}
 use borrow.Author.Tests.{eqb-true, eqb-false, eq-eqb, ne-eqb, le-ltb}
 use Rattle.base.specs.First.{someIf, there, _orElse_}
 use Rattle.base.proofs.TestLaws.{true-or-false}
 use Rattle.base.proofs.BelowLaws.{le-or-lt}
-use Rattle.base.proofs.FirstLaws.{or-else-none}
 use Rattle.model.specs.Map.{Map, Field, State, Link, Tag, fieldOf, dimension, fieldAt, view, tableOf, live}
 use Rattle.model.specs.Alike.{Alike}
 use Rattle.model.specs.File.{file, darts, slotAt, fileForm, fileMap}
 use Rattle.model.specs.WellFormed.{WellFormed}
-use Rattle.model.specs.Answer.{number, values}
-use Rattle.model.specs.Calls.{sizesOk, tableFault, loadFaultAt, loadFault, loadAnswer, writeFaultAt, writeFault, writeAnswer, writeOut}
-use Rattle.model.specs.Sequence.{Holds, AlikeTables}
-use Rattle.model.specs.declared.Answer.{Answer}
+use Rattle.model.specs.Answer.{number}
+use Rattle.model.specs.Calls.{sizesOk, tableFault, checkTable, loadFaultAt, loadFault, loadAnswer, loadTable, outputFaultAt, writeFault, writeAnswer, writeOut}
+use Rattle.model.specs.Sequence.{Holds, AlikeTables, write, Lent, outcomeOf, written}
 use Rattle.model.specs.declared.Answer.the-variants.{Written}
 use Rattle.model.proofs.MapLaws.{field-at, field-none, field-words, length-words}
+use Rattle.model.proofs.AnswerLaws.{answered-free}
 use Rattle.model.proofs.SizeLaws.{sizes-iff}
-use Rattle.model.proofs.HoldsLaws.{holds-free, holds-of, holds-iff, holds-slotted, sizes-too, words-hold, writtenFile, written-file, dimension-small}
+use Rattle.model.proofs.WellFormedLaws.{wellFormed-iff}
+use Rattle.model.proofs.CallLaws.{output-passed}
+use Rattle.model.proofs.AlikeCalls.{write-written}
+use Rattle.model.proofs.HoldsLaws.{holds-free, holds-iff, holds-slotted, sizes-too, words-hold, dimension-small}
 use Rattle.model.proofs.FileLaws.{same-file, slot-below, filed-live, filed-tag, filed-link, filed-own, filed-zero}
 use Rattle.model.proofs.AlikeLaws.{alike-sym, alike-trans, words-alike, well-alike}
 use Rattle.file.proofs.RoundTrip.{written-form, load-back, written-back}
-use Rattle.demands.specs.Promises.{TableChecked, FileLoaded, FileWritten}
-use Rattle.demands.specs.Ours.{ours}
-use Rattle.demands.specs.Demands.{Filed, FileAccepted}
-use Rattle.demands.proofs.RefusalLaws.{cond-true, cond-false, done-none, load-done, write-within}
+use Rattle.demands.specs.Demands.{Filed}
+use Rattle.demands.proofs.RefusalLaws.{cond-true, cond-false, load-done}
 
 -- the map in the file of a well-formed map is like it
 module _ (n N : ℕ) (t : List ℕ) (h : Holds n N t) (small : (i : ℕ) → getD t i 0 < 4294967296) where
@@ -110,73 +109,70 @@ module _ (n N : ℕ) (b : List ℕ) (small : n ≤ 3) (form : fileForm n N b ≡
   }
 
 -- so a load that is done leaves them
-pub load-filed : (n N : ℕ) (t b : List ℕ) (r : Answer) (t′ : List ℕ) → FileLoaded n N t b r t′ → number r ≡ 0 → Filed n N b t′
-load-filed n N t b r t′ p e =
-    let done = load-done n N t b (sym (p .answer .sameNumber) ∙ e) in
-    subst (Filed n N b) (sym (p .table ∙ done .2)) (filed n N b (dimension-small n N t (done .0)) (done .1))
+pub load-filed : (n N : ℕ) (t b : List ℕ) → number (loadAnswer n N t b) ≡ 0 → Filed n N b (loadTable n N t b)
+load-filed n N t b e =
+    let done = load-done n N t b e in
+    subst (Filed n N b) (sym (done .2)) (filed n N b (dimension-small n N t (done .0)) (done .1))
 
 -- a write that is not refused has room for the file of a well-formed map, and leaves it
-module _ (n N : ℕ) (t out : List ℕ) where
-  write-holds : writeFault n N t out ≡ none → Holds n N t
-  unfolding writeFault writeFaultAt tableFault
-  write-holds q = holds-of n N t (or-else-none _ _ q .0)
+module _ (n N : ℕ) (t : List ℕ) (l : Lent) where
+  abbrev out : List ℕ
+  out = l .output
 
-  write-free : Holds n N t → ltb (length out) (length (file n (view N t))) ≡ false → writeFault n N t out ≡ none
-  unfolding writeFault writeFaultAt tableFault _orElse_ someIf
-  write-free h room = rw (holds-free n N t h, room) refl
+  pub write-holds : writeFault n N t out ≡ none → Holds n N t × (length (file n (view N t)) ≤ length out)
+  unfolding writeFault
+  write-holds q =
+      let p = output-passed _ n (view N t) _ out q in
+      (record { sizes = p .0; well = wellFormed-iff n (view N t) .0 (p .1) }, p .2)
 
-  write-leaves : writeFault n N t out ≡ none → writtenFile n N t out ≡ file n (view N t)
+  write-free : Holds n N t → length (file n (view N t)) ≤ length out → writeFault n N t out ≡ none
+  unfolding writeFault outputFaultAt tableFault _orElse_ someIf
+  write-free h room = rw (holds-free n N t h, le-ltb (length out) (length (file n (view N t))) room) refl
+
+  -- a well-formed map with room for its file is written
+  pub write-done : Holds n N t → length (file n (view N t)) ≤ length out
+      → (writeAnswer n N t out ≡ Written (length (file n (view N t)))) × (writeOut n N t out ≡ file n (view N t) ++ drop (length (file n (view N t))) out)
+  unfolding writeAnswer writeOut there
+  write-done h room = let free = write-free h room in (rw free refl, rw free refl)
+
+  -- what has been written is the file
+  write-leaves : writeFault n N t out ≡ none → written write (outcomeOf n N t write l) ≡ file n (view N t)
   unfolding there
-  write-leaves free = written-file n N t out ∙ cond-false _ _ _ (ap there free)
+  write-leaves free = write-written n N t l ∙ cond-false _ _ _ (ap there free)
 
--- a well-formed map with room for its file is written
-pub write-done : (n N : ℕ) (t out : List ℕ) → Holds n N t → length (file n (view N t)) ≤ length out
-    → (writeAnswer n N t out ≡ Written (length (file n (view N t)))) × (writeOut n N t out ≡ file n (view N t) ++ drop (length (file n (view N t))) out)
-unfolding writeAnswer writeOut there
-write-done n N t out h room =
-    let free : writeFault n N t out ≡ none = write-free n N t out h (le-ltb (length out) (length (file n (view N t))) room) in
-    (rw free refl, rw free refl)
-
--- what a promised write leaves in the output, by the count that it answers
-promised-file : (n N : ℕ) (t out : List ℕ) (r : Answer) (out′ : List ℕ) → FileWritten n N t out r out′
-    → take (getD (values r) 0 0) out′ ≡ writtenFile n N t out
-promised-file n N t out r out′ p i = take (getD (p .answer .sameValues i) 0 0) (p .output i)
-
-pub written-loaded : (n N : ℕ) (t out : List ℕ) (r : Answer) (out′ : List ℕ) → FileWritten n N t out r out′ → number r ≡ 0
-    → ((i : ℕ) → getD t i 0 < 4294967296)
-    → (u : List ℕ) (r₂ : Answer) (u′ : List ℕ) → length u ≡ length t → FileLoaded n N u (take (getD (values r) 0 0) out′) r₂ u′
-    → (r₃ : Answer) → TableChecked n N u′ r₃ → (number r₂ ≡ 0) × (number r₃ ≡ 0) × AlikeTables n N t u′
+-- the file of a well-formed map is loaded again, and passes the check
+pub written-loaded : (n N : ℕ) (t : List ℕ) (l : Lent) → number (writeAnswer n N t (l .output)) ≡ 0 → ((i : ℕ) → getD t i 0 < 4294967296)
+    → (u : List ℕ) → length u ≡ length t → let b = written write (outcomeOf n N t write l) in
+    (number (loadAnswer n N u b) ≡ 0) × (number (checkTable n N (loadTable n N u b)) ≡ 0) × AlikeTables n N t (loadTable n N u b)
 unfolding writeAnswer fileMap
-written-loaded n N t out r out′ p e small u r₂ u′ len q r₃ c =
-    let free : writeFault n N t out ≡ none = done-none _ _ (write-within n N t out) (omega arith) (sym (p .answer .sameNumber) ∙ e) in
-    let h = write-holds n N t out free in
-    let b : List ℕ = file n (view N t) in
-    let taken : take (getD (values r) 0 0) out′ ≡ b = promised-file n N t out r out′ p ∙ write-leaves n N t out free in
-    let p₂ : FileLoaded n N u b r₂ u′ = subst (λ (l : List ℕ). FileLoaded n N u l r₂ u′) taken q in
+written-loaded n N t l e small u len =
+    let free : writeFault n N t (l .output) ≡ none = answered-free _ _ e in
+    let h = write-holds n N t l free .0 in
     let loads = load-free n N t h small u (sizes-too n N t (h .sizes) u len) in
-    let table : u′ ≡ tableOf (fileMap n N b) = p₂ .table ∙ load-done n N u b loads .2 in
-    let h₂ : Holds n N u′ = subst (Holds n N) (sym table) (words-hold n N t (h .sizes) (fileMap n N b) refl (file-well n N t h small)) in (
-      p₂ .answer .sameNumber ∙ loads,
-      c .answer .sameNumber ∙ holds-iff n N u′ .0 h₂,
+    let table : loadTable n N u (file n (view N t)) ≡ tableOf (fileMap n N (file n (view N t))) = load-done n N u (file n (view N t)) loads .2 in
+    let held : Holds n N (loadTable n N u (file n (view N t))) =
+    subst (Holds n N) (sym table) (words-hold n N t (h .sizes) (fileMap n N (file n (view N t))) refl (file-well n N t h small)) in
+    subst (λ (b : List ℕ). (number (loadAnswer n N u b) ≡ 0) × (number (checkTable n N (loadTable n N u b)) ≡ 0) × AlikeTables n N t (loadTable n N u b))
+    (sym (write-leaves n N t l free)) (
+      loads,
+      holds-iff n N (loadTable n N u (file n (view N t))) .0 held,
       record {
         one = holds-slotted n N t h;
-        other = holds-slotted n N u′ h₂;
-        alike = subst (λ (l : List ℕ). Alike (view N t) (view N l)) (sym table) (table-alike n N t h small);
+        other = holds-slotted n N (loadTable n N u (file n (view N t))) held;
+        alike = subst (λ (v : List ℕ). Alike (view N t) (view N v)) (sym table) (table-alike n N t h small);
       },
     )
 
-pub accepted-written : (n N : ℕ) (t b t′ : List ℕ) → FileAccepted ours n N t b t′ → ((i : ℕ) → getD b i 0 < 256)
-    → (out : List ℕ) (r : Answer) (out′ : List ℕ) → length b ≤ length out → FileWritten n N t′ out r out′
-    → (number r ≡ 0) × (take (getD (values r) 0 0) out′ ≡ b)
-unfolding writeAnswer
-accepted-written n N t b t′ a bytes out r out′ len q =
-    let done = load-done n N t b (sym (a .loads .answer .sameNumber) ∙ a .loaded) in
-    let table : t′ ≡ tableOf (fileMap n N b) = a .loads .table ∙ done .2 in
-    let h : Holds n N t′ = holds-iff n N t′ .1 (sym (a .checks .answer .sameNumber) ∙ a .passes) in
-    let same : file n (view N t′) ≡ b = ap (λ (l : List ℕ). file n (view N l)) table
+-- a file that is loaded and passes the check is written back byte for byte
+pub accepted-written : (n N : ℕ) (t b : List ℕ) → number (loadAnswer n N t b) ≡ 0 → number (checkTable n N (loadTable n N t b)) ≡ 0
+    → ((i : ℕ) → getD b i 0 < 256) → (l : Lent) → length b ≤ length (l .output) → let o = outcomeOf n N (loadTable n N t b) write l in
+    (number (o .answer) ≡ 0) × (written write o ≡ b)
+accepted-written n N t b loads passes bytes l len =
+    let done = load-done n N t b loads in
+    let h : Holds n N (loadTable n N t b) = holds-iff n N (loadTable n N t b) .1 passes in
+    let same : file n (view N (loadTable n N t b)) ≡ b = ap (λ (u : List ℕ). file n (view N u)) (done .2)
     ∙ one-file n N b (dimension-small n N t (done .0)) ∙ written-back n N b (done .1) bytes in
-    let room : ltb (length out) (length (file n (view N t′))) ≡ false = ap (λ (l : List ℕ). ltb (length out) (length l)) same ∙ le-ltb _ _ len in
-    let free : writeFault n N t′ out ≡ none = write-free n N t′ out h room in (
-      q .answer .sameNumber ∙ ap (λ (o : Option Answer). number (Option·getD o (Written (length (file n (view N t′)))))) free,
-      promised-file n N t′ out r out′ q ∙ write-leaves n N t′ out free ∙ same,
+    let room : length (file n (view N (loadTable n N t b))) ≤ length (l .output) = subst (λ (c : List ℕ). length c ≤ length (l .output)) (sym same) len in (
+      ap number (write-done n N (loadTable n N t b) l h room .0),
+      write-leaves n N (loadTable n N t b) l (write-free n N (loadTable n N t b) l h room) ∙ same,
     )

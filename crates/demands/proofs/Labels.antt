@@ -8,8 +8,8 @@ use Rattle.model.specs.Map.{Field, State, Tag, fieldAt, fieldOf, dimension, vie
 use Rattle.model.specs.Edit.{rank}
 use Rattle.model.specs.Label.{Label, own, given}
 use Rattle.model.specs.Answer.{number}
+use Rattle.model.specs.Sequence.{edit, Lent, Outcome}
 use Rattle.model.specs.declared.Darts.{Darts}
-use Rattle.model.specs.declared.Answer.{Answer}
 use Rattle.model.proofs.MapLaws.{field-words}
 use Rattle.model.proofs.LabelLaws.{label-follows}
 use Rattle.demands.specs.Kernel.{Kernel}
@@ -19,13 +19,16 @@ use Rattle.demands.specs.Demands.{Demand2}
 use Rattle.demands.specs.Labels.{Labelled, Tagged, LabelsFollow}
 use Rattle.demands.proofs.Demands.{demand2}
 
-module _ (K : Kernel) (D : Demand2 K) (n N : ℕ) (t store b : List ℕ) (d : Darts) (r : Answer) (t′ store′ : List ℕ)
-    (p : K .Edit n N t store b d r t′ store′) (done : number r ≡ 0) where
+module _ (K : Kernel) (D : Demand2 K) (n N : ℕ) (t b : List ℕ) (d : Darts) (l : Lent) (o : Outcome) (p : K .Does n N t (edit b d) l o)
+    (done : number (o .answer) ≡ 0) where
+  abbrev t′ : List ℕ
+  t′ = o .table
+
   edit-labelled : Labelled N t b d t′
   unfolding rank
   edit-labelled =
-      let a = D .onlyThen n N t store b d r t′ store′ p done in
-      let e = D .edits n N t store b d r t′ store′ p a in
+      let a = D .onlyThen n N t b d l o p done in
+      let e = D .edits n N t b d l o p a in
       let word : (f : Field) → dimension f ≤ 3 → (x : ℕ) → x < N → fieldAt t′ f x ≡ fieldOf (e .new) f x = λ f l x h.
       ap (λ (w : List ℕ). fieldAt w f x) (e .table) ∙ field-words (e .new) x (subst (λ (k : ℕ). x < k) (sym (e .rewriting .slots)) h) f l in
       record {

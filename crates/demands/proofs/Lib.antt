@@ -8,4 +8,5 @@ pub mod RefineLaws
 pub mod RunLaws
 pub mod Demands
 pub mod Labels
+pub mod Settled
 pub mod WrongKernels

@@ -1,34 +1,29 @@
--- One outcome: two outcomes that a call's promise allows are equal, in the answer and in every buffer.
--- Assumes nothing.
+-- One outcome: two outcomes of a request that the promise allows are equal, in the answer, the table and what was lent.
 use Prim.Native.Nat.{ℕ}
 use mathlib.Core.Path.{_≡_, sym, _∙_}
 use mathlib.Core.List.{List}
-use Rattle.model.specs.Answer.{Answers}
-use Rattle.model.specs.declared.Darts.{Darts}
+use Rattle.model.specs.Sequence.{Request, Lent, Outcome}
 use Rattle.model.specs.declared.Answer.{Answer}
-use Rattle.model.proofs.AnswerLaws.{answers-same}
-use Rattle.demands.specs.Promises.{TableChecked, SchemeChecked, MapEdited, MapCounted, FileLoaded, FileWritten}
+use Rattle.demands.specs.Promises.{Promised, outcomeWith}
 
-one-answer : {r r₂ a : Answer} → Answers r a → Answers r₂ a → r ≡ r₂
-one-answer p q = answers-same p ∙ sym (answers-same q)
+pub one-outcome : (n N : ℕ) (t : List ℕ) (q : Request) (l : Lent) (o p : Outcome) → Promised n N t q l o → Promised n N t q l p → o ≡ p
+one-outcome n N t q l o p a b = a ∙ sym b
 
-pub one-table-check : {n N : ℕ} {t : List ℕ} {r r₂ : Answer} → TableChecked n N t r → TableChecked n N t r₂ → r ≡ r₂
-one-table-check p q = one-answer (p .answer) (q .answer)
+-- ---- outcomes part by part
 
-pub one-scheme-check : {b : List ℕ} {r r₂ : Answer} → SchemeChecked b r → SchemeChecked b r₂ → r ≡ r₂
-one-scheme-check p q = one-answer (p .answer) (q .answer)
+-- outcomes with equal parts are equal
+pub same-outcome : {r a : Answer} {t u store s out o : List ℕ} → r ≡ a → t ≡ u → store ≡ s → out ≡ o → outcomeWith r t store out ≡ outcomeWith a u s o
+same-outcome p q v w i = outcomeWith (p i) (q i) (v i) (w i)
 
-pub one-edit : {n N : ℕ} {t store b : List ℕ} {d : Darts} {r r₂ : Answer} {t′ t₂ store′ store₂ : List ℕ}
-    → MapEdited n N t store b d r t′ store′ → MapEdited n N t store b d r₂ t₂ store₂ → (r ≡ r₂) × (t′ ≡ t₂) × (store′ ≡ store₂)
-one-edit p q = (one-answer (p .answer) (q .answer), p .table ∙ sym (q .table), p .cleared ∙ sym (q .cleared))
+-- and the other way
+pub answer-of : {o p : Outcome} → o ≡ p → o .answer ≡ p .answer
+answer-of e i = e i .answer
 
-pub one-count : {n N : ℕ} {t store : List ℕ} {r r₂ : Answer} {store′ store₂ : List ℕ}
-    → MapCounted n N t store r store′ → MapCounted n N t store r₂ store₂ → (r ≡ r₂) × (store′ ≡ store₂)
-one-count p q = (one-answer (p .answer) (q .answer), p .cleared ∙ sym (q .cleared))
+pub table-of : {o p : Outcome} → o ≡ p → o .table ≡ p .table
+table-of e i = e i .table
 
-pub one-load : {n N : ℕ} {t b : List ℕ} {r r₂ : Answer} {t′ t₂ : List ℕ} → FileLoaded n N t b r t′ → FileLoaded n N t b r₂ t₂ → (r ≡ r₂) × (t′ ≡ t₂)
-one-load p q = (one-answer (p .answer) (q .answer), p .table ∙ sym (q .table))
+pub store-of : {o p : Outcome} → o ≡ p → o .lent .store ≡ p .lent .store
+store-of e i = e i .lent .store
 
-pub one-write : {n N : ℕ} {t out : List ℕ} {r r₂ : Answer} {out′ out₂ : List ℕ}
-    → FileWritten n N t out r out′ → FileWritten n N t out r₂ out₂ → (r ≡ r₂) × (out′ ≡ out₂)
-one-write p q = (one-answer (p .answer) (q .answer), p .output ∙ sym (q .output))
+pub output-of : {o p : Outcome} → o ≡ p → o .lent .output ≡ p .lent .output
+output-of e i = e i .lent .output

@@ -1,10 +1,10 @@
--- Demand 1: each call answers with the first refusal of its list that applies, number and values, and is done where none does.
+-- Demand 1: each request is answered with the first refusal of its list that applies, and is done where none does.
 -- Assumes nothing.
 use Prim.Native.Nat.{ℕ, _+_, _*_, _≤_, _<_}
 use mathlib.Core.Path.{_≡_, refl, sym, ap, _∙_, subst}
 use mathlib.Core.Logic.{inl, inr, _↔_}
 use mathlib.Core.Bool.{Bool, true, false, not, true≢false}
-use mathlib.Core.Option.{Option, none, some, Option·getD}
+use mathlib.Core.Option.{Option, none, some}
 use mathlib.Core.List.{List, [], _∷_}
 use lib.ListN.{length}
 use lib.Dec.{eqb, ltb}
@@ -22,64 +22,60 @@ use Rattle.model.specs.Accepted.{Accepted}
 use Rattle.model.specs.Conditions.{hookFault, incidenceFault, cycleFault, schemeFault, noted}
 use Rattle.model.specs.Edit.{addedDarts, roomOf}
 use Rattle.model.specs.File.{file, fileForm}
-use Rattle.model.specs.Answer.{number, values}
+use Rattle.model.specs.Answer.{answered}
 use Rattle.model.specs.Site.{Site, Sound}
-use Rattle.model.specs.Calls.{Sizes, sizesOk, mapFault, tableFault, checkTable, bytesFault, checkScheme, takes, fitFault, siteFault, siteDone}
-use Rattle.model.specs.Calls.{siteOf, storedOk, editFaultAt, editFault, editAnswer, countFaultAt, countDone, countFault, countAnswer}
-use Rattle.model.specs.Calls.{loadFaultAt, loadFault, loadAnswer, writeFaultAt, writeFault, writeAnswer}
+use Rattle.model.specs.Calls.{sizesOk, mapFault, tableFault, checkTable, bytesFault, checkScheme, takes, fitFault, siteFault, siteDone}
+use Rattle.model.specs.Calls.{siteOf, storedOk, editFaultAt, editFault, editAnswer, outputFaultAt, countSize, countFault, countAnswer}
+use Rattle.model.specs.Calls.{loadFaultAt, loadFault, loadAnswer, writeFault, writeAnswer}
+use Rattle.model.specs.Sequence.{tableCheck, schemeCheck, edit, count, load, write, Lent}
 use Rattle.model.specs.declared.Darts.{Darts}
 use Rattle.model.specs.declared.Answer.{Answer}
-use Rattle.model.specs.declared.Answer.the-variants.{Done, BadHook, BadIncidence, ShortOutput}
+use Rattle.model.specs.declared.Answer.the-variants.{Done}
+use Rattle.model.specs.declared.Refusal.{Refusal}
+use Rattle.model.specs.declared.Refusal.the-variants.{BadCall, BadForm, BadHook, BadIncidence, OtherDimension, BadTable, NoDart, NoMatch, NoRoom}
+use Rattle.model.specs.declared.Refusal.the-variants.{BadFile, ShortOutput}
 use Rattle.model.proofs.WellFormedLaws.{wellFormed-iff}
 use Rattle.model.proofs.SizeLaws.{sizes-iff}
 use Rattle.model.proofs.CountLaws.{smallest-iff, all-but-small}
 use Rattle.model.proofs.SchemeLaws.{shaped}
 use Rattle.model.proofs.AcceptedLaws.{accepted, noted-at, noted-none}
 use Rattle.model.proofs.CallLaws.{darts-alone}
-use Rattle.demands.specs.Refusals.{Refusal, bare, FirstOf, Nothing, hookRefusal, incidenceRefusal, cycleRefusal, schemeRefusals}
-use Rattle.demands.specs.Refusals.{Matched, Crowded, tableRefusals, editRefusals, countRefusals, loadRefusals, writeRefusals}
-use Rattle.demands.specs.Demands.{Counted, Cells, Numbers}
+use Rattle.demands.specs.Refusals.{Rule, when, FirstOf, hookRule, incidenceRule, cycleRule, schemeRules, Matched, Crowded, Stored, broken, rulesOf}
+use Rattle.demands.specs.Demands.{Returned, Cells, Numbers}
 use Rattle.demands.proofs.FaultLaws.{hook-found, hook-nowhere, incidence-found, incidence-nowhere, cycle-found, cycle-nowhere}
 use Rattle.demands.proofs.FaultLaws.{many-iff, taken-iff, darts-iff, orbit-of, site-one, matched-iff}
+use Rattle.demands.proofs.RefusalLaws.{regroup}
 
--- ---- one refusal of a chain
+-- ---- one rule of a chain
 
--- c gives the answer of the refusal f where it applies, and r is what comes of the rest
-module _ (f : Refusal) (l : List Refusal) (D : List ℕ → Type 0) where
-  pub order-step : (c o : Option Answer) (done : Answer) → ((a : Answer) → c ≡ some a → (number a ≡ f .number) × f .Given (values a))
-      → (c ≡ none → (v : List ℕ) → f .Given v → ⊥) → (c ≡ none → FirstOf l D (Option·getD o done))
-      → FirstOf (f ∷ l) D (Option·getD (c orElse o) done)
+-- c gives the refusal of the rule r where it applies, and o is what comes of the rest
+module _ (r : Rule) (l : List Rule) (D : Answer → Type 0) where
+  order-step : (c o : Option Refusal) (done : Answer) → ((f : Refusal) → c ≡ some f → r f) → (c ≡ none → (f : Refusal) → r f → ⊥)
+      → (c ≡ none → FirstOf l D (answered done o)) → FirstOf (r ∷ l) D (answered done (c orElse o))
   unfolding FirstOf _orElse_
-  order-step none o done g n r = inr (n refl, r refl)
-  order-step (some a) o done g n r = inl (g a refl)
+  order-step none o done g n rest = inr (n refl, rest refl)
+  order-step (some f) o done g n rest = inl (f, refl, g f refl)
 
--- a bare refusal, given where P does not hold
-module _ (k : ℕ) {P : Type 0} (l : List Refusal) (D : List ℕ → Type 0) where
-  pub order-test : (t : Bool) → (t ≡ true) ↔ P → (a : Answer) (o : Option Answer) (done : Answer) → number a ≡ k → values a ≡ []
-      → (P → FirstOf l D (Option·getD o done)) → FirstOf (bare k (P → ⊥) ∷ l) D (Option·getD (someIf (not t) a orElse o) done)
+-- the refusal f, given where P does not hold
+module _ {P : Type 0} (f : Refusal) (l : List Rule) (D : Answer → Type 0) where
+  order-test : (t : Bool) → (t ≡ true) ↔ P → (o : Option Refusal) (done : Answer)
+      → (P → FirstOf l D (answered done o)) → FirstOf (when (P → ⊥) f ∷ l) D (answered done (someIf (not t) f orElse o))
   unfolding FirstOf someIf _orElse_
-  order-test true i a o done e z r = inr ((λ v g. g .0 (i .0 refl)), r (i .0 refl))
-  order-test false i a o done e z r = inl (e, ((λ p. true≢false (sym (i .1 p))), z))
+  order-test true i o done r = inr ((λ g h. h .0 (i .0 refl)), r (i .0 refl))
+  order-test false i o done r = inl (f, refl, ((λ p. true≢false (sym (i .1 p))), refl))
 
 -- the same where the test is at the end of the chain
-module _ (k : ℕ) {P : Type 0} (D : List ℕ → Type 0) where
-  pub order-end : (t : Bool) → (t ≡ true) ↔ P → (a done : Answer) → number a ≡ k → values a ≡ []
-      → (P → (number done ≡ 0) × D (values done)) → FirstOf (bare k (P → ⊥) ∷ []) D (Option·getD (someIf (not t) a) done)
+module _ {P : Type 0} (f : Refusal) (D : Answer → Type 0) where
+  order-end : (t : Bool) → (t ≡ true) ↔ P → (done : Answer) → (P → D done) → FirstOf (when (P → ⊥) f ∷ []) D (answered done (someIf (not t) f))
   unfolding FirstOf someIf
-  order-end true i a done e z r = inr ((λ v g. g .0 (i .0 refl)), r (i .0 refl))
-  order-end false i a done e z r = inl (e, ((λ p. true≢false (sym (i .1 p))), z))
+  order-end true i done r = inr ((λ g h. h .0 (i .0 refl)), r (i .0 refl))
+  order-end false i done r = inl (f, refl, ((λ p. true≢false (sym (i .1 p))), refl))
 
-  -- a bare refusal that is given where P holds
-  pub order-found : (t : Bool) → (t ≡ true) ↔ P → (a done : Answer) → number a ≡ k → values a ≡ []
-      → ((P → ⊥) → (number done ≡ 0) × D (values done)) → FirstOf (bare k P ∷ []) D (Option·getD (someIf t a) done)
+  -- the refusal f, given where P holds
+  order-found : (t : Bool) → (t ≡ true) ↔ P → (done : Answer) → ((P → ⊥) → D done) → FirstOf (when P f ∷ []) D (answered done (someIf t f))
   unfolding FirstOf someIf
-  order-found true i a done e z r = inl (e, (i .0 refl, z))
-  order-found false i a done e z r = let no : P → ⊥ = λ p. true≢false (sym (i .1 p)) in inr ((λ v g. no (g .0)), r no)
-
-regroup : (a b c : Option Answer) → (a orElse b) orElse c ≡ a orElse (b orElse c)
-unfolding _orElse_
-regroup none b c = refl
-regroup (some x) b c = refl
+  order-found true i done r = inl (f, refl, (i .0 refl, refl))
+  order-found false i done r = let no : P → ⊥ = λ p. true≢false (sym (i .1 p)) in inr ((λ g h. no (h .0)), r no)
 
 -- a test is what it says
 itself : (b : Bool) → (b ≡ true) ↔ (b ≡ true)
@@ -87,78 +83,130 @@ itself b = ((λ e. e), λ e. e)
 
 -- ---- refusals 2 to 5, before any others
 
-module _ (b : List ℕ) (l : List Refusal) (D : List ℕ → Type 0) (o : Option Answer) (done : Answer) where
-  conditions-order : inForm b ≡ true → (schemeFault (schemeOf b) ≡ none → FirstOf l D (Option·getD o done))
-      → FirstOf (hookRefusal (schemeOf b) ∷ incidenceRefusal (schemeOf b) ∷ cycleRefusal (schemeOf b) ∷ l) D
-      (Option·getD (schemeFault (schemeOf b) orElse o) done)
+module _ (b : List ℕ) (l : List Rule) (D : Answer → Type 0) (o : Option Refusal) (done : Answer) where
+  conditions-order : inForm b ≡ true → (schemeFault (schemeOf b) ≡ none → FirstOf l D (answered done o))
+      → FirstOf (hookRule (schemeOf b) ∷ incidenceRule (schemeOf b) ∷ cycleRule (schemeOf b) ∷ l) D (answered done (schemeFault (schemeOf b) orElse o))
   unfolding schemeFault _orElse_
   conditions-order form r =
       let S = schemeOf b in
-      subst (λ (c : Option Answer). FirstOf (hookRefusal S ∷ incidenceRefusal S ∷ cycleRefusal S ∷ l) D (Option·getD c done))
+      subst (λ (c : Option Refusal). FirstOf (hookRule S ∷ incidenceRule S ∷ cycleRule S ∷ l) D (answered done c))
       (sym (regroup (noted BadHook (hookFault S)) (noted BadIncidence (incidenceFault S) orElse cycleFault S) o
-      ∙ ap (λ (c : Option Answer). noted BadHook (hookFault S) orElse c) (regroup (noted BadIncidence (incidenceFault S)) (cycleFault S) o)))
-      (order-step (hookRefusal S) _ D (noted BadHook (hookFault S)) _ done
-      (λ a e. let q = noted-at BadHook _ a e in (ap number (sym (q .2)), (q .0, hook-found S (shaped b form) (q .0) (q .1), ap values (sym (q .2)))))
-      (λ e v g. hook-nowhere S (shaped b form) (noted-none BadHook _ e) (g .0) (g .1))
-      (λ noHook. order-step (incidenceRefusal S) _ D (noted BadIncidence (incidenceFault S)) _ done
-      (λ a e. let q = noted-at BadIncidence _ a e in (ap number (sym (q .2)), (q .0, incidence-found S (q .0) (q .1), ap values (sym (q .2)))))
-      (λ e v g. incidence-nowhere S (noted-none BadIncidence _ e) (g .0) (g .1))
-      (λ noIncidence. order-step (cycleRefusal S) l D (cycleFault S) o done
-      (λ a e. let q = cycle-found S a e in (ap number (q .4), (q .0, q .1, q .2, q .3, ap values (q .4))))
-      (λ e v g. cycle-nowhere S e (g .0) (g .1) (g .2) (g .3))
+      ∙ ap (λ (c : Option Refusal). noted BadHook (hookFault S) orElse c) (regroup (noted BadIncidence (incidenceFault S)) (cycleFault S) o)))
+      (order-step (hookRule S) _ D (noted BadHook (hookFault S)) _ done
+      (λ f e. let q = noted-at BadHook _ f e in (q .0, hook-found S (shaped b form) (q .0) (q .1), sym (q .2)))
+      (λ e f g. hook-nowhere S (shaped b form) (noted-none BadHook _ e) (g .0) (g .1))
+      (λ noHook. order-step (incidenceRule S) _ D (noted BadIncidence (incidenceFault S)) _ done
+      (λ f e. let q = noted-at BadIncidence _ f e in (q .0, incidence-found S (q .0) (q .1), sym (q .2)))
+      (λ e f g. incidence-nowhere S (noted-none BadIncidence _ e) (g .0) (g .1))
+      (λ noIncidence. order-step (cycleRule S) l D (cycleFault S) o done
+      (λ f e. cycle-found S f e)
+      (λ e f g. cycle-nowhere S e (g .0) (g .1) (g .2) (g .3))
       (λ noCycle. r (rw (noHook, noIncidence) noCycle)))))
 
   -- 2 is given for bytes that are not as P asks, which is the form at least
-  pub bytes-order : {P : Type 0} (taken : Bool) → (taken ≡ true) ↔ P → (P → inForm b ≡ true)
-      → (P → Accepted (schemeOf b) → FirstOf l D (Option·getD o done))
-      → FirstOf (schemeRefusals P b l) D (Option·getD (bytesFault taken b orElse o) done)
+  bytes-order : {P : Type 0} (taken : Bool) → (taken ≡ true) ↔ P → (P → inForm b ≡ true)
+      → (P → Accepted (schemeOf b) → FirstOf l D (answered done o))
+      → FirstOf (schemeRules P b l) D (answered done (bytesFault taken b orElse o))
   unfolding bytesFault
   bytes-order {P} taken is form r =
-      subst (λ (c : Option Answer). FirstOf (schemeRefusals P b l) D (Option·getD c done)) (sym (regroup _ (schemeFault (schemeOf b)) o))
-      (order-test 2 _ D taken is _ _ done refl refl
+      subst (λ (c : Option Refusal). FirstOf (schemeRules P b l) D (answered done c)) (sym (regroup _ (schemeFault (schemeOf b)) o))
+      (order-test BadForm _ D taken is _ done
       (λ p. conditions-order (form p) (λ e. r p (accepted (schemeOf b) (shaped b (form p)) e))))
 
--- ---- the calls
+-- ---- a table check and a scheme check
 
 module _ (n N : ℕ) (t : List ℕ) where
-  -- refusals 1 and 7, before any others
-  table-chain : (l : List Refusal) (D : List ℕ → Type 0) (o : Option Answer) (done : Answer)
-      → (Sizes n N t → WellFormed n (view N t) → FirstOf l D (Option·getD o done))
-      → FirstOf (tableRefusals n N t l) D (Option·getD (tableFault n N t orElse o) done)
-  unfolding tableFault mapFault
-  table-chain l D o done r =
-      subst (λ (c : Option Answer). FirstOf (tableRefusals n N t l) D (Option·getD c done)) (sym (regroup _ _ o))
-      (order-test 1 _ D (sizesOk n N t) (sizes-iff n N t) _ _ done refl refl
-      (λ s. order-test 7 l D _ (wellFormed-iff n (view N t)) _ o done refl refl (r s)))
+  -- refusals 1 and 7, before any others; `fit` says whether the sizes are as P asks
+  map-order : {P : Type 0} (fit : Bool) → (fit ≡ true) ↔ P → (l : List Rule) (D : Answer → Type 0) (o : Option Refusal) (done : Answer)
+      → (WellFormed n (view N t) → FirstOf l D (answered done o))
+      → FirstOf (when (P → ⊥) BadCall ∷ broken n N t ∷ l) D (answered done (mapFault fit n (view N t) orElse o))
+  unfolding mapFault
+  map-order {P} fit is l D o done r =
+      subst (λ (c : Option Refusal). FirstOf (when (P → ⊥) BadCall ∷ broken n N t ∷ l) D (answered done c)) (sym (regroup _ _ o))
+      (order-test BadCall _ D fit is _ done (λ s. order-test BadTable l D _ (wellFormed-iff n (view N t)) o done r))
 
-  pub table-order : FirstOf (tableRefusals n N t []) Nothing (checkTable n N t)
-  unfolding checkTable FirstOf
-  table-order = subst (λ (c : Option Answer). FirstOf (tableRefusals n N t []) Nothing (Option·getD c Done)) (or-else-last (tableFault n N t))
-      (table-chain [] Nothing none Done (λ s w. (refl, refl)))
+  pub table-order : (l : Lent) → FirstOf (rulesOf n N t tableCheck l) (Returned n N t tableCheck) (checkTable n N t)
+  unfolding checkTable tableFault FirstOf
+  table-order l =
+      subst (λ (c : Option Refusal). FirstOf (rulesOf n N t tableCheck l) (Returned n N t tableCheck) (answered Done c)) (or-else-last (tableFault n N t))
+      (map-order (sizesOk n N t) (sizes-iff n N t) [] (Returned n N t tableCheck) none Done (λ w. refl))
 
-pub scheme-order : (b : List ℕ) → FirstOf (schemeRefusals (inForm b ≡ true) b []) Nothing (checkScheme b)
-unfolding checkScheme FirstOf
-scheme-order b = subst (λ (c : Option Answer). FirstOf (schemeRefusals (inForm b ≡ true) b []) Nothing (Option·getD c Done))
-    (or-else-last (bytesFault (inForm b) b))
-    (bytes-order b [] Nothing none Done (inForm b) (itself (inForm b)) (λ f. f) (λ f a. (refl, refl)))
+  pub scheme-order : (b : List ℕ) (l : Lent) → FirstOf (rulesOf n N t (schemeCheck b) l) (Returned n N t (schemeCheck b)) (checkScheme b)
+  unfolding checkScheme FirstOf
+  scheme-order b l =
+      subst (λ (c : Option Refusal). FirstOf (rulesOf n N t (schemeCheck b) l) (Returned n N t (schemeCheck b)) (answered Done c))
+      (or-else-last (bytesFault (inForm b) b))
+      (bytes-order b [] (Returned n N t (schemeCheck b)) none Done (inForm b) (itself (inForm b)) (λ f. f) (λ f a. refl))
 
-module _ (n N : ℕ) (t b : List ℕ) where
-  pub load-order : FirstOf (loadRefusals n N t b) Nothing (loadAnswer n N t b)
+  -- ---- a load
+
+  pub load-order : (b : List ℕ) (l : Lent) → FirstOf (rulesOf n N t (load b) l) (Returned n N t (load b)) (loadAnswer n N t b)
   unfolding loadAnswer loadFault loadFaultAt
-  load-order = order-test 1 _ Nothing (sizesOk n N t) (sizes-iff n N t) _ _ Done refl refl
-      (λ s. order-end 11 Nothing (fileForm n N b) (itself (fileForm n N b)) _ Done refl refl (λ f. (refl, refl)))
+  load-order b l = order-test BadCall _ (Returned n N t (load b)) (sizesOk n N t) (sizes-iff n N t) _ Done
+      (λ s. order-end BadFile (Returned n N t (load b)) (fileForm n N b) (itself (fileForm n N b)) Done (λ f. refl))
 
-module _ (n N : ℕ) (t out : List ℕ) where
-  pub write-order : FirstOf (writeRefusals n N t out) (λ v. v ≡ length (file n (view N t)) ∷ []) (writeAnswer n N t out)
-  unfolding writeAnswer writeFault writeFaultAt tableFault
-  write-order = table-chain n N t _ _ _ _ (λ s w. order-found 12 _ (ltb (length out) (length (file n (view N t))))
-      ((λ e. ltb-true _ _ e), (λ e. lt-ltb _ _ e)) _ _ refl refl (λ no. (refl, refl)))
+  -- ---- a count and a write
 
-sizes-store : (n N : ℕ) (t store : List ℕ) → (storedOk n N t store ≡ true) ↔ (Sizes n N t × (length store ≡ 16 * N))
-sizes-store n N t store = (
-  (λ e. (sizes-iff n N t .0 (and-left _ _ e), eqb-true _ _ (and-right _ _ e))),
-  (λ p. and-of (sizes-iff n N t .1 (p .0)) (eq-eqb _ _ (p .1))),
-)
+  -- refusals 1, 7 and 12, where the output is to hold `size` numbers or bytes
+  output-order : {P : Type 0} (fit : Bool) → (fit ≡ true) ↔ P → (size : ℕ) (out : List ℕ) (D : Answer → Type 0) (done : Answer) → D done
+      → FirstOf (when (P → ⊥) BadCall ∷ broken n N t ∷ when (length out < size) ShortOutput ∷ []) D
+      (answered done (outputFaultAt fit n (view N t) size out))
+  unfolding outputFaultAt
+  output-order fit is size out D done d = map-order fit is _ D _ done
+      (λ w. order-found ShortOutput D (ltb (length out) size) ((λ e. ltb-true _ _ e), (λ e. lt-ltb _ _ e)) done (λ no. d))
+
+  pub stored-iff : (store : List ℕ) → (storedOk n N t store ≡ true) ↔ Stored n N t store
+  stored-iff store = (
+    (λ e. (sizes-iff n N t .0 (and-left _ _ e), eqb-true _ _ (and-right _ _ e))),
+    (λ p. and-of (sizes-iff n N t .1 (p .0)) (eq-eqb _ _ (p .1))),
+  )
+
+  pub count-order : (l : Lent) → FirstOf (rulesOf n N t count l) (Returned n N t count) (countAnswer n N t (l .store) (l .output))
+  unfolding countAnswer countFault
+  count-order l = output-order _ (stored-iff (l .store)) countSize (l .output) (Returned n N t count) Done refl
+
+  pub write-order : (l : Lent) → FirstOf (rulesOf n N t write l) (Returned n N t write) (writeAnswer n N t (l .output))
+  unfolding writeAnswer writeFault
+  write-order l = output-order _ (sizes-iff n N t) (length (file n (view N t))) (l .output) (Returned n N t write) _ refl
+
+-- ---- an edit
+
+module _ (n N : ℕ) (t b : List ℕ) (d : Darts) (l : Lent) where
+  abbrev D : Answer → Type 0
+  D = Returned n N t (edit b d)
+
+  dimension-iff : (eqb (schemeOf b .n) n ≡ true) ↔ (schemeOf b .n ≡ n)
+  dimension-iff = (eqb-true _ _, eq-eqb _ _)
+
+  -- refusals 9 and 10
+  fit-order : Sound (siteOf N t b d)
+      → FirstOf (when (Matched N t b d → ⊥) NoMatch ∷ when (Crowded N t b d) NoRoom ∷ []) D (answered (siteDone (siteOf N t b d)) (fitFault (siteOf N t b d)))
+  unfolding fitFault siteDone
+  fit-order g =
+      let E = siteOf N t b d in
+      let o = orbit-of N t b d g in
+      order-test NoMatch _ D _ (matched-iff N t b d g) _ _
+      (λ m. order-found NoRoom D (ltb (roomOf E) (addedDarts E)) (
+        (λ e. record { orbit = E .orbit; isOrbit = o; few = ltb-true _ _ e }),
+        (λ c. lt-ltb _ _ (subst (λ (F : Site). roomOf F < addedDarts F) (site-one N t b d g (c .isOrbit)) (c .few))),
+      ) _ (λ no. (E .orbit, o, refl)))
+
+  pub edit-order : FirstOf (rulesOf n N t (edit b d) l) D (editAnswer n N t (l .store) b d)
+  unfolding editAnswer editFault editFaultAt siteFault
+  edit-order = order-test BadCall _ D _ (stored-iff n N t (l .store)) _ _
+      (λ s. bytes-order b _ D _ _ (takes d b) (taken-iff d b) (λ taken. taken .0)
+      (λ taken a. order-test OtherDimension _ D _ dimension-iff _ _
+      (λ same. order-test BadTable _ D _ (wellFormed-iff n (view N t)) _ _
+      (λ w. order-test NoDart _ D _ (darts-iff N t d) _ _
+      (λ p. fit-order (record {
+        accepted = a;
+        well = subst (λ (k : ℕ). WellFormed k (view N t)) (sym same) w;
+        dart = p .0;
+        other = p .1;
+        alone = darts-alone d (schemeOf b) (many-iff d (schemeOf b) .1 (taken .1));
+      }))))))
+
+-- ---- the numbers of a count
 
 -- the computed cells are the cells
 cells-are : (m : Map) (k : ℕ) (dim : ℕ → ℕ) (n : ℕ) → WellFormed n m → ((p : ℕ) → p < k → dim p ≤ n) → Cells m k dim (cells m k dim)
@@ -172,7 +220,7 @@ cells-only m k dim n w dims C = C .many ∙ count-same (m .slots) _ _ (λ x h.
     let i = smallest-iff m k dim n w dims x h in
     same-test _ _ (λ e. i .1 (C .is x h .0 e)) (λ e. C .is x h .1 (i .0 e)))
 
-numbers-are : (n N : ℕ) (t : List ℕ) → WellFormed n (view N t) → Numbers n N t (counts n (view N t))
+pub numbers-are : (n N : ℕ) (t : List ℕ) → WellFormed n (view N t) → Numbers n N t (counts n (view N t))
 unfolding counts
 numbers-are n N t w =
     let m = view N t in
@@ -186,48 +234,3 @@ numbers-are n N t w =
       volumes = λ e. rw (eq-eqb n 3 e) (cells-are m n (allBut 3) n w (all-but-small n 3));
       flat = λ e. rw (ne-eqb n 3 (λ u. absurd (omega arith))) refl;
     }
-
-module _ (n N : ℕ) (t store : List ℕ) where
-  -- where the numbers are asked for in no output, 12 is not given
-  count-found : WellFormed n (view N t)
-      → FirstOf [] (Numbers n N t) (Option·getD (someIf (not true) ShortOutput) (countDone (counts n (view N t))))
-  unfolding FirstOf someIf countDone counts
-  count-found w = (refl, numbers-are n N t w)
-
-  pub count-order : FirstOf (countRefusals n N t store) (Numbers n N t) (countAnswer n N t store true)
-  unfolding countAnswer countFault countFaultAt
-  count-order = order-test 1 _ (Numbers n N t) _ (sizes-store n N t store) _ _ _ refl refl
-      (λ s. order-test 7 [] (Numbers n N t) _ (wellFormed-iff n (view N t)) _ _ _ refl refl count-found)
-
-module _ (n N : ℕ) (t store b : List ℕ) (d : Darts) where
-  dimension-iff : (eqb (schemeOf b .n) n ≡ true) ↔ (schemeOf b .n ≡ n)
-  dimension-iff = (eqb-true _ _, eq-eqb _ _)
-
-  -- refusals 9 and 10
-  fit-order : Sound (siteOf N t b d)
-      → FirstOf (bare 9 (Matched N t b d → ⊥) ∷ bare 10 (Crowded N t b d) ∷ []) (Counted N t b d)
-      (Option·getD (fitFault (siteOf N t b d)) (siteDone (siteOf N t b d)))
-  unfolding fitFault siteDone
-  fit-order g =
-      let E = siteOf N t b d in
-      let o = orbit-of N t b d g in
-      order-test 9 _ (Counted N t b d) _ (matched-iff N t b d g) _ _ _ refl refl
-      (λ m. order-found 10 (Counted N t b d) (ltb (roomOf E) (addedDarts E)) (
-        (λ e. record { orbit = E .orbit; isOrbit = o; few = ltb-true _ _ e }),
-        (λ c. lt-ltb _ _ (subst (λ (F : Site). roomOf F < addedDarts F) (site-one N t b d g (c .isOrbit)) (c .few))),
-      ) _ _ refl refl (λ no. (refl, (E .orbit, o, refl))))
-
-  pub edit-order : FirstOf (editRefusals n N t store b d) (Counted N t b d) (editAnswer n N t store b d)
-  unfolding editAnswer editFault editFaultAt siteFault
-  edit-order = order-test 1 _ (Counted N t b d) _ (sizes-store n N t store) _ _ _ refl refl
-      (λ s. bytes-order b _ (Counted N t b d) _ _ (takes d b) (taken-iff d b) (λ taken. taken .0)
-      (λ taken a. order-test 6 _ (Counted N t b d) _ dimension-iff _ _ _ refl refl
-      (λ same. order-test 7 _ (Counted N t b d) _ (wellFormed-iff n (view N t)) _ _ _ refl refl
-      (λ w. order-test 8 _ (Counted N t b d) _ (darts-iff N t d) _ _ _ refl refl
-      (λ p. fit-order (record {
-        accepted = a;
-        well = subst (λ (k : ℕ). WellFormed k (view N t)) (sym same) w;
-        dart = p .0;
-        other = p .1;
-        alone = darts-alone d (schemeOf b) (many-iff d (schemeOf b) .1 (taken .1));
-      }))))))

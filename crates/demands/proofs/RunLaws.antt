@@ -7,13 +7,13 @@ use mathlib.Core.List.{List, Forall₂, Forall₂·nil, Forall₂·cons}
 use Rattle.model.specs.Sequence.{AlikeTables, BothHold, SameCall, Event, knownOf, AlikeEvents}
 use Rattle.model.proofs.SequenceLaws.{alike-tables}
 use Rattle.demands.specs.Kernel.{Kernel}
-use Rattle.demands.specs.Runs.{Allowed, Run, end, next, AlikeFrom, alikeEnd, alikeNext, AlikeRuns}
+use Rattle.demands.specs.Runs.{Run, end, next, AlikeFrom, alikeEnd, alikeNext, AlikeRuns}
 
 -- the same call of alike maps, which are well-formed where they are known to be, leaves such maps
 abbrev pub AlikeCall : Kernel → Type 0
 AlikeCall K = (n N : ℕ) (t t′ : List ℕ) → AlikeTables n N t t′ → (known : Bool) → (known ≡ true → BothHold n N t t′) → (e e′ : Event)
-    → SameCall (e .call) (e′ .call) → Allowed K n N t (e .call .request) (e .call .lent) (e .outcome)
-    → Allowed K n N t′ (e′ .call .request) (e′ .call .lent) (e′ .outcome) → AlikeEvents n N (knownOf known e) e e′
+    → SameCall (e .call) (e′ .call) → K .Does n N t (e .call .request) (e .call .lent) (e .outcome)
+    → K .Does n N t′ (e′ .call .request) (e′ .call .lent) (e′ .outcome) → AlikeEvents n N (knownOf known e) e e′
 
 module _ (K : Kernel) (call : AlikeCall K) where
   alike-from : (n N : ℕ) (t t′ : List ℕ) → AlikeTables n N t t′ → (known : Bool) → (known ≡ true → BothHold n N t t′) → (s s′ : List Event)

@@ -1,13 +1,13 @@
--- The customer's three demands, as predicates on a kernel. Ours, whose relations are the calls' `ensures`, meets them (proofs/Demands.antt), and
--- so does what a program in C sees of it (proofs/Exports.antt); kernels that demand 2 shuts out are in proofs/WrongKernels.antt.
+-- The customer's three demands, as predicates on a kernel. Ours meets them (proofs/Demands.antt), and so does what a program in C sees of it
+-- (`exported1` to `exported3` of crates/exports/proofs/Exports.antt). A kernel that meets demands 1 and 2 allows no outcome but ours
+-- (proofs/Settled.antt); some that do not meet them are in proofs/WrongKernels.antt.
 -- That no call faults or runs on is no statement here: it is part of what proving a function means.
--- Assumes nothing.
 use Prim.Native.Nat.{ℕ, _+_, _*_, _≤_, _<_}
 use mathlib.Core.Path.{_≡_}
 use mathlib.Core.Logic.{_↔_}
 use mathlib.Core.Bool.{Bool, true}
-use mathlib.Core.List.{List, [], _∷_, _++_}
-use lib.ListN.{length, getD, take, drop, replicate}
+use mathlib.Core.List.{List, _++_}
+use lib.ListN.{length, getD, drop, replicate}
 use Rattle.base.specs.Below.{countBelow}
 use Rattle.model.specs.Map.{Map, Field, State, Link, Tag, fieldAt, tableSize, view, tableOf, live}
 use Rattle.model.specs.WellFormed.{WellFormed}
@@ -19,25 +19,33 @@ use Rattle.model.specs.Site.{Site, LiveDart}
 use Rattle.model.specs.Edit.{orbitSize, addedDarts, deletedDarts, roomOf}
 use Rattle.model.specs.Rewriting.{Rewriting}
 use Rattle.model.specs.File.{file, darts, slotAt, tagAt, linkAt}
-use Rattle.model.specs.Answer.{number, values}
+use Rattle.model.specs.Answer.{number}
 use Rattle.model.specs.Calls.{Sizes, firstDart, secondDart}
-use Rattle.model.specs.Sequence.{Holds, AlikeTables}
+use Rattle.model.specs.Sequence.{Holds, AlikeTables, Request, tableCheck, schemeCheck, edit, count, load, write, Lent, Outcome, written}
 use Rattle.model.specs.declared.Darts.{Darts}
+use Rattle.model.specs.declared.Refusal.the-variants.{NoMatch}
 use Rattle.model.specs.declared.Answer.{Answer}
+use Rattle.model.specs.declared.Answer.the-variants.{Done, Edited, Written, Refused}
 use Rattle.demands.specs.Kernel.{Kernel}
 use Rattle.demands.specs.Runs.{AlikeRuns}
-use Rattle.demands.specs.Refusals.{FirstOf, Nothing, tableRefusals, schemeRefusals, editRefusals, countRefusals, loadRefusals, writeRefusals}
-use Rattle.demands.specs.Refusals.{AsMany, Orbit, siteOver, Matched}
+use Rattle.demands.specs.Refusals.{FirstOf, rulesOf, AsMany, Orbit, siteOver, Matched}
 
--- ---- demand 1
+-- ---- demand 1: what is returned
 
 -- the size of O, darts added and darts deleted
-abbrev pub counts : Site → List ℕ
-counts E = orbitSize E ∷ addedDarts E ∷ deletedDarts E ∷ []
+abbrev pub doneAt : Site → Answer
+doneAt E = Edited (orbitSize E) (addedDarts E) (deletedDarts E)
 
--- what an edit that is done returns
-abbrev pub Counted : ℕ → List ℕ → List ℕ → Darts → List ℕ → Type 0
-Counted N t b D v = (O : ℕ → Bool) × Orbit N t b D O × (v ≡ counts (siteOver N t b D O))
+-- what a request that is done returns: an edit its three counts, a write the length of the file, every other nothing
+abbrev pub Returned : ℕ → ℕ → List ℕ → Request → Answer → Type 0
+Returned n N t tableCheck a = a ≡ Done
+Returned n N t (schemeCheck b) a = a ≡ Done
+Returned n N t (edit b D) a = (O : ℕ → Bool) × Orbit N t b D O × (a ≡ doneAt (siteOver N t b D O))
+Returned n N t count a = a ≡ Done
+Returned n N t (load b) a = a ≡ Done
+Returned n N t write a = a ≡ Written (length (file n (view N t)))
+
+-- ---- demand 1: what is left
 
 -- c is the number of orbits of a type, each counted by its smallest dart: a live one from which no smaller one is reached
 pub record Cells (m : Map) (k : ℕ) (dim : ℕ → ℕ) (c : ℕ) : Type 0 where
@@ -45,7 +53,7 @@ pub record Cells (m : Map) (k : ℕ) (dim : ℕ → ℕ) (c : ℕ) : Type 0 wher
   pub is : (x : ℕ) → x < m .slots → (smallest x ≡ true) ↔ ((m .state x ≡ 1) × ((y : ℕ) → y < x → InOrbit m k dim x y → ⊥))
   pub many : c ≡ countBelow (m .slots) smallest
 
--- what a count that is done returns: live darts, vertices, edges, faces, pieces, volumes
+-- the six numbers of a count: live darts, vertices, edges, faces, pieces, volumes
 pub record Numbers (n N : ℕ) (t v : List ℕ) : Type 0 where
   pub six : length v ≡ 6
   pub darts : getD v 0 0 ≡ countBelow N (live (view N t))
@@ -67,34 +75,56 @@ pub record Filed (n N : ℕ) (b t′ : List ℕ) : Type 0 where
   -- every word of every other record is zero
   pub zero : (x : ℕ) → x < N → ((k : ℕ) → k < darts b → slotAt b k ≡ x → ⊥) → (f : Field) → fieldAt t′ f x ≡ 0
 
+-- a working store comes back zero, and after refusal 1 as it was
+pub record Cleared (store : List ℕ) (o : Outcome) : Type 0 where
+  pub afterOne : number (o .answer) ≡ 1 → o .lent .store ≡ store
+  pub afterOthers : (number (o .answer) ≡ 1 → ⊥) → o .lent .store ≡ replicate (length store) 0
+
+-- nothing is changed
+pub record Untouched (t : List ℕ) (l : Lent) (o : Outcome) : Type 0 where
+  pub table : o .table ≡ t
+  pub lent : o .lent ≡ l
+
+-- a refused edit changes no record; what one that is done leaves is said by demand 2
+pub record EditLeft (t : List ℕ) (l : Lent) (o : Outcome) : Type 0 where
+  pub refused : (number (o .answer) ≡ 0 → ⊥) → o .table ≡ t
+  pub cleared : Cleared (l .store) o
+  pub output : o .lent .output ≡ l .output
+
+-- a count changes no record; one that is done leaves its numbers at the start of the output
+pub record CountLeft (n N : ℕ) (t : List ℕ) (l : Lent) (o : Outcome) : Type 0 where
+  pub table : o .table ≡ t
+  pub cleared : Cleared (l .store) o
+  pub refused : (number (o .answer) ≡ 0 → ⊥) → o .lent .output ≡ l .output
+  pub done : number (o .answer) ≡ 0 → (v : List ℕ) × Numbers n N t v × (o .lent .output ≡ v ++ drop (length v) (l .output))
+
+-- a load refused with 1 leaves the table as it was, one refused with 11 leaves it all zero, and one that is done leaves the file's records
+pub record LoadLeft (n N : ℕ) (t b : List ℕ) (l : Lent) (o : Outcome) : Type 0 where
+  pub afterOne : number (o .answer) ≡ 1 → o .table ≡ t
+  pub afterEleven : number (o .answer) ≡ 11 → o .table ≡ replicate (length t) 0
+  pub done : number (o .answer) ≡ 0 → Filed n N b (o .table)
+  pub lent : o .lent ≡ l
+
+-- a refused write leaves the output as it was; what one that is done leaves is said by demand 2
+pub record WriteLeft (t : List ℕ) (l : Lent) (o : Outcome) : Type 0 where
+  pub table : o .table ≡ t
+  pub store : o .lent .store ≡ l .store
+  pub refused : (number (o .answer) ≡ 0 → ⊥) → o .lent .output ≡ l .output
+
+abbrev pub Left : ℕ → ℕ → List ℕ → Request → Lent → Outcome → Type 0
+Left n N t tableCheck l o = Untouched t l o
+Left n N t (schemeCheck b) l o = Untouched t l o
+Left n N t (edit b D) l o = EditLeft t l o
+Left n N t count l o = CountLeft n N t l o
+Left n N t (load b) l o = LoadLeft n N t b l o
+Left n N t write l o = WriteLeft t l o
+
 pub record Demand1 (K : Kernel) : Type 0 where
-  -- every call answers with the refusal that the order of docs/RULES.md puts first, with its values, and is done where none applies
-  pub tableOrder : (n N : ℕ) (t : List ℕ) (r : Answer) → K .TableCheck n N t r → FirstOf (tableRefusals n N t []) Nothing r
-  pub schemeOrder : (b : List ℕ) (r : Answer) → K .SchemeCheck b r → FirstOf (schemeRefusals (inForm b ≡ true) b []) Nothing r
-  pub editOrder : (n N : ℕ) (t store b : List ℕ) (D : Darts) (r : Answer) (t′ store′ : List ℕ) → K .Edit n N t store b D r t′ store′
-      → FirstOf (editRefusals n N t store b D) (Counted N t b D) r
-  pub countOrder : (n N : ℕ) (t store : List ℕ) (r : Answer) (store′ : List ℕ) → K .Count n N t store r store′
-      → FirstOf (countRefusals n N t store) (Numbers n N t) r
-  pub loadOrder : (n N : ℕ) (t b : List ℕ) (r : Answer) (t′ : List ℕ) → K .Load n N t b r t′ → FirstOf (loadRefusals n N t b) Nothing r
-  pub writeOrder : (n N : ℕ) (t out : List ℕ) (r : Answer) (out′ : List ℕ) → K .Write n N t out r out′
-      → FirstOf (writeRefusals n N t out) (λ v. v ≡ length (file n (view N t)) ∷ []) r
-  -- a refused edit changes no record; the store comes back zero, but after refusal 1 nothing at all is written
-  pub refusedEdit : (n N : ℕ) (t store b : List ℕ) (D : Darts) (r : Answer) (t′ store′ : List ℕ) → K .Edit n N t store b D r t′ store′
-      → (number r ≡ 0 → ⊥) → t′ ≡ t
-  pub editAfterOne : (n N : ℕ) (t store b : List ℕ) (D : Darts) (r : Answer) (t′ store′ : List ℕ) → K .Edit n N t store b D r t′ store′
-      → number r ≡ 1 → store′ ≡ store
-  pub editAfterOthers : (n N : ℕ) (t store b : List ℕ) (D : Darts) (r : Answer) (t′ store′ : List ℕ) → K .Edit n N t store b D r t′ store′
-      → (number r ≡ 1 → ⊥) → store′ ≡ replicate (length store) 0
-  -- so does the store of a count, which has no record to change
-  pub countAfterOne : (n N : ℕ) (t store : List ℕ) (r : Answer) (store′ : List ℕ) → K .Count n N t store r store′ → number r ≡ 1 → store′ ≡ store
-  pub countAfterOthers : (n N : ℕ) (t store : List ℕ) (r : Answer) (store′ : List ℕ) → K .Count n N t store r store′
-      → (number r ≡ 1 → ⊥) → store′ ≡ replicate (length store) 0
-  -- a load refused with 1 leaves the table as it was, one refused with 11 leaves it all zero, and one that is done leaves the file's records
-  pub loadAfterOne : (n N : ℕ) (t b : List ℕ) (r : Answer) (t′ : List ℕ) → K .Load n N t b r t′ → number r ≡ 1 → t′ ≡ t
-  pub loadAfterEleven : (n N : ℕ) (t b : List ℕ) (r : Answer) (t′ : List ℕ) → K .Load n N t b r t′ → number r ≡ 11 → t′ ≡ replicate (length t) 0
-  pub loadDone : (n N : ℕ) (t b : List ℕ) (r : Answer) (t′ : List ℕ) → K .Load n N t b r t′ → number r ≡ 0 → Filed n N b t′
-  -- a refused write leaves the output as it was
-  pub refusedWrite : (n N : ℕ) (t out : List ℕ) (r : Answer) (out′ : List ℕ) → K .Write n N t out r out′ → (number r ≡ 0 → ⊥) → out′ ≡ out
+  -- every request is answered with the refusal that the order of docs/RULES.md puts first, with its values, and is done where none applies
+  pub order : (n N : ℕ) (t : List ℕ) (q : Request) (l : Lent) (o : Outcome) → K .Does n N t q l o
+      → FirstOf (rulesOf n N t q l) (Returned n N t q) (o .answer)
+  -- "A refused edit changes no record. The working store comes back zero, but after refusal 1 nothing at all is written."
+  pub leaves : (n N : ℕ) (t : List ℕ) (q : Request) (l : Lent) (o : Outcome) → K .Does n N t q l o → Left n N t q l o
 
 -- ---- demand 2
 
@@ -118,49 +148,55 @@ pub record Applicable (n N : ℕ) (t store b : List ℕ) (D : Darts) : Type 0 wh
 
 -- what an edit that is done comes to: the new table is that of a map that is the published rewriting of the old one, and no other rewriting has
 -- another table (`rewriting-once` of crates/model/proofs/RewritingOnce.antt); the answer counts the orbit, the added and the deleted darts
-pub record EditDone (n N : ℕ) (t b : List ℕ) (D : Darts) (r : Answer) (t′ : List ℕ) : Type 0 where
+pub record EditDone (n N : ℕ) (t b : List ℕ) (D : Darts) (o : Outcome) : Type 0 where
   pub orbit : ℕ → Bool
   pub isOrbit : Orbit N t b D orbit
   pub new : Map
   pub dart : ℕ → ℕ → ℕ
   pub rewriting : Rewriting (siteOver N t b D orbit) new dart
-  pub table : t′ ≡ tableOf new
-  pub done : number r ≡ 0
-  pub counted : values r ≡ counts (siteOver N t b D orbit)
-  pub well : Holds n N t′
+  pub table : o .table ≡ tableOf new
+  pub answer : o .answer ≡ doneAt (siteOver N t b D orbit)
+  pub well : Holds n N (o .table)
 
 -- an accepted file: the kernel answers 0 to its load, and 0 to the check of the table that the load leaves
 pub record FileAccepted (K : Kernel) (n N : ℕ) (t b t′ : List ℕ) : Type 0 where
-  pub loadAnswer : Answer
-  pub loads : K .Load n N t b loadAnswer t′
-  pub loaded : number loadAnswer ≡ 0
-  pub checkAnswer : Answer
-  pub checks : K .TableCheck n N t′ checkAnswer
-  pub passes : number checkAnswer ≡ 0
+  pub lent : Lent
+  pub loaded : Outcome
+  pub loads : K .Does n N t (load b) lent loaded
+  pub done : number (loaded .answer) ≡ 0
+  pub leaves : loaded .table ≡ t′
+  pub lentThen : Lent
+  pub checked : Outcome
+  pub checks : K .Does n N t′ tableCheck lentThen checked
+  pub passes : number (checked .answer) ≡ 0
 
 pub record Demand2 (K : Kernel) : Type 0 where
   -- a scheme is accepted exactly when it has the byte form and meets the conditions
-  pub accepted : (b : List ℕ) (r : Answer) → K .SchemeCheck b r → (number r ≡ 0) ↔ ((inForm b ≡ true) × Accepted (schemeOf b))
+  pub accepted : (n N : ℕ) (t b : List ℕ) (l : Lent) (o : Outcome) → K .Does n N t (schemeCheck b) l o
+      → (number (o .answer) ≡ 0) ↔ ((inForm b ≡ true) × Accepted (schemeOf b))
   -- refusal 9 is given exactly when none of 1 to 8 applies and no assignment exists
-  pub noMatch : (n N : ℕ) (t store b : List ℕ) (D : Darts) (r : Answer) (t′ store′ : List ℕ) → K .Edit n N t store b D r t′ store′
-      → (number r ≡ 9) ↔ (Admitted n N t store b D × (Matched N t b D → ⊥))
+  pub noMatch : (n N : ℕ) (t b : List ℕ) (D : Darts) (l : Lent) (o : Outcome) → K .Does n N t (edit b D) l o
+      → (o .answer ≡ Refused NoMatch) ↔ (Admitted n N t (l .store) b D × (Matched N t b D → ⊥))
   -- where no refusal applies, and only there, an edit is done, and it is the published rewriting
-  pub edits : (n N : ℕ) (t store b : List ℕ) (D : Darts) (r : Answer) (t′ store′ : List ℕ) → K .Edit n N t store b D r t′ store′
-      → Applicable n N t store b D → EditDone n N t b D r t′
-  pub onlyThen : (n N : ℕ) (t store b : List ℕ) (D : Darts) (r : Answer) (t′ store′ : List ℕ) → K .Edit n N t store b D r t′ store′
-      → number r ≡ 0 → Applicable n N t store b D
+  pub edits : (n N : ℕ) (t b : List ℕ) (D : Darts) (l : Lent) (o : Outcome) → K .Does n N t (edit b D) l o
+      → Applicable n N t (l .store) b D → EditDone n N t b D o
+  pub onlyThen : (n N : ℕ) (t b : List ℕ) (D : Darts) (l : Lent) (o : Outcome) → K .Does n N t (edit b D) l o
+      → number (o .answer) ≡ 0 → Applicable n N t (l .store) b D
   -- a well-formed map with room for its file is written; output beyond the file stays as it was
-  pub written : (n N : ℕ) (t out : List ℕ) (r : Answer) (out′ : List ℕ) → K .Write n N t out r out′ → Holds n N t → length (file n (view N t)) ≤ length out
-      → (number r ≡ 0) × (values r ≡ length (file n (view N t)) ∷ []) × (out′ ≡ file n (view N t) ++ drop (length (file n (view N t))) out)
+  pub writes : (n N : ℕ) (t : List ℕ) (l : Lent) (o : Outcome) → K .Does n N t write l o → Holds n N t
+      → length (file n (view N t)) ≤ length (l .output)
+      → (o .answer ≡ Written (length (file n (view N t))))
+      × (o .lent .output ≡ file n (view N t) ++ drop (length (file n (view N t))) (l .output))
   -- its file is loaded again and passes the check, with the same live records; words of a table are below 2³², and the second table has as many words
-  pub writtenLoaded : (n N : ℕ) (t out : List ℕ) (r : Answer) (out′ : List ℕ) → K .Write n N t out r out′ → number r ≡ 0
+  pub writtenLoaded : (n N : ℕ) (t : List ℕ) (l : Lent) (o : Outcome) → K .Does n N t write l o → number (o .answer) ≡ 0
       → ((i : ℕ) → getD t i 0 < 4294967296)
-      → (u : List ℕ) (r₂ : Answer) (u′ : List ℕ) → length u ≡ length t → K .Load n N u (take (getD (values r) 0 0) out′) r₂ u′
-      → (r₃ : Answer) → K .TableCheck n N u′ r₃ → (number r₂ ≡ 0) × (number r₃ ≡ 0) × AlikeTables n N t u′
+      → (u : List ℕ) (k : Lent) (p : Outcome) → length u ≡ length t → K .Does n N u (load (written write o)) k p
+      → (j : Lent) (c : Outcome) → K .Does n N (p .table) tableCheck j c
+      → (number (p .answer) ≡ 0) × (number (c .answer) ≡ 0) × AlikeTables n N t (p .table)
   -- an accepted file is written back byte for byte; bytes are below 256
   pub acceptedWritten : (n N : ℕ) (t b t′ : List ℕ) → FileAccepted K n N t b t′ → ((i : ℕ) → getD b i 0 < 256)
-      → (out : List ℕ) (r : Answer) (out′ : List ℕ) → length b ≤ length out → K .Write n N t′ out r out′
-      → (number r ≡ 0) × (take (getD (values r) 0 0) out′ ≡ b)
+      → (l : Lent) (o : Outcome) → length b ≤ length (l .output) → K .Does n N t′ write l o
+      → (number (o .answer) ≡ 0) × (written write o ≡ b)
 
 -- ---- demand 3
 

@@ -13,8 +13,8 @@ use Rattle.model.specs.Match.{Assignment}
 use Rattle.model.specs.Edit.{isFree, rank}
 use Rattle.model.specs.Label.{Label}
 use Rattle.model.specs.Answer.{number}
+use Rattle.model.specs.Sequence.{edit, Lent, Outcome}
 use Rattle.model.specs.declared.Darts.{Darts}
-use Rattle.model.specs.declared.Answer.{Answer}
 use Rattle.demands.specs.Kernel.{Kernel}
 use Rattle.demands.specs.Refusals.{Orbit, siteOver}
 
@@ -37,8 +37,8 @@ pub record Tagged (N : ℕ) (t : List ℕ) (v : ℕ) : Type 0 where
   pub tag : view N t .tag dart ≡ v
 
 pub record LabelsFollow (K : Kernel) : Type 0 where
-  pub follows : (n N : ℕ) (t store b : List ℕ) (D : Darts) (r : Answer) (t′ store′ : List ℕ) → K .Edit n N t store b D r t′ store′
-      → number r ≡ 0 → Labelled N t b D t′
+  pub follows : (n N : ℕ) (t b : List ℕ) (D : Darts) (l : Lent) (o : Outcome) → K .Does n N t (edit b D) l o
+      → number (o .answer) ≡ 0 → Labelled N t b D (o .table)
   -- so a lot that is on no live dart before an edit is on none after it, whatever the unused records hold
-  pub noOther : (n N : ℕ) (t store b : List ℕ) (D : Darts) (r : Answer) (t′ store′ : List ℕ) → K .Edit n N t store b D r t′ store′
-      → number r ≡ 0 → (v : ℕ) → Tagged N t′ v → Tagged N t v
+  pub noOther : (n N : ℕ) (t b : List ℕ) (D : Darts) (l : Lent) (o : Outcome) → K .Does n N t (edit b D) l o
+      → number (o .answer) ≡ 0 → (v : ℕ) → Tagged N (o .table) v → Tagged N t v

@@ -1,36 +1,41 @@
--- What each call promises: its answer, and the final content of every buffer that it may change, for all inputs.
--- D is the dart or the two darts of an edit, r is the answer, and t′, store′, out′ are what table, store and output hold afterwards.
--- The promises are the calls' `ensures`; any two outcomes that one of them allows are equal (proofs/OneOutcome.antt).
--- Assumes nothing.
+-- What the kernel promises of every request: its outcome is the one that the definitions give, for all inputs. So two outcomes of one request are equal.
+-- The calls' `ensures` are this promise at their request, each under its name. There r is the answer, and t′, store′ and out′ are what table, store and
+-- output hold afterwards. A call that takes no store or no output is promised with an empty one.
 use Prim.Native.Nat.{ℕ}
 use mathlib.Core.Path.{_≡_}
-use mathlib.Core.Bool.{true}
-use mathlib.Core.List.{List}
-use Rattle.model.specs.Answer.{Answers}
-use Rattle.model.specs.Calls.{checkTable, checkScheme, editAnswer, editTable, editStore, countAnswer, countStore}
-use Rattle.model.specs.Calls.{loadAnswer, loadTable, writeAnswer, writeOut}
+use mathlib.Core.List.{List, []}
+use Rattle.model.specs.Sequence.{Request, tableCheck, schemeCheck, edit, count, load, write, Lent, Outcome, outcomeOf}
 use Rattle.model.specs.declared.Darts.{Darts}
 use Rattle.model.specs.declared.Answer.{Answer}
 
-pub record TableChecked (n N : ℕ) (t : List ℕ) (r : Answer) : Type 0 where
-  pub answer : Answers r (checkTable n N t)
+abbrev pub Promised : ℕ → ℕ → List ℕ → Request → Lent → Outcome → Type 0
+Promised n N t q l o = o ≡ outcomeOf n N t q l
 
-pub record SchemeChecked (b : List ℕ) (r : Answer) : Type 0 where
-  pub answer : Answers r (checkScheme b)
+-- ---- the calls
 
-pub record MapEdited (n N : ℕ) (t store b : List ℕ) (D : Darts) (r : Answer) (t′ store′ : List ℕ) : Type 0 where
-  pub answer : Answers r (editAnswer n N t store b D)
-  pub table : t′ ≡ editTable n N t store b D
-  pub cleared : store′ ≡ editStore n N t store b D
+-- a store and an output are lent
+abbrev pub lending : List ℕ → List ℕ → Lent
+lending store out = record { store = store; output = out }
 
-pub record MapCounted (n N : ℕ) (t store : List ℕ) (r : Answer) (store′ : List ℕ) : Type 0 where
-  pub answer : Answers r (countAnswer n N t store true)
-  pub cleared : store′ ≡ countStore n N t store
+-- the outcome with an answer, a table, a store and an output
+abbrev pub outcomeWith : Answer → List ℕ → List ℕ → List ℕ → Outcome
+outcomeWith r t store out = record { answer = r; table = t; lent = lending store out }
 
-pub record FileLoaded (n N : ℕ) (t b : List ℕ) (r : Answer) (t′ : List ℕ) : Type 0 where
-  pub answer : Answers r (loadAnswer n N t b)
-  pub table : t′ ≡ loadTable n N t b
+abbrev pub TableChecked : ℕ → ℕ → List ℕ → Answer → Type 0
+TableChecked n N t r = Promised n N t tableCheck (lending [] []) (outcomeWith r t [] [])
 
-pub record FileWritten (n N : ℕ) (t out : List ℕ) (r : Answer) (out′ : List ℕ) : Type 0 where
-  pub answer : Answers r (writeAnswer n N t out)
-  pub output : out′ ≡ writeOut n N t out
+-- a scheme check is given no table
+abbrev pub SchemeChecked : List ℕ → Answer → Type 0
+SchemeChecked b r = Promised 0 0 [] (schemeCheck b) (lending [] []) (outcomeWith r [] [] [])
+
+abbrev pub MapEdited : ℕ → ℕ → List ℕ → List ℕ → List ℕ → Darts → Answer → List ℕ → List ℕ → Type 0
+MapEdited n N t store b D r t′ store′ = Promised n N t (edit b D) (lending store []) (outcomeWith r t′ store′ [])
+
+abbrev pub MapCounted : ℕ → ℕ → List ℕ → List ℕ → List ℕ → Answer → List ℕ → List ℕ → Type 0
+MapCounted n N t store out r store′ out′ = Promised n N t count (lending store out) (outcomeWith r t store′ out′)
+
+abbrev pub FileLoaded : ℕ → ℕ → List ℕ → List ℕ → Answer → List ℕ → Type 0
+FileLoaded n N t b r t′ = Promised n N t (load b) (lending [] []) (outcomeWith r t′ [] [])
+
+abbrev pub FileWritten : ℕ → ℕ → List ℕ → List ℕ → Answer → List ℕ → Type 0
+FileWritten n N t out r out′ = Promised n N t write (lending [] out) (outcomeWith r t [] out′)

@@ -1,4 +1,4 @@
--- Document 01's refusals: for each call those that it can give, in their order, each with what it is given for and what is returned beside it.
+-- Document 01's refusals: for each request those that it can be given, in their order, each with what it is given for and what is returned beside it.
 -- What they are given for is said by rules, and not by the tests and searches that find it (Calls.antt of crates/model/specs).
 -- Assumes nothing.
 use Prim.Native.Nat.{ℕ, _+_, _*_, _≤_, _<_}
@@ -16,31 +16,31 @@ use Rattle.model.specs.Site.{Site, siteWith, LiveDart}
 use Rattle.model.specs.Match.{Assignment}
 use Rattle.model.specs.Edit.{addedDarts, roomOf}
 use Rattle.model.specs.File.{file, fileForm}
-use Rattle.model.specs.Answer.{number, values}
-use Rattle.model.specs.Calls.{Sizes, firstDart, secondDart}
+use Rattle.model.specs.Calls.{Sizes, firstDart, secondDart, countSize}
+use Rattle.model.specs.Sequence.{Request, tableCheck, schemeCheck, edit, count, load, write, Lent}
 use Rattle.model.specs.declared.Scheme.{Scheme}
 use Rattle.model.specs.declared.Darts.{Darts}
 use Rattle.model.specs.declared.Darts.the-variants.{One, Two}
+use Rattle.model.specs.declared.Refusal.{Refusal}
+use Rattle.model.specs.declared.Refusal.the-variants.{BadCall, BadForm, BadHook, BadIncidence, BadCycle, OtherDimension, BadTable, NoDart, NoMatch}
+use Rattle.model.specs.declared.Refusal.the-variants.{NoRoom, BadFile, ShortOutput}
 use Rattle.model.specs.declared.Answer.{Answer}
+use Rattle.model.specs.declared.Answer.the-variants.{Refused}
 
 -- ---- the first that applies
 
--- a refusal: its number, and with which values it is given
-pub record Refusal : Type 1 where
-  pub number : ℕ
-  pub Given : List ℕ → Type 0
+-- a rule: which refusals it gives. `refusalNumber` and `refusalValues` (Answer.antt of crates/model/specs) have the number and the values of each
+abbrev pub Rule : Type 1
+Rule = Refusal → Type 0
 
--- one that returns nothing beside it, given where P
-abbrev pub bare : ℕ → Type 0 → Refusal
-bare k P = record { number = k; Given = λ v. P × (v ≡ []) }
+-- the rule that gives the refusal f, where P
+abbrev pub when : Type 0 → Refusal → Rule
+when P f g = P × (g ≡ f)
 
--- r is the first of the refusals that applies, with its number and values; where none does it is done, with the values that are asked then
-unfoldable pub FirstOf : List Refusal → (List ℕ → Type 0) → Answer → Type 0
-FirstOf [] Done r = (number r ≡ 0) × Done (values r)
-FirstOf (f ∷ l) Done r = ((number r ≡ f .number) × f .Given (values r)) ⊎ (((v : List ℕ) → f .Given v → ⊥) × FirstOf l Done r)
-
-abbrev pub Nothing : List ℕ → Type 0
-Nothing v = v ≡ []
+-- a is the first refusal that a rule gives; where none gives any it is as `Done` asks
+unfoldable pub FirstOf : List Rule → (Answer → Type 0) → Answer → Type 0
+FirstOf [] Done a = Done a
+FirstOf (r ∷ l) Done a = ((f : Refusal) × (a ≡ Refused f) × r f) ⊎ (((f : Refusal) → r f → ⊥) × FirstOf l Done a)
 
 -- ---- 2: the bytes that an edit takes
 
@@ -88,18 +88,18 @@ module _ (S : Scheme) where
     pub offends : Offends s i j
     pub first : (k l : ℕ) → Offends s k l → (i < k) ⊎ ((i ≡ k) × (j ≤ l))
 
-  abbrev pub hookRefusal : Refusal
-  hookRefusal = record { number = 3; Given = λ v. (s : ℕ) × HookFault s × (v ≡ s ∷ []) }
+  abbrev pub hookRule : Rule
+  hookRule f = (s : ℕ) × HookFault s × (f ≡ BadHook s)
 
-  abbrev pub incidenceRefusal : Refusal
-  incidenceRefusal = record { number = 4; Given = λ v. (s : ℕ) × LeastNode (S .nodes) (λ u. incidenceOk S u ≡ false) s × (v ≡ s ∷ []) }
+  abbrev pub incidenceRule : Rule
+  incidenceRule f = (s : ℕ) × LeastNode (S .nodes) (λ u. incidenceOk S u ≡ false) s × (f ≡ BadIncidence s)
 
-  abbrev pub cycleRefusal : Refusal
-  cycleRefusal = record { number = 5; Given = λ v. (s : ℕ) × (i : ℕ) × (j : ℕ) × FirstPair s i j × (v ≡ s ∷ i ∷ j ∷ []) }
+  abbrev pub cycleRule : Rule
+  cycleRule f = (s : ℕ) × (i : ℕ) × (j : ℕ) × FirstPair s i j × (f ≡ BadCycle s i j)
 
 -- 2 to 5, where 2 is given for bytes that are not as P asks
-abbrev pub schemeRefusals : Type 0 → List ℕ → List Refusal → List Refusal
-schemeRefusals P b l = bare 2 (P → ⊥) ∷ hookRefusal (schemeOf b) ∷ incidenceRefusal (schemeOf b) ∷ cycleRefusal (schemeOf b) ∷ l
+abbrev pub schemeRules : Type 0 → List ℕ → List Rule → List Rule
+schemeRules P b l = when (P → ⊥) BadForm ∷ hookRule (schemeOf b) ∷ incidenceRule (schemeOf b) ∷ cycleRule (schemeOf b) ∷ l
 
 -- ---- 8 to 10: an accepted scheme at a dart or two of a well-formed map
 
@@ -129,21 +129,26 @@ module _ (N : ℕ) (t b : List ℕ) (D : Darts) where
     pub isOrbit : Orbit orbit
     pub few : roomOf (siteOver orbit) < addedDarts (siteOver orbit)
 
--- ---- the calls
+-- ---- the requests
 
-abbrev pub tableRefusals : ℕ → ℕ → List ℕ → List Refusal → List Refusal
-tableRefusals n N t l = bare 1 (Sizes n N t → ⊥) ∷ bare 7 (WellFormed n (view N t) → ⊥) ∷ l
+-- the sizes are right, with a working store of 16 × N words
+abbrev pub Stored : ℕ → ℕ → List ℕ → List ℕ → Type 0
+Stored n N t store = Sizes n N t × (length store ≡ 16 * N)
 
-abbrev pub editRefusals : ℕ → ℕ → List ℕ → List ℕ → List ℕ → Darts → List Refusal
-editRefusals n N t store b D = bare 1 (Sizes n N t × (length store ≡ 16 * N) → ⊥)
-    ∷ schemeRefusals (Taken D b) b (bare 6 (schemeOf b .n ≡ n → ⊥) ∷ bare 7 (WellFormed n (view N t) → ⊥) ∷ bare 8 (LiveDarts N t D → ⊥)
-    ∷ bare 9 (Matched N t b D → ⊥) ∷ bare 10 (Crowded N t b D) ∷ [])
+-- 7: the map is not well-formed
+abbrev pub broken : ℕ → ℕ → List ℕ → Rule
+broken n N t = when (WellFormed n (view N t) → ⊥) BadTable
 
-abbrev pub countRefusals : ℕ → ℕ → List ℕ → List ℕ → List Refusal
-countRefusals n N t store = bare 1 (Sizes n N t × (length store ≡ 16 * N) → ⊥) ∷ bare 7 (WellFormed n (view N t) → ⊥) ∷ []
+-- 6 to 10 of an edit
+abbrev pub siteRules : ℕ → ℕ → List ℕ → List ℕ → Darts → List Rule
+siteRules n N t b D = when (schemeOf b .n ≡ n → ⊥) OtherDimension ∷ broken n N t ∷ when (LiveDarts N t D → ⊥) NoDart
+    ∷ when (Matched N t b D → ⊥) NoMatch ∷ when (Crowded N t b D) NoRoom ∷ []
 
-abbrev pub loadRefusals : ℕ → ℕ → List ℕ → List ℕ → List Refusal
-loadRefusals n N t b = bare 1 (Sizes n N t → ⊥) ∷ bare 11 (fileForm n N b ≡ true → ⊥) ∷ []
-
-abbrev pub writeRefusals : ℕ → ℕ → List ℕ → List ℕ → List Refusal
-writeRefusals n N t out = tableRefusals n N t (bare 12 (length out < length (file n (view N t))) ∷ [])
+-- the refusals of each request, in their order
+abbrev pub rulesOf : ℕ → ℕ → List ℕ → Request → Lent → List Rule
+rulesOf n N t tableCheck l = when (Sizes n N t → ⊥) BadCall ∷ broken n N t ∷ []
+rulesOf n N t (schemeCheck b) l = schemeRules (inForm b ≡ true) b []
+rulesOf n N t (edit b D) l = when (Stored n N t (l .store) → ⊥) BadCall ∷ schemeRules (Taken D b) b (siteRules n N t b D)
+rulesOf n N t count l = when (Stored n N t (l .store) → ⊥) BadCall ∷ broken n N t ∷ when (length (l .output) < countSize) ShortOutput ∷ []
+rulesOf n N t (load b) l = when (Sizes n N t → ⊥) BadCall ∷ when (fileForm n N b ≡ true → ⊥) BadFile ∷ []
+rulesOf n N t write l = when (Sizes n N t → ⊥) BadCall ∷ broken n N t ∷ when (length (l .output) < length (file n (view N t))) ShortOutput ∷ []

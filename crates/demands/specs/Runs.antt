@@ -1,28 +1,17 @@
 -- Sequences of calls of a kernel, and what demand 3 says of them; its words as definitions for one call are in crates/model/specs/Sequence.antt.
 -- Assumes nothing.
 use Prim.Native.Nat.{ℕ}
-use mathlib.Core.Path.{_≡_}
 use mathlib.Core.Bool.{Bool, true}
 use mathlib.Core.List.{List, [], _∷_, Forall₂}
 use Rattle.model.specs.Map.{view}
 use Rattle.model.specs.Alike.{Alike}
-use Rattle.model.specs.Sequence.{BothHold, Request, tableCheck, schemeCheck, edit, count, load, write, SameCall, Outcome, Event}
-use Rattle.model.specs.Sequence.{knownOf, AlikeEvents}
+use Rattle.model.specs.Sequence.{BothHold, SameCall, Event, knownOf, AlikeEvents}
 use Rattle.demands.specs.Kernel.{Kernel}
-
--- the kernel allows the outcome o of a request at the table t, with l in the lent buffer; what a call does not get to change stays as it was
-abbrev pub Allowed : Kernel → ℕ → ℕ → List ℕ → Request → List ℕ → Outcome → Type 0
-Allowed K n N t tableCheck l o = K .TableCheck n N t (o .answer) × (o .table ≡ t) × (o .lent ≡ l)
-Allowed K n N t (schemeCheck b) l o = K .SchemeCheck b (o .answer) × (o .table ≡ t) × (o .lent ≡ l)
-Allowed K n N t (edit b D) l o = K .Edit n N t l b D (o .answer) (o .table) (o .lent)
-Allowed K n N t count l o = K .Count n N t l (o .answer) (o .lent) × (o .table ≡ t)
-Allowed K n N t (load b) l o = K .Load n N t b (o .answer) (o .table) × (o .lent ≡ l)
-Allowed K n N t write l o = K .Write n N t l (o .answer) (o .lent) × (o .table ≡ t)
 
 -- a sequence of calls from the table t on, each with an outcome that the kernel allows; a call finds the table that the call before it left
 pub data Run (K : Kernel) (n N : ℕ) : List ℕ → List Event → Type 0 where
   end : {t : List ℕ} → Run K n N t []
-  next : {t : List ℕ} {e : Event} {s : List Event} → Allowed K n N t (e .call .request) (e .call .lent) (e .outcome)
+  next : {t : List ℕ} {e : Event} {s : List Event} → K .Does n N t (e .call .request) (e .call .lent) (e .outcome)
       → Run K n N (e .outcome .table) s → Run K n N t (e ∷ s)
 
 -- two sequences side by side, alike after every call; `known` says whether the maps are known to be well-formed before the first call

@@ -20,7 +20,8 @@ use Rattle.model.specs.Match.{matches}
 use Rattle.model.specs.Edit.{orbitSize, addedDarts, deletedDarts, roomOf, edited}
 use Rattle.model.specs.Calls.{fitFault, siteDone}
 use Rattle.model.specs.declared.Scheme.{Scheme}
-use Rattle.model.specs.declared.Answer.the-variants.{Edited, NoMatch, NoRoom}
+use Rattle.model.specs.declared.Refusal.the-variants.{NoMatch, NoRoom}
+use Rattle.model.specs.declared.Answer.the-variants.{Edited, Refused}
 use Rattle.model.proofs.AcceptedLaws.{small}
 use Rattle.edit.specs.Nodes.{isKind, Listed}
 use Rattle.conditions.specs.Tree.{TreeOf}
@@ -42,7 +43,7 @@ use Rattle.orbit.proofs.WalkLaws.{walked-kept}
 -- ---- the ends
 
 pub no-match : {E : Site} {t store store′ cols : List ℕ} {size : ℕ} {answer : Bool} → C.Matched E store store′ cols size answer → answer ≡ false
-    → Applied E t NoMatch t
+    → Applied E t (Refused NoMatch) t
 unfolding fitFault someIf _orElse_ there
 no-match {E} m e = let q : matches E ≡ false = sym (m .is) ∙ e in record { answer = rw q refl; table = rw q refl }
 
@@ -147,7 +148,7 @@ module _ {slots : ℕ} {t store : List ℕ} {c : ℕ} {kinds donors lefts rights
     unfolding roomOf deletedDarts orbitSize
     space-is = ap₂ _+_ (P .free) (ap₂ _*_ (sym (F .walked .counted)) (kind-count old))
 
-    pub no-room : room + size * gone < size * many → Applied E t NoRoom t
+    pub no-room : room + size * gone < size * many → Applied E t (Refused NoRoom) t
     unfolding fitFault someIf _orElse_ there
     no-room h =
         let short : ltb (roomOf E) (addedDarts E) ≡ true = ap₂ ltb (sym space-is) (sym added-is) ∙ lt-ltb (room + size * gone) (size * many) h in

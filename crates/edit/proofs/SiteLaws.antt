@@ -21,28 +21,30 @@ use Rattle.model.specs.Site.{Site, Sound}
 use Rattle.model.specs.Scheme.{hasSecond}
 use Rattle.model.specs.Calls.{isDart, siteFault}
 use Rattle.model.specs.declared.Answer.{Answer}
-use Rattle.model.specs.declared.Answer.the-variants.{OtherDimension, BadTable, NoDart}
+use Rattle.model.specs.declared.Answer.the-variants.{Refused}
+use Rattle.model.specs.declared.Refusal.{Refusal}
+use Rattle.model.specs.declared.Refusal.the-variants.{OtherDimension, BadTable, NoDart}
 use Rattle.model.proofs.WellFormedLaws.{wellFormed-iff}
 use Rattle.model.proofs.CallLaws.{live-dart}
 use Rattle.edit.specs.Apply.{Settled, Applied, AppliedAt}
 
 -- an edit whose first fault is a leaves the table as it was
-pub refused : {fault : Option Answer} {E : Site} {t : List ℕ} {a : Answer} → fault ≡ some a → Settled fault E t a t
+pub refused : {fault : Option Refusal} {E : Site} {t : List ℕ} {f : Refusal} → fault ≡ some f → Settled fault E t (Refused f) t
 unfolding there
 refused e = record { answer = rw e refl; table = rw e refl }
 
 module _ {n : ℕ} {E : Site} {t : List ℕ} where
-  pub other-dimension : (x : ℕ) → x ≡ E .scheme .n → (x ≡ n → ⊥) → AppliedAt n E t OtherDimension t
+  pub other-dimension : (x : ℕ) → x ≡ E .scheme .n → (x ≡ n → ⊥) → AppliedAt n E t (Refused OtherDimension) t
   unfolding siteFault someIf _orElse_
   other-dimension x e h = let q = ne-eqb (E .scheme .n) n (λ z. h (e ∙ z)) in refused (rw q refl)
 
   module _ (same : E .scheme .n ≡ n) where
-    pub bad-table : wellFormed n (E .map) ≡ false → AppliedAt n E t BadTable t
+    pub bad-table : wellFormed n (E .map) ≡ false → AppliedAt n E t (Refused BadTable) t
     unfolding siteFault someIf _orElse_
     bad-table w = refused (rw (eq-eqb (E .scheme .n) n same, w) refl)
 
     module _ (w : wellFormed n (E .map) ≡ true) where
-      pub no-dart : (isDart (E .map) (E .dart) and isDart (E .map) (E .other)) ≡ false → AppliedAt n E t NoDart t
+      pub no-dart : (isDart (E .map) (E .dart) and isDart (E .map) (E .other)) ≡ false → AppliedAt n E t (Refused NoDart) t
       unfolding siteFault someIf _orElse_
       no-dart e = refused (rw (eq-eqb (E .scheme .n) n same, w, e) refl)
 

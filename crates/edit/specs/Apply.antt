@@ -3,7 +3,7 @@
 use Prim.Native.Nat.{ℕ, _*_}
 use mathlib.Core.Path.{_≡_}
 use mathlib.Core.Bool.{true, cond}
-use mathlib.Core.Option.{Option, Option·getD}
+use mathlib.Core.Option.{Option}
 use mathlib.Core.List.{List}
 use lib.ListN.{length}
 use Rattle.base.specs.Below.{countBelow}
@@ -14,6 +14,8 @@ use Rattle.model.specs.Site.{Site}
 use Rattle.model.specs.Match.{matches}
 use Rattle.model.specs.Edit.{edited}
 use Rattle.model.specs.Calls.{fitFault, siteFault, siteDone}
+use Rattle.model.specs.Answer.{answered}
+use Rattle.model.specs.declared.Refusal.{Refusal}
 use Rattle.model.specs.declared.Answer.{Answer}
 use Rattle.model.specs.Shaped.{Coded}
 use Rattle.orbit.specs.Store.{Taken, Assigned}
@@ -45,8 +47,8 @@ pub record Settling (slots : ℕ) (t store : List ℕ) (c : ℕ) (kinds donors l
   pub free : room ≡ countBelow slots (unused (view slots t))
 
 -- the answer r and the table t′ of an edit of the table t at a site, whose faults are `fault`
-pub record Settled (fault : Option Answer) (E : Site) (t : List ℕ) (r : Answer) (t′ : List ℕ) : Type 0 where
-  pub answer : r ≡ Option·getD fault (siteDone E)
+pub record Settled (fault : Option Refusal) (E : Site) (t : List ℕ) (r : Answer) (t′ : List ℕ) : Type 0 where
+  pub answer : r ≡ answered (siteDone E) fault
   pub table : t′ ≡ cond (there fault) t (tableOf (edited E))
 
 -- where 9 and 10 are the refusals that are left

@@ -5,6 +5,7 @@ pub mod site;
 use conditions::arcs::wide;
 use conditions::tree::Tree;
 use model::Answer;
+use model::Refusal;
 use model::Scheme;
 use nodes::of_kind;
 ghost use mathlib.Core.Path.{_≡_};
@@ -41,7 +42,7 @@ fn settle<'a>(
     let new = of_kind(c, kinds, 3);
     let many = new.size;
     if room + size * gone.size < size * many {
-        return Answer::NoRoom;
+        return Answer::Refused(Refusal::NoRoom);
     }
     rewriting::room::prepare(
         slots,
@@ -102,7 +103,7 @@ pub fn apply(
         &s.ltargets,
         &mut cols,
     ) {
-        return Answer::NoMatch;
+        return Answer::Refused(Refusal::NoMatch);
     }
     let c = wide(s.nodes);
     settle(

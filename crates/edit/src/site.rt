@@ -2,6 +2,7 @@
 use crate::apply;
 use conditions::tree::Tree;
 use model::Answer;
+use model::Refusal;
 use model::Scheme;
 use table::Finding;
 use table::words::state;
@@ -56,17 +57,17 @@ pub fn apply_at(
     ensures { λ r. ⌜ AppliedAt n (siteAt (view slots (now (table .entry))) s dart other) (now (table .entry)) r (now (table .exit)) ⌝ }
 {
     if wide(s.n) != n {
-        return Answer::OtherDimension;
+        return Answer::Refused(Refusal::OtherDimension);
     }
     let found = table::survey(n, slots, table);
     let Finding::Live(live) = found else {
-        return Answer::BadTable;
+        return Answer::Refused(Refusal::BadTable);
     };
     if !is_dart(slots, table, dart) {
-        return Answer::NoDart;
+        return Answer::Refused(Refusal::NoDart);
     }
     if !is_dart(slots, table, other) {
-        return Answer::NoDart;
+        return Answer::Refused(Refusal::NoDart);
     }
     apply(slots, table, store, s, t, slots - live, dart, other)
 }

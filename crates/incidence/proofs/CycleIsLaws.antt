@@ -18,7 +18,7 @@ use Rattle.model.specs.Conditions.{Arc, absent, explicit, implicit, arcAt, same
 use Rattle.model.specs.Conditions.{cycleFault}
 use Rattle.model.specs.Shaped.{Shaped}
 use Rattle.model.specs.declared.Scheme.{Scheme}
-use Rattle.model.specs.declared.Answer.the-variants.{BadCycle}
+use Rattle.model.specs.declared.Refusal.the-variants.{BadCycle}
 use Rattle.model.proofs.AcceptedLaws as AcceptedLaws
 use Rattle.model.specs.Codes.{arcCode}
 use Rattle.model.specs.Codes.{entry}

@@ -17,9 +17,10 @@ use Rattle.base.specs.First.{first, someIf}
 use Rattle.base.proofs.TestLaws.{not-both}
 use Rattle.base.proofs.BelowLaws.{le-or-lt}
 use Rattle.base.proofs.FirstLaws.{first-none-of, first-hit}
-use Rattle.model.specs.declared.Answer.{Answer}
-use Rattle.model.specs.declared.Answer.the-variants.{Done, BadCycle}
-use Rattle.incidence.specs.Cycles.{pairBy, atPair, atNode, cycleAnswer}
+use Rattle.model.specs.declared.Refusal.{Refusal}
+use Rattle.model.specs.declared.Refusal.the-variants.{BadCycle}
+use Rattle.model.specs.declared.Fault.the-variants.{Clean, Given}
+use Rattle.incidence.specs.Cycles.{pairBy, atPair, atNode, cyclesFault}
 
 module _ (orbit kinds lefts rights : List ℕ) (s i j : ℕ) where
   no-pair : j < i + 2 → atPair orbit kinds lefts rights s i j ≡ none
@@ -72,12 +73,12 @@ module _ {orbit kinds lefts rights : List ℕ} {s : ℕ} where
           (first-hit (suc n) _ j _ (omega arith) (first-none-of j _ (p .lower i)) here)
 
 module _ (orbit kinds lefts rights : List ℕ) (n nodes s : ℕ) (e : first s (atNode orbit kinds lefts rights n) ≡ none) where
-  pub found-pair : (a : Answer) → s < nodes → atNode orbit kinds lefts rights n s ≡ some a → a ≡ cycleAnswer orbit kinds lefts rights n nodes
-  unfolding cycleAnswer
+  pub found-pair : (a : Refusal) → s < nodes → atNode orbit kinds lefts rights n s ≡ some a → Given a ≡ cyclesFault orbit kinds lefts rights n nodes
+  unfolding cyclesFault
   found-pair a l f = rw (first-hit nodes (atNode orbit kinds lefts rights n) s a l e f)
 
-  pub found-no-pair : s ≤ nodes → nodes ≤ s → Done ≡ cycleAnswer orbit kinds lefts rights n nodes
-  unfolding cycleAnswer
+  pub found-no-pair : s ≤ nodes → nodes ≤ s → Clean ≡ cyclesFault orbit kinds lefts rights n nodes
+  unfolding cyclesFault
   found-no-pair h l =
       let same : s ≡ nodes = omega arith in
       let f : first nodes (atNode orbit kinds lefts rights n) ≡ none = rw same at e in

@@ -3,4 +3,4 @@ pub mod IncidenceLaws
 pub mod CycleTestLaws
 pub mod CycleSearchLaws
 pub mod CycleIsLaws
-pub mod AnswerLaws
+pub mod FaultLaws

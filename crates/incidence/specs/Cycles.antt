@@ -3,15 +3,17 @@
 use Prim.Native.Nat.{ℕ, suc, _+_, _-_, _<_}
 use mathlib.Core.Path.{_≡_}
 use mathlib.Core.Bool.{Bool, true, false, not, cond}
-use mathlib.Core.Option.{Option, Option·getD}
+use mathlib.Core.Option.{Option}
 use mathlib.Core.List.{List}
 use lib.ListN.{getD}
 use lib.Dec.{eqb, ltb, leb}
 use Rattle.base.specs.Test.{_and_, _or_}
 use Rattle.base.specs.First.{first, someIf}
 use Rattle.model.specs.Codes.{entry}
-use Rattle.model.specs.declared.Answer.{Answer}
-use Rattle.model.specs.declared.Answer.the-variants.{Done, BadCycle}
+use Rattle.model.specs.Answer.{faultOf}
+use Rattle.model.specs.declared.Refusal.{Refusal}
+use Rattle.model.specs.declared.Refusal.the-variants.{BadCycle}
+use Rattle.model.specs.declared.Fault.{Fault}
 
 -- two dimensions differ by at least 2
 unfoldable pub farApart : ℕ → ℕ → Bool
@@ -50,13 +52,13 @@ pairBy kind orbit lefts rights s i j =
 
 module _ (orbit kinds lefts rights : List ℕ) where
   -- the offence of node s at i, j, where i + 2 ≤ j
-  unfoldable pub atPair : ℕ → ℕ → ℕ → Option Answer
+  unfoldable pub atPair : ℕ → ℕ → ℕ → Option Refusal
   atPair s i j = someIf (leb (i + 2) j and not (pairBy (getD kinds s 0) orbit lefts rights s i j)) (BadCycle s i j)
 
   -- its offence at the first such pair with j ≤ n
-  unfoldable pub atNode : ℕ → ℕ → Option Answer
+  unfoldable pub atNode : ℕ → ℕ → Option Refusal
   atNode n s = first (suc n) (λ i. first (suc n) (atPair s i))
 
   -- the offence of the least node that has one, at its first pair
-  unfoldable pub cycleAnswer : ℕ → ℕ → Answer
-  cycleAnswer n nodes = Option·getD (first nodes (atNode n)) Done
+  unfoldable pub cyclesFault : ℕ → ℕ → Fault
+  cyclesFault n nodes = faultOf (first nodes (atNode n))

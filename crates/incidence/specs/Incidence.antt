@@ -1,8 +1,8 @@
--- Incidence, over the codes of arcs and the nodes that have two of a dimension, and the answer that comes of them.
+-- Incidence, over the codes of arcs and the nodes that have two of a dimension, and the fault of incidence or of the cycles.
 -- Assumes nothing.
 use Prim.Native.Nat.{ℕ, suc}
 use mathlib.Core.Bool.{Bool, false, not, cond}
-use mathlib.Core.Option.{Option, none, some, Option·getD}
+use mathlib.Core.Option.{Option, none, some}
 use mathlib.Core.List.{List}
 use lib.ListN.{getD}
 use lib.Dec.{eqb}
@@ -11,8 +11,9 @@ use Rattle.base.specs.Below.{allBelow}
 use Rattle.base.specs.First.{least, first, _orElse_}
 use Rattle.model.specs.Codes.{entry}
 use Rattle.model.specs.Conditions.{noted}
-use Rattle.model.specs.declared.Answer.{Answer}
-use Rattle.model.specs.declared.Answer.the-variants.{Done, BadIncidence}
+use Rattle.model.specs.Answer.{faultOf}
+use Rattle.model.specs.declared.Refusal.the-variants.{BadIncidence}
+use Rattle.model.specs.declared.Fault.{Fault}
 use Rattle.incidence.specs.Cycles.{atNode}
 use Rattle.incidence.specs.declared.Found.{Found}
 use Rattle.incidence.specs.declared.Found.the-variants.{Node, Nothing}
@@ -36,7 +37,7 @@ offends n kinds lefts rights leftTwice rightTwice s =
     getD leftTwice s false or (getD rightTwice s false or not (incidentBy n (getD kinds s 0) lefts rights s))
 
 -- the fault of incidence, else that of the cycles
-unfoldable pub arcsAnswer : ℕ → ℕ → List ℕ → List ℕ → List ℕ → List ℕ → List Bool → List Bool → Answer
-arcsAnswer n nodes orbit kinds lefts rights leftTwice rightTwice =
-    Option·getD (noted BadIncidence (least nodes (offends n kinds lefts rights leftTwice rightTwice))
-    orElse first nodes (atNode orbit kinds lefts rights n)) Done
+unfoldable pub arcsFault : ℕ → ℕ → List ℕ → List ℕ → List ℕ → List ℕ → List Bool → List Bool → Fault
+arcsFault n nodes orbit kinds lefts rights leftTwice rightTwice =
+    faultOf (noted BadIncidence (least nodes (offends n kinds lefts rights leftTwice rightTwice))
+    orElse first nodes (atNode orbit kinds lefts rights n))

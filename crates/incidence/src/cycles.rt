@@ -1,10 +1,11 @@
 // Cycles, from the codes of arcs.
 use crate::wide;
-use model::Answer;
+use model::Fault;
+use model::Refusal;
 ghost use mathlib.Core.Path.{_≡_};
 ghost use Prim.Native.Nat.{ℕ, _<_, _≤_};
 ghost use Rattle.model.specs.Codes.{entry};
-ghost use Rattle.incidence.specs.Cycles.{farApart, fromNode, fromPlace, cycleBy, pairBy, Coding, cycleAnswer};
+ghost use Rattle.incidence.specs.Cycles.{farApart, fromNode, fromPlace, cycleBy, pairBy, Coding, cyclesFault};
 
 // The code of node s at dimension i.
 fn code(codes: &[u8; 64], s: usize, i: usize) -> usize
@@ -125,14 +126,14 @@ pub fn cycle_fault<'a>(
     kinds: &'a [u8; 16],
     lefts: &'a [u8; 64],
     rights: &'a [u8; 64],
-) -> Answer
+) -> Fault
     requires { ⌜ (2 ≤ n) × (n ≤ 3) × (nodes ≤ 16) ⌝ }
     requires { ⌜ Coding nodes (now lefts) ⌝ }
     requires { ⌜ Coding nodes (now rights) ⌝ }
-    ensures { λ r. ⌜ r ≡ cycleAnswer (now (orbit .entry)) (now (kinds .entry)) (now (lefts .entry)) (now (rights .entry)) n nodes ⌝ }
+    ensures { λ r. ⌜ r ≡ cyclesFault (now (orbit .entry)) (now (kinds .entry)) (now (lefts .entry)) (now (rights .entry)) n nodes ⌝ }
 {
     let top = top_of(n);
-    let mut answer = Answer::Done;
+    let mut found = Fault::Clean;
     let mut s = 0;
     'nodes: while s < nodes {
         let mut j = 2;
@@ -140,11 +141,11 @@ pub fn cycle_fault<'a>(
             let mut i = 0;
             while i + 2 <= j {
                 if !pair_ok(kinds[s], orbit, lefts, rights, s, i, j) {
-                    answer = Answer::BadCycle {
+                    found = Fault::Given(Refusal::BadCycle {
                         node: s as u32,
                         i: i as u32,
                         j: j as u32,
-                    };
+                    });
                     break 'nodes;
                 }
                 i += 1;
@@ -153,5 +154,5 @@ pub fn cycle_fault<'a>(
         }
         s += 1;
     }
-    answer
+    found
 }

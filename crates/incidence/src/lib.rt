@@ -2,12 +2,13 @@
 pub mod cycles;
 
 use cycles::cycle_fault;
-use model::Answer;
+use model::Fault;
+use model::Refusal;
 ghost use mathlib.Core.Path.{_≡_};
 ghost use Prim.Native.Nat.{_<_, _≤_};
 ghost use Rattle.base.specs.First.{least};
 ghost use Rattle.incidence.specs.Cycles.{Coding};
-ghost use Rattle.incidence.specs.Incidence.{foundOf, paired, incidentBy, offends, arcsAnswer};
+ghost use Rattle.incidence.specs.Incidence.{foundOf, paired, incidentBy, offends, arcsFault};
 
 // The least node that offends, where there is one.
 pub enum Found {
@@ -55,7 +56,7 @@ fn incident<'a>(n: usize, kind: u8, lefts: &'a [u8; 64], rights: &'a [u8; 64], s
     allowed(kind, lefts[4 * s + 3], rights[4 * s + 3])
 }
 
-// The least node that has not, or has two arcs of a dimension on a side.
+// The least node that breaks incidence: it has two arcs of one dimension on a side, or lacks one that its kind requires.
 fn unbalanced<'a>(
     n: usize,
     nodes: usize,
@@ -94,14 +95,14 @@ pub fn arcs_fault<'a>(
     rights: &'a [u8; 64],
     ltwice: &'a [bool; 16],
     rtwice: &'a [bool; 16],
-) -> Answer
+) -> Fault
     requires { ⌜ (2 ≤ n) × (n ≤ 3) × (nodes ≤ 16) ⌝ }
     requires { ⌜ Coding nodes (now lefts) × Coding nodes (now rights) ⌝ }
-    ensures { λ r. ⌜ r ≡ arcsAnswer n nodes (now (orbit .entry)) (now (kinds .entry)) (now (lefts .entry)) (now (rights .entry)) (now (ltwice .entry)) (now (rtwice .entry)) ⌝ }
+    ensures { λ r. ⌜ r ≡ arcsFault n nodes (now (orbit .entry)) (now (kinds .entry)) (now (lefts .entry)) (now (rights .entry)) (now (ltwice .entry)) (now (rtwice .entry)) ⌝ }
 {
     let bad = unbalanced(wide(n), nodes, kinds, lefts, rights, ltwice, rtwice);
     if let Found::Node(x) = bad {
-        return Answer::BadIncidence(x);
+        return Fault::Given(Refusal::BadIncidence(x));
     }
     cycle_fault(n, nodes, orbit, kinds, lefts, rights)
 }

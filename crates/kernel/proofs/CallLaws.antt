@@ -1,8 +1,8 @@
--- The sizes of a call, and a table check: refusal 1, and done. Refusal 7 is `broken-check` of the model.
+-- The sizes of a call, and a table check, refusal by refusal.
 -- Assumes nothing.
 use Prim.Native.Nat.{ℕ, _*_}
-use mathlib.Core.Path.{_≡_, sym, ap, _∙_}
-use mathlib.Core.Logic.{_⊎_, ⊎-elim}
+use mathlib.Core.Path.{_≡_, refl, sym, ap, _∙_}
+use mathlib.Core.Logic.{_⊎_}
 use mathlib.Core.Bool.{Bool, true, false}
 use mathlib.Core.List.{List}
 use lib.ListN.{length}
@@ -12,12 +12,14 @@ use Rattle.base.specs.First.{someIf, _orElse_}
 use Rattle.model.specs.Map.{view}
 use Rattle.model.specs.WellFormed.{wellFormed}
 use Rattle.model.specs.Calls.{sizesOk, storedOk, mapFault, tableFault, checkTable}
-use Rattle.model.specs.declared.Answer.the-variants.{Done, BadCall}
-use Rattle.base.proofs.TestLaws.{and-left, and-right, and-no-right, and-true, true-or-false}
+use Rattle.model.specs.declared.Refusal.the-variants.{BadCall, BadTable}
+use Rattle.model.specs.declared.Answer.the-variants.{Done, Refused}
+use Rattle.base.proofs.TestLaws.{and-left, and-right, and-no-right, and-true}
 use Rattle.model.proofs.SizeLaws.{sizes-iff}
 use Rattle.model.proofs.BrokenLaws.{broken-check}
 use Rattle.table.specs.Words.{Sized}
-use Rattle.word.specs.Word.{Small}
+use Rattle.demands.specs.Promises.{TableChecked}
+use Rattle.demands.proofs.OneOutcome.{same-outcome}
 
 module _ (n N : ℕ) (t : List ℕ) where
   pub sizes-read : sizesOk n N t ≡ true → ((n ≡ 2) ⊎ (n ≡ 3)) × Sized N t
@@ -34,16 +36,13 @@ module _ (n N : ℕ) (t : List ℕ) where
     pub fit-is : length store ≡ 16 * N → sizesOk n N t ≡ storedOk n N t store
     fit-is e = sym (and-true (sizesOk n N t)) ∙ ap (λ (b : Bool). sizesOk n N t and b) (sym (eq-eqb _ _ e))
 
-  pub is-1 : sizesOk n N t ≡ false → BadCall ≡ checkTable n N t
+  pub is-1 : sizesOk n N t ≡ false → TableChecked n N t (Refused BadCall)
   unfolding checkTable tableFault mapFault someIf _orElse_
-  is-1 e = rw e
+  is-1 e = same-outcome (rw e refl) refl refl refl
 
-  pub is-0 : sizesOk n N t ≡ true → wellFormed n (view N t) ≡ true → Done ≡ checkTable n N t
+  pub is-7 : sizesOk n N t ≡ true → wellFormed n (view N t) ≡ false → TableChecked n N t (Refused BadTable)
+  is-7 e w = same-outcome (sym (broken-check n N t w e)) refl refl refl
+
+  pub is-0 : sizesOk n N t ≡ true → wellFormed n (view N t) ≡ true → TableChecked n N t Done
   unfolding checkTable tableFault mapFault someIf _orElse_
-  is-0 e w = rw (e, w)
-
-  pub check-small : Small (checkTable n N t)
-  check-small = ⊎-elim
-      (λ e. ⊎-elim (λ w. rw (← is-0 e w) tt) (λ w. rw (broken-check n N t w e) tt) (true-or-false (wellFormed n (view N t))))
-      (λ e. rw (← is-1 e) tt)
-      (true-or-false (sizesOk n N t))
+  is-0 e w = same-outcome (rw (e, w) refl) refl refl refl

@@ -1,45 +1,47 @@
 -- The stages of an edit, refusal by refusal.
 -- Assumes nothing.
-use Prim.Native.Nat.{ℕ, suc, _-_}
+use Prim.Native.Nat.{ℕ}
 use mathlib.Core.Path.{_≡_, refl, sym, ap, _∙_, subst}
-use mathlib.Core.Logic.{_⊎_, ⊎-elim, by-cases}
-use mathlib.Core.Bool.{Bool, true, false, not}
-use mathlib.Core.Option.{Option, none, some, Option·getD}
-use mathlib.Core.List.{List, [], _∷_}
+use mathlib.Core.Logic.{by-cases}
+use mathlib.Core.Bool.{Bool, true, false, not, true≢false}
+use mathlib.Core.Option.{Option, none, some}
+use mathlib.Core.List.{List}
 use native.Mathlib.Decide.{ℕ-discrete}
 use native.Mathlib.Omega.{arith}
-use types.Run.{OneOf}
 use lib.ListN.{length}
 use borrow.Author.Tests.{eqb-true, eqb-false, eq-eqb, ne-eqb, ltb-true, ltb-false, lt-ltb, le-ltb, not-true, not-false}
 use Rattle.base.specs.First.{someIf, _orElse_, there}
 use Rattle.base.specs.Test.{_and_}
 use Rattle.base.proofs.TestLaws.{and-same, same-test}
 use Rattle.base.proofs.ListLaws.{length-list}
-use Rattle.model.specs.Answer.{number}
+use Rattle.model.specs.Answer.{faultOf}
 use Rattle.model.specs.Map.{view}
 use Rattle.model.specs.Scheme.{left, right, inForm, wordsOf, schemeOf, hasSecond}
 use Rattle.model.specs.Conditions.{schemeFault}
 use Rattle.model.specs.Twice.{twiceOf}
 use Rattle.model.specs.Accepted.{Accepted}
 use Rattle.model.specs.Site.{siteAt}
-use Rattle.model.specs.Calls.{zeros, bytesFault, firstDart, secondDart, asMany, takes, storedOk}
+use Rattle.model.specs.Calls.{zeros, bytesFault, checkScheme, firstDart, secondDart, asMany, takes, storedOk}
 use Rattle.model.specs.Calls.{editFaultAt, editFault, editAnswer, editTable, editStore}
 use Rattle.model.specs.declared.Scheme.{Scheme}
 use Rattle.model.specs.declared.Darts.{Darts}
 use Rattle.model.specs.declared.Darts.the-variants.{One, Two}
 use Rattle.model.specs.declared.Answer.{Answer}
-use Rattle.model.specs.declared.Answer.the-variants.{Done, BadCall, BadForm}
-use Rattle.model.proofs.AnswerLaws.{answers-of}
+use Rattle.model.specs.declared.Answer.the-variants.{Done, Refused}
+use Rattle.model.specs.declared.Refusal.{Refusal}
+use Rattle.model.specs.declared.Refusal.the-variants.{BadCall, BadForm}
+use Rattle.model.specs.declared.Fault.{Fault}
+use Rattle.model.specs.declared.Fault.the-variants.{Clean, Given}
 use Rattle.model.proofs.SchemeLaws.{shaped}
 use Rattle.model.proofs.CallLaws.{bytes-accepted, bytes-many, darts-alone}
 use Rattle.scheme.specs.Reading.{reading}
 use Rattle.scheme.specs.declared.Reading.{Reading}
 use Rattle.conditions.specs.Verdict.{Judging}
-use Rattle.demands.specs.Promises.{MapEdited}
+use Rattle.demands.specs.Promises.{SchemeChecked, MapEdited}
+use Rattle.demands.proofs.OneOutcome.{same-outcome}
 use Rattle.edit.specs.Apply.{AppliedAt}
 use Rattle.edit.proofs.SiteLaws.{refused}
 use Rattle.kernel.specs.Stages.{manyBy, Staged}
-use Rattle.demands.proofs.RefusalLaws.{bytes-within}
 
 -- ---- the scheme's bytes
 
@@ -93,42 +95,35 @@ module _ (b : List ℕ) (r : Reading) (e : r ≡ reading b) where
       longWords = long-words;
     }
 
--- refusals 2 to 5, or done, where `taken` says whether the call takes the bytes
-unfoldable pub judged : Bool → List ℕ → Answer
-judged taken b = Option·getD (bytesFault taken b) Done
-
+-- refusals 2 to 5, where `taken` says whether the call takes the bytes
 pub form-refused : (taken : Bool) (b : List ℕ) → taken ≡ false → bytesFault taken b ≡ some BadForm
 unfolding bytesFault someIf _orElse_
 form-refused taken b e = rw e
 
-pub judged-bad : (taken : Bool) (b : List ℕ) → taken ≡ false → BadForm ≡ judged taken b
-unfolding judged
-judged-bad taken b e = rw (form-refused taken b e)
+pub form-judged : (taken : Bool) (b : List ℕ) (S : Scheme) → taken ≡ true → S ≡ schemeOf b → bytesFault taken b ≡ schemeFault S
+unfolding bytesFault someIf _orElse_
+form-judged taken b S e s = rw (e, s)
 
-pub judged-good : (taken : Bool) (b : List ℕ) (S : Scheme) → taken ≡ true → S ≡ schemeOf b → (a : Answer) → a ≡ Option·getD (schemeFault S) Done
-    → a ≡ judged taken b
-unfolding judged bytesFault someIf _orElse_
-judged-good taken b S e s a f = f ∙ rw (e, s)
+-- what a search comes to in code tells what it finds
+pub found-none : (o : Option Refusal) → Clean ≡ faultOf o → o ≡ none
+found-none none e = refl
+found-none (some f) e = absurd (true≢false (ap clean e))
+  where
+    clean : Fault → Bool
+    clean Clean = true
+    clean (Given f) = false
 
--- bytes judged done have no fault, and any other answer is their fault
-module _ (taken : Bool) (b : List ℕ) (r : Answer) (j : r ≡ judged taken b) where
-  pub no-fault : r ≡ Done → bytesFault taken b ≡ none
-  unfolding judged
-  no-fault e = go (bytesFault taken b) refl
-    where
-      go : (o : Option Answer) → bytesFault taken b ≡ o → bytesFault taken b ≡ none
-      go none q = q
-      go (some a) q =
-          let zero : number a ≡ 0 = ap number (ap (λ (o : Option Answer). Option·getD o Done) (sym q) ∙ sym j ∙ e) in
-          absurd (omega (arith, bytes-within taken b .least a q))
-
-  pub its-fault : (r ≡ Done → ⊥) → bytesFault taken b ≡ some r
-  unfolding judged
-  its-fault n = go (bytesFault taken b) refl
-    where
-      go : (o : Option Answer) → bytesFault taken b ≡ o → bytesFault taken b ≡ some r
-      go none q = absurd (n (j ∙ ap (λ (o : Option Answer). Option·getD o Done) q))
-      go (some a) q = q ∙ ap {B = Option Answer} some (sym (j ∙ ap (λ (o : Option Answer). Option·getD o Done) q))
+pub found-some : (o : Option Refusal) (f : Refusal) → Given f ≡ faultOf o → o ≡ some f
+found-some none f e = absurd (true≢false (ap given e))
+  where
+    given : Fault → Bool
+    given Clean = false
+    given (Given f) = true
+found-some (some g) f e = ap {B = Option Refusal} some (sym (ap named e))
+  where
+    named : Fault → Refusal
+    named Clean = g
+    named (Given f) = f
 
 -- ---- the darts
 
@@ -150,7 +145,7 @@ taken-is D b r e q m = m ∙ ap (λ (x : Bool). x and manyBy D (r .scheme .secon
 -- ---- all stages
 
 module _ (n N : ℕ) (t b : List ℕ) (D : Darts) where
-  pub stage-refused : {a : Answer} → bytesFault (takes D b) b ≡ some a → Staged n N t b D a t
+  pub stage-refused : {f : Refusal} → bytesFault (takes D b) b ≡ some f → Staged n N t b D (Refused f) t
   unfolding _orElse_
   stage-refused e = refused (rw e refl)
 
@@ -170,22 +165,23 @@ module _ (D : Darts) (b : List ℕ) (S : Scheme) (f : bytesFault (takes D b) b �
   pub no-fault-alone : {d e : ℕ} → d ≡ firstDart D → e ≡ secondDart D → hasSecond S ≡ false → e ≡ d
   no-fault-alone p q h = q ∙ darts-alone D S (subst (λ (x : Scheme). asMany D x ≡ true) (sym s) (bytes-many D b f)) h ∙ sym p
 
--- ---- the call
+-- ---- the calls
+
+module _ (b : List ℕ) where
+  pub scheme-refused : {f : Refusal} → bytesFault (inForm b) b ≡ some f → SchemeChecked b (Refused f)
+  unfolding checkScheme
+  scheme-refused e = same-outcome (rw e refl) refl refl refl
+
+  pub scheme-done : bytesFault (inForm b) b ≡ none → SchemeChecked b Done
+  unfolding checkScheme
+  scheme-done e = same-outcome (rw e refl) refl refl refl
 
 module _ (n N : ℕ) (t store b : List ℕ) (d : Darts) where
-  pub edit-unfit : storedOk n N t store ≡ false → MapEdited n N t store b d BadCall t store
+  pub edit-unfit : storedOk n N t store ≡ false → MapEdited n N t store b d (Refused BadCall) t store
   unfolding editAnswer editTable editStore editFault editFaultAt someIf _orElse_ there
-  edit-unfit e = record { answer = answers-of (rw e refl); table = rw e refl; cleared = rw e refl }
+  edit-unfit e = same-outcome (rw e refl) (rw e refl) (rw e refl) refl
 
   pub edit-staged : storedOk n N t store ≡ true → (r : Answer) (t′ store′ : List ℕ) → Staged n N t b d r t′ → store′ ≡ zeros store
       → MapEdited n N t store b d r t′ store′
   unfolding editAnswer editTable editStore editFault editFaultAt someIf _orElse_
-  edit-staged q r t′ store′ s z = record { answer = answers-of (s .answer ∙ rw q refl); table = s .table ∙ rw q refl; cleared = z ∙ rw q refl }
-
--- 0 is none of the numbers 1 to 15, those of the other answers than Done
-pub not-zero : OneOf (1 ∷ 2 ∷ 3 ∷ 4 ∷ 5 ∷ 6 ∷ 7 ∷ 8 ∷ 9 ∷ 10 ∷ 11 ∷ 12 ∷ 13 ∷ 14 ∷ 15 ∷ []) 0 → ⊥
-not-zero = ⊎-elim no (⊎-elim no (⊎-elim no (⊎-elim no (⊎-elim no (⊎-elim no (⊎-elim no
-    (⊎-elim no (⊎-elim no (⊎-elim no (⊎-elim no (⊎-elim no (⊎-elim no (⊎-elim no no)))))))))))))
-  where
-    no : {k : ℕ} → _≡_ {A = ℕ} 0 (suc k) → ⊥
-    no e = omega arith
+  edit-staged q r t′ store′ s z = same-outcome (s .answer ∙ rw q refl) (s .table ∙ rw q refl) (z ∙ rw q refl) refl

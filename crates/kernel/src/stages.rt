@@ -2,16 +2,18 @@
 use edit::site::apply_at;
 use model::Answer;
 use model::Darts;
+use model::Fault;
+use model::Refusal;
 use table::Finding;
 ghost use mathlib.Core.Path.{_≡_};
 ghost use mathlib.Core.Logic.{_⊎_};
-ghost use Prim.Native.Nat.{_*_};
+ghost use Prim.Native.Nat.{_*_, _≤_};
 ghost use lib.ListN.{length};
 ghost use Rattle.table.specs.Words.{Sized};
 ghost use Rattle.base.specs.Test.{_and_};
 ghost use Rattle.model.specs.Map.{view};
-ghost use Rattle.model.specs.Calls.{firstDart, secondDart};
-ghost use Rattle.kernel.specs.Stages.{manyBy, Staged, countStaged};
+ghost use Rattle.model.specs.Calls.{firstDart, secondDart, countSize};
+ghost use Rattle.kernel.specs.Stages.{manyBy, Staged, sixAt, CountStaged};
 
 fn wide(x: u32) -> usize
     ensures { λ r. ⌜ r ≡ x ⌝ }
@@ -68,7 +70,7 @@ pub(crate) fn staged(
 {
     let r = scheme::read(bytes);
     if !taken(r.ok, darts, r.scheme.second) {
-        return Answer::BadForm;
+        return Answer::Refused(Refusal::BadForm);
     }
     let v = conditions::judge(
         r.scheme.n,
@@ -85,13 +87,26 @@ pub(crate) fn staged(
         &r.ltwice,
         &r.rtwice,
     );
-    let answer = v.answer;
+    let found = v.fault;
     let s = r.scheme;
     let tree = v.tree;
-    match answer {
-        Answer::Done => apply_at(n, slots, table, store, s, tree, first(darts), second(darts)),
-        _ => answer,
+    match found {
+        Fault::Clean => apply_at(n, slots, table, store, s, tree, first(darts), second(darts)),
+        Fault::Given(f) => Answer::Refused(f),
     }
+}
+
+// Six numbers at the start of `out`.
+fn six(c: [u32; 6], out: &mut [u32])
+    requires { ⌜ countSize ≤ length (now out) ⌝ }
+    ensures { λ _. ⌜ now (out .exit) ≡ sixAt c (now (out .entry)) ⌝ }
+{
+    out[0] = c[0];
+    out[1] = c[1];
+    out[2] = c[2];
+    out[3] = c[3];
+    out[4] = c[4];
+    out[5] = c[5];
 }
 
 // Refusals 7 and 12, and the count.
@@ -100,27 +115,20 @@ pub(crate) fn counted(
     slots: usize,
     table: &[u32],
     store: &mut [u32],
-    enough: bool,
+    out: &mut [u32],
 ) -> Answer
     requires { ⌜ (n ≡ 2) ⊎ (n ≡ 3) ⌝ }
     requires { ⌜ Sized slots (now table) ⌝ }
     requires { ⌜ length (now store) ≡ 16 * slots ⌝ }
-    ensures { λ r. ⌜ r ≡ countStaged n (view slots (now (table .entry))) enough ⌝ }
+    ensures { λ r. ⌜ CountStaged n (view slots (now (table .entry))) (now (out .entry)) r (now (out .exit)) ⌝ }
 {
     let found = table::survey(n, slots, table);
     let Finding::Live(live) = found else {
-        return Answer::BadTable;
+        return Answer::Refused(Refusal::BadTable);
     };
-    if !enough {
-        return Answer::ShortOutput;
+    if out.len() < 6 {
+        return Answer::Refused(Refusal::ShortOutput);
     }
-    let c = count::count(n, slots, table, store, live);
-    Answer::Counted {
-        live: c[0],
-        vertices: c[1],
-        edges: c[2],
-        faces: c[3],
-        pieces: c[4],
-        volumes: c[5],
-    }
+    six(count::count(n, slots, table, store, live), out);
+    Answer::Done
 }

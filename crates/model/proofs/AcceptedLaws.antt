@@ -21,15 +21,15 @@ use Rattle.model.specs.Accepted.{Accepted}
 use Rattle.model.specs.declared.Scheme.{Scheme}
 use Rattle.model.proofs.CycleLaws.{cycle-at, cycle-of, same-arc, arc-same}
 use Rattle.model.proofs.HookLaws.{first-hook, hook-iff, hook-below, found-reached, reached-found}
-use Rattle.model.specs.declared.Answer.{Answer}
-use Rattle.model.specs.declared.Answer.the-variants.{BadHook, BadIncidence, BadCycle}
+use Rattle.model.specs.declared.Refusal.{Refusal}
+use Rattle.model.specs.declared.Refusal.the-variants.{BadHook, BadIncidence, BadCycle}
 
 -- a refusal that names a node is given just where a node was found
-pub noted-at : (f : ℕ → Answer) (o : Option ℕ) (a : Answer) → noted f o ≡ some a → (s : ℕ) × (o ≡ some s) × (f s ≡ a)
+pub noted-at : (f : ℕ → Refusal) (o : Option ℕ) (a : Refusal) → noted f o ≡ some a → (s : ℕ) × (o ≡ some s) × (f s ≡ a)
 noted-at f none a e = absurd (some-not-none e refl)
 noted-at f (some s) a e = (s, refl, cc)
 
-pub noted-none : (f : ℕ → Answer) (o : Option ℕ) → noted f o ≡ none → o ≡ none
+pub noted-none : (f : ℕ → Refusal) (o : Option ℕ) → noted f o ≡ none → o ≡ none
 noted-none f none e = refl
 noted-none f (some s) e = absurd (some-not-none {o = some (f s)} {a = f s} refl e)
 

@@ -3,15 +3,15 @@
 use Prim.Native.Nat.{ℕ, _*_, _≤_}
 use mathlib.Core.Path.{_≡_, refl, sym, ap, ap₂, _∙_, subst}
 use mathlib.Core.Bool.{Bool, not, cond}
-use mathlib.Core.Option.{Option, none, some, Option·getD}
-use mathlib.Core.List.{List, [], _++_}
-use lib.ListN.{length, drop, replicate}
+use mathlib.Core.Option.{Option, none, some}
+use mathlib.Core.List.{List, []}
+use lib.ListN.{length, getD, replicate}
 use lib.Dec.{eqb, ltb}
 use borrow.Author.Tests.{eqb-true, ltb-true}
 use Rattle.base.specs.Test.{_and_}
 use Rattle.base.specs.First.{someIf, there, _orElse_}
 use Rattle.base.proofs.TestLaws.{same-test, and-left, and-right, and-same}
-use Rattle.base.proofs.FirstLaws.{or-else-none, or-else-same, getD-same}
+use Rattle.base.proofs.FirstLaws.{or-else-same}
 use Rattle.model.specs.Map.{Map, view, tableOf}
 use Rattle.model.specs.WellFormed.{WellFormed, wellFormed}
 use Rattle.model.specs.Scheme.{schemeOf, orbitDim}
@@ -20,25 +20,60 @@ use Rattle.model.specs.Edit.{edited}
 use Rattle.model.specs.File.{file, fileForm, fileMap}
 use Rattle.model.specs.Site.{Site, siteWith, Sound}
 use Rattle.model.specs.Calls.{sizesOk, mapFault, tableFault, checkTable, firstDart, secondDart, isDart, fitFault, siteFault, siteDone, siteOf}
-use Rattle.model.specs.Calls.{countFaultAt, countDone, countFault, countAnswer}
+use Rattle.model.specs.Calls.{outputFaultAt, countSize, countFault, countAnswer, countOut}
 use Rattle.model.specs.Calls.{editFaultAt, editFault, editAnswer, editTable, editStore}
-use Rattle.model.specs.Calls.{loadFaultAt, loadFault, loadAnswer, loaded, loadTable, writeFaultAt, writeFault, writeAnswer, writeOut}
+use Rattle.model.specs.Calls.{loadFaultAt, loadFault, loadAnswer, loaded, loadTable, writeFault, writeAnswer, writeOut}
+use Rattle.model.specs.Answer.{answered}
 use Rattle.model.specs.Alike.{Alike}
-use Rattle.model.specs.Sequence.{AlikeTables}
+use Rattle.model.specs.Sequence.{AlikeTables, Lent, written, outcomeOf, count, write}
 use Rattle.model.specs.declared.Scheme.{Scheme}
 use Rattle.model.specs.declared.Darts.{Darts}
+use Rattle.model.specs.declared.Refusal.{Refusal}
+use Rattle.model.specs.declared.Refusal.the-variants.{BadCall, BadTable, NoDart, NoMatch, NoRoom, ShortOutput}
 use Rattle.model.specs.declared.Answer.{Answer}
-use Rattle.model.specs.declared.Answer.the-variants.{Done, Edited, Written, BadCall, BadTable, NoDart, NoMatch, NoRoom, ShortOutput}
+use Rattle.model.specs.declared.Answer.the-variants.{Done, Edited, Written}
 use Rattle.model.proofs.WellFormedLaws.{wellFormed-iff}
 use Rattle.model.proofs.AcceptedLaws.{small}
 use Rattle.model.proofs.MatchIff.{good-orbit}
-use Rattle.model.proofs.CallLaws.{passed, bytes-accepted, bytes-many, darts-alone, live-dart, granted, sound, ready, edit-table, refused-table}
-use Rattle.model.proofs.HoldsLaws.{holds-slotted, dimension-small, table-length, edit-holds, store-zero, load-slotted, written-file, writtenFile}
+use Rattle.model.proofs.CallLaws.{passed, output-passed, bytes-accepted, bytes-many, darts-alone, live-dart, granted, sound, ready, edit-table, refused-table}
+use Rattle.model.proofs.HoldsLaws.{holds-slotted, dimension-small, table-length, edit-holds, store-zero, load-slotted, written-is}
 use Rattle.model.proofs.AlikeLaws.{alike-refl, alike-sym, alike-trans, words-alike, well-alike, same-live, same-orbit}
 use Rattle.model.proofs.AlikeMatch.{moved, same-matches}
 use Rattle.model.proofs.AlikeEdit.{same-size, same-added, same-deleted, same-space, edited-alike}
 use Rattle.model.proofs.AlikeCount.{same-counts}
+use Rattle.model.proofs.CountLaws.{counts-six}
 use Rattle.model.proofs.FileLaws.{same-file}
+
+-- ---- answers and what is written
+
+-- two calls with the same refusal answer the same, where they do with none
+answered-same : {o o′ : Option Refusal} {d d′ : Answer} → o ≡ o′ → (o ≡ none → d ≡ d′) → answered d o ≡ answered d′ o′
+answered-same {o} {o′} {d} {d′} e done = ap (answered d) e ∙ go o′ (sym e)
+  where
+    go : (p : Option Refusal) → p ≡ o → answered d p ≡ answered d′ p
+    go none q = done (sym q)
+    go (some f) q = refl
+
+-- and write the same, nothing where they are refused
+same-unless : {o o′ : Option Refusal} {v v′ : List ℕ} → o ≡ o′ → (o ≡ none → v ≡ v′) → cond (there o) [] v ≡ cond (there o′) [] v′
+unfolding there
+same-unless {o} {o′} {v} {v′} e done = ap (λ (p : Option Refusal). cond (there p) [] v) e ∙ go o′ (sym e)
+  where
+    go : (p : Option Refusal) → p ≡ o → cond (there p) [] v ≡ cond (there p) [] v′
+    go none q = done (sym q)
+    go (some f) q = refl
+
+-- a count that is done has written its numbers, and a write its file
+module _ (n N : ℕ) (t : List ℕ) (l : Lent) where
+  pub count-written : written count (outcomeOf n N t count l) ≡ cond (there (countFault n N t (l .store) (l .output))) [] (counts n (view N t))
+  unfolding countAnswer countOut
+  count-written =
+      written-is (countFault n N t (l .store) (l .output)) Done (λ v. countSize) (counts n (view N t)) (l .output) refl (sym (counts-six n (view N t)))
+
+  pub write-written : written write (outcomeOf n N t write l) ≡ cond (there (writeFault n N t (l .output))) [] (file n (view N t))
+  unfolding writeAnswer writeOut
+  write-written =
+      written-is (writeFault n N t (l .output)) (Written (length (file n (view N t)))) (λ v. getD v 0 0) (file n (view N t)) (l .output) refl refl
 
 -- ---- two tables
 
@@ -72,7 +107,7 @@ module _ (n N : ℕ) (t t′ : List ℕ) (a : AlikeTables n N t t′) where
 
   pub same-check : checkTable n N t ≡ checkTable n N t′
   unfolding checkTable
-  same-check = ap (λ (o : Option Answer). Option·getD o Done) same-table-fault
+  same-check = ap (answered Done) same-table-fault
 
   -- ---- an edit
 
@@ -132,7 +167,7 @@ module _ (n N : ℕ) (t t′ : List ℕ) (a : AlikeTables n N t t′) where
 
     pub same-edit : editAnswer n N t store b d ≡ editAnswer n N t′ store′ b d
     unfolding editAnswer
-    same-edit = getD-same _ _ same-fault (λ q. same-done (sound n N t store b d q) (granted n N t store b d q .dimension))
+    same-edit = answered-same same-fault (λ q. same-done (sound n N t store b d q) (granted n N t store b d q .dimension))
 
     edited-like : editFault n N t store b d ≡ none → Alike (edited E) (edited E′)
     edited-like q =
@@ -145,7 +180,7 @@ module _ (n N : ℕ) (t t′ : List ℕ) (a : AlikeTables n N t t′) where
     unfolding edited
     edit-alike = go (editFault n N t store b d) refl
       where
-        go : (o : Option Answer) → editFault n N t store b d ≡ o → AlikeTables n N (editTable n N t store b d) (editTable n N t′ store′ b d)
+        go : (o : Option Refusal) → editFault n N t store b d ≡ o → AlikeTables n N (editTable n N t store b d) (editTable n N t′ store′ b d)
         go none q =
             let q′ = sym same-fault ∙ q in
             record {
@@ -160,31 +195,42 @@ module _ (n N : ℕ) (t t′ : List ℕ) (a : AlikeTables n N t t′) where
     pub same-store : length store ≡ 16 * N → editStore n N t store b d ≡ editStore n N t′ store′ b d
     same-store k = store-zero n N t store b d (a .one .sizes) k ∙ sym (store-zero n N t′ store′ b d (a .other .sizes) (sym e ∙ k))
 
+  -- ---- a call that writes to an output
+
+  -- its refusals are the same where the sizes are right on both sides or wrong on both
+  same-output-fault : {fit fit′ : Bool} (size : ℕ) (out out′ : List ℕ) → fit ≡ fit′ → length out ≡ length out′
+      → outputFaultAt fit n m size out ≡ outputFaultAt fit′ n m′ size out′
+  unfolding outputFaultAt mapFault
+  same-output-fault size out out′ s e = λ i.
+      (someIf (not (s i)) BadCall orElse someIf (not (same-well i)) BadTable) orElse someIf (ltb (e i) size) ShortOutput
+
   -- ---- a count
 
-  module _ (store store′ : List ℕ) (e : length store ≡ length store′) (enough : Bool) where
-    same-count-fault : countFault n N t store enough ≡ countFault n N t′ store′ enough
-    unfolding countFault countFaultAt
-    same-count-fault = ap₂ (λ (s w : Bool). someIf (not s) BadCall orElse someIf (not w) BadTable orElse someIf (not enough) ShortOutput)
-        (ap₂ (λ (s : Bool) (k : ℕ). s and eqb k (16 * N)) same-sizes e) same-well
+  module _ (l l′ : Lent) (e : length (l .store) ≡ length (l′ .store)) (k : length (l .output) ≡ length (l′ .output)) where
+    same-count-fault : countFault n N t (l .store) (l .output) ≡ countFault n N t′ (l′ .store) (l′ .output)
+    unfolding countFault
+    same-count-fault = same-output-fault countSize (l .output) (l′ .output) (ap₂ (λ (s : Bool) (k : ℕ). s and eqb k (16 * N)) same-sizes e) k
 
     -- the cells are counted where the map has been found well-formed
-    cells-same : countFault n N t store enough ≡ none → counts n m ≡ counts n m′
-    unfolding countFault countFaultAt
+    cells-same : countFault n N t (l .store) (l .output) ≡ none → counts n m ≡ counts n m′
+    unfolding countFault
     cells-same q =
-        let well = passed _ _ (or-else-none _ _ (or-else-none _ _ q .1) .0) in
+        let well = output-passed _ n m _ _ q .1 in
         same-counts n (dimension-small n N t (a .one .sizes)) m m′ (a .alike) (wellFormed-iff n m .0 well)
         (wellFormed-iff n m′ .0 (sym same-well ∙ well))
 
-    pub same-count : countAnswer n N t store enough ≡ countAnswer n N t′ store′ enough
+    pub same-count : countAnswer n N t (l .store) (l .output) ≡ countAnswer n N t′ (l′ .store) (l′ .output)
     unfolding countAnswer
-    same-count = getD-same _ _ same-count-fault (λ q. ap countDone (cells-same q))
+    same-count = ap (answered Done) same-count-fault
+
+    pub same-numbers : written count (outcomeOf n N t count l) ≡ written count (outcomeOf n N t′ count l′)
+    same-numbers = count-written n N t l ∙ same-unless same-count-fault cells-same ∙ sym (count-written n N t′ l′)
 
   -- ---- a load
 
   pub same-load : (b : List ℕ) → loadAnswer n N t b ≡ loadAnswer n N t′ b
   unfolding loadAnswer loadFault
-  same-load b = ap (λ (s : Bool). Option·getD (loadFaultAt s n N b) Done) same-sizes
+  same-load b = ap (λ (s : Bool). answered Done (loadFaultAt s n N b)) same-sizes
 
   -- a load keeps nothing of the table that was there
   pub same-load-table : (b : List ℕ) → loadTable n N t b ≡ loadTable n N t′ b
@@ -204,22 +250,15 @@ module _ (n N : ℕ) (t t′ : List ℕ) (a : AlikeTables n N t t′) where
   pub same-bytes : file n m ≡ file n m′
   same-bytes = same-file n (dimension-small n N t (a .one .sizes)) m m′ (a .alike)
 
-  module _ (out out′ : List ℕ) (e : length out ≡ length out′) where
-    same-write-fault : writeFault n N t out ≡ writeFault n N t′ out′
-    unfolding writeFault writeFaultAt tableFault
-    same-write-fault = or-else-same _ _ same-table-fault
-        (λ q. ap₂ (λ (k : ℕ) (l : List ℕ). someIf (ltb k (length l)) ShortOutput) e same-bytes)
+  module _ (l l′ : Lent) (e : length (l .output) ≡ length (l′ .output)) where
+    same-write-fault : writeFault n N t (l .output) ≡ writeFault n N t′ (l′ .output)
+    unfolding writeFault
+    same-write-fault = same-output-fault (length (file n m)) (l .output) (l′ .output) same-sizes e
+        ∙ ap (λ (b : List ℕ). outputFaultAt (sizesOk n N t′) n m′ (length b) (l′ .output)) same-bytes
 
-    pub same-write : writeAnswer n N t out ≡ writeAnswer n N t′ out′
+    pub same-write : writeAnswer n N t (l .output) ≡ writeAnswer n N t′ (l′ .output)
     unfolding writeAnswer
-    same-write = ap₂ (λ (o : Option Answer) (l : List ℕ). Option·getD o (Written (length l))) same-write-fault same-bytes
+    same-write = ap₂ (λ (o : Option Refusal) (b : List ℕ). answered (Written (length b)) o) same-write-fault same-bytes
 
-    pub same-written : writtenFile n N t out ≡ writtenFile n N t′ out′
-    same-written = written-file n N t out
-        ∙ ap₂ (λ (o : Option Answer) (l : List ℕ). cond (there o) [] l) same-write-fault same-bytes
-        ∙ sym (written-file n N t′ out′)
-
-  -- where the outputs hold the same before, they do afterwards
-  pub same-out : (out : List ℕ) → writeOut n N t out ≡ writeOut n N t′ out
-  unfolding writeOut
-  same-out out = ap₂ (λ (o : Option Answer) (l : List ℕ). cond (there o) out (l ++ drop (length l) out)) (same-write-fault out out refl) same-bytes
+    pub same-written : written write (outcomeOf n N t write l) ≡ written write (outcomeOf n N t′ write l′)
+    same-written = write-written n N t l ∙ same-unless same-write-fault (λ q. same-bytes) ∙ sym (write-written n N t′ l′)

@@ -5,6 +5,7 @@ use mathlib.Core.Path.{_≡_, refl, sym, ap, _∙_}
 use mathlib.Core.Bool.{Bool, true, false, not, cond, true≢false}
 use mathlib.Core.Option.{none, some}
 use mathlib.Core.List.{List}
+use lib.ListN.{length}
 use borrow.Author.Tests.{eqb-true, ltb-true, ltb-false, not-false}
 use Rattle.base.specs.First.{someIf}
 use Rattle.model.specs.Map.{Map, view, tableOf}
@@ -15,12 +16,12 @@ use Rattle.model.specs.Conditions.{schemeFault}
 use Rattle.model.specs.Site.{LiveDart, Sound}
 use Rattle.model.specs.Match.{matches}
 use Rattle.model.specs.Edit.{addedDarts, roomOf, edited}
-use Rattle.model.specs.Calls.{bytesFault, firstDart, secondDart, asMany, takes, isDart, fitFault, siteFault, sizesOk}
+use Rattle.model.specs.Calls.{bytesFault, firstDart, secondDart, asMany, takes, isDart, fitFault, siteFault, sizesOk, mapFault, outputFaultAt}
 use Rattle.model.specs.Calls.{editFaultAt, siteOf, editFault, editTable}
 use Rattle.model.specs.declared.Scheme.{Scheme}
 use Rattle.model.specs.declared.Darts.{Darts}
 use Rattle.model.specs.declared.Darts.the-variants.{One, Two}
-use Rattle.model.specs.declared.Answer.{Answer}
+use Rattle.model.specs.declared.Refusal.{Refusal}
 use Rattle.base.proofs.TestLaws.{and-left, and-right}
 use Rattle.base.proofs.FirstLaws.{or-else-none, when-none, there-none, there-of}
 use Rattle.model.proofs.WellFormedLaws.{wellFormed-iff}
@@ -31,8 +32,17 @@ use Rattle.model.proofs.MatchIff.{match-ready}
 use Rattle.model.proofs.EditLaws.{Ready}
 use Rattle.model.proofs.KeepLaws.{edit-keeps}
 
-pub passed : (t : Bool) (a : Answer) → someIf (not t) a ≡ none → t ≡ true
+pub passed : (t : Bool) (a : Refusal) → someIf (not t) a ≡ none → t ≡ true
 passed t a e = not-false t (when-none (not t) a e)
+
+-- what has been tested of a call that writes to an output and is not refused
+pub output-passed : (fit : Bool) (n : ℕ) (m : Map) (size : ℕ) (out : List ℕ) → outputFaultAt fit n m size out ≡ none
+    → (fit ≡ true) × (wellFormed n m ≡ true) × (size ≤ length out)
+unfolding outputFaultAt mapFault
+output-passed fit n m size out q =
+    let p = or-else-none _ _ q in
+    let r = or-else-none _ _ (p .0) in
+    (passed _ _ (r .0), passed _ _ (r .1), ltb-false (length out) size (when-none _ _ (p .1)))
 
 -- bytes with no fault in an edit are an accepted scheme's, which has as many hooks as there are darts
 pub bytes-accepted : (D : Darts) (b : List ℕ) → bytesFault (takes D b) b ≡ none → Accepted (schemeOf b)
@@ -121,6 +131,6 @@ module _ (n N : ℕ) (t store b : List ℕ) (d : Darts) (q : editFault n N t sto
       (words-well (schemeOf b .n) m (small (schemeOf b) (shaped b (g .form))) (edit-keeps (siteOf N t b d) (sound .well) ready))
 
 -- an edit that is refused leaves the table as it was
-pub refused-table : (n N : ℕ) (t store b : List ℕ) (d : Darts) (a : Answer) → editFault n N t store b d ≡ some a → editTable n N t store b d ≡ t
+pub refused-table : (n N : ℕ) (t store b : List ℕ) (d : Darts) (a : Refusal) → editFault n N t store b d ≡ some a → editTable n N t store b d ≡ t
 unfolding editTable
 refused-table n N t store b d a q = ap (λ (c : Bool). cond c t (tableOf (edited (siteOf N t b d)))) (there-of q)

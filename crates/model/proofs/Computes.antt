@@ -30,6 +30,6 @@ unfolding _and_ _or_ _⇒_ someIf _orElse_ there allBelow anyBelow countBelow fi
     E.orbitSize E.addedDarts E.deletedDarts E.roomOf E.dartOf E.pairOf E.newLink E.newWord E.edited
     F.liveDarts F.section F.file F.fileForm F.placeOf F.fileMap A.mapFault A.tableFault A.checkTable A.bytesFault A.checkScheme A.fitFault
     A.siteFault A.editFaultAt A.siteDone A.editFault A.editAnswer A.editTable A.editStore
-    A.countFaultAt A.countDone A.countFault A.countAnswer A.countStore A.countOut A.loadFaultAt A.loadFault A.loadAnswer A.loaded A.loadTable
-    A.writeFaultAt A.writeFault A.writeAnswer A.writeOut
+    A.outputFaultAt A.countFault A.countAnswer A.countStore A.countOut A.loadFaultAt A.loadFault A.loadAnswer A.loaded A.loadTable
+    A.writeFault A.writeAnswer A.writeOut
 computes = tt

@@ -9,7 +9,7 @@ use mathlib.Core.Option.{Option, none, some}
 use native.Mathlib.Nat.{add-zero, le-antisymm}
 use native.Mathlib.Numerals.{add-one}
 use native.Mathlib.Omega.{arith}
-use lib.ListN.{getD}
+use lib.ListN.{length, getD}
 use lib.Dec.{eqb, ltb}
 use borrow.Author.Tests.{eqb-true, eq-eqb, not-true, not-false}
 use Rattle.base.specs.Test.{_and_, _or_}
@@ -236,6 +236,11 @@ all-but-small n i p h = go (ltb p i)
 pub cells-few : (m : Map) (k : ℕ) (dim : ℕ → ℕ) → cells m k dim ≤ m .slots
 unfolding cells
 cells-few m k dim = count-le (m .slots) _
+
+-- there are six numbers
+pub counts-six : (n : ℕ) (m : Map) → length (counts n m) ≡ 6
+unfolding counts
+counts-six n m = refl
 
 -- no count is more than the slots
 pub counts-few : (n : ℕ) (m : Map) (i : ℕ) → getD (counts n m) i 0 ≤ m .slots

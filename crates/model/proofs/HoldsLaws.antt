@@ -3,13 +3,13 @@
 use Prim.Native.Nat.{ℕ, _*_, _≤_, _<_}
 use mathlib.Core.Path.{_≡_, refl, sym, ap, _∙_, subst}
 use mathlib.Core.Logic.{inl, inr, ⊎-elim, _↔_}
-use mathlib.Core.Bool.{Bool, true, false, not, cond}
-use mathlib.Core.Option.{Option, none, some, Option·getD}
-use mathlib.Core.List.{List, [], _++_}
+use mathlib.Core.Bool.{Bool, true, false, cond}
+use mathlib.Core.Option.{Option, none, some}
+use mathlib.Core.List.{List, []}
 use native.Mathlib.Omega.{arith}
-use lib.ListN.{length, getD, take, drop, replicate, length-replicate}
+use lib.ListN.{length, take, replicate, length-replicate}
 use lib.Seq.{take-append-seam}
-use lib.Dec.{ltb}
+use lib.Dec.{eqb}
 use borrow.Author.Tests.{eq-eqb, ne-eqb}
 use Rattle.base.specs.Test.{_and_, bit}
 use Rattle.base.specs.First.{someIf, there, _orElse_}
@@ -18,14 +18,16 @@ use Rattle.base.proofs.FirstLaws.{or-else-none}
 use Rattle.model.specs.Map.{Map, State, view, tableOf, tableSize}
 use Rattle.model.specs.WellFormed.{WellFormed, wellFormed}
 use Rattle.model.specs.Edit.{edited}
-use Rattle.model.specs.File.{file, fileForm, fileMap, placeOf}
-use Rattle.model.specs.Answer.{number, values}
+use Rattle.model.specs.File.{fileForm, fileMap, placeOf}
+use Rattle.model.specs.Answer.{refusalNumber, number, values, answered}
 use Rattle.model.specs.Calls.{zeros, sizesOk, mapFault, tableFault, checkTable, siteOf, editFault, editTable, editStore}
-use Rattle.model.specs.Calls.{loaded, loadTable, writeFaultAt, writeFault, writeAnswer, writeOut}
+use Rattle.model.specs.Calls.{loaded, loadTable, outputAfter}
 use Rattle.model.specs.Sequence.{Slotted, Holds}
 use Rattle.model.specs.declared.Darts.{Darts}
+use Rattle.model.specs.declared.Refusal.{Refusal}
 use Rattle.model.specs.declared.Answer.{Answer}
-use Rattle.model.specs.declared.Answer.the-variants.{Done, Written, BadCall, BadTable, ShortOutput}
+use Rattle.model.specs.declared.Answer.the-variants.{Done}
+use Rattle.model.proofs.AnswerLaws.{answered-free, number-bounds}
 use Rattle.model.proofs.SizeLaws.{sizes-iff}
 use Rattle.model.proofs.WellFormedLaws.{wellFormed-iff}
 use Rattle.model.proofs.MapLaws.{field-zero, field-words, length-words}
@@ -43,16 +45,8 @@ module _ (n N : ℕ) (t : List ℕ) where
 
   -- a table check answers 0 just where the table holds a well-formed map
   pub holds-iff : Holds n N t ↔ (number (checkTable n N t) ≡ 0)
-  unfolding checkTable tableFault mapFault someIf _orElse_
-  holds-iff = (
-    (λ h. ap (λ (o : Option Answer). number (Option·getD o Done)) (holds-free h)),
-    (λ e. holds-of (go (not (sizesOk n N t)) (not (wellFormed n (view N t))) e)),
-  )
-    where
-      go : (a b : Bool) → number (Option·getD (someIf a BadCall orElse someIf b BadTable) Done) ≡ 0 → someIf a BadCall orElse someIf b BadTable ≡ none
-      go true b e = absurd (omega arith)
-      go false true e = absurd (omega arith)
-      go false false e = refl
+  unfolding checkTable
+  holds-iff = ((λ h. ap (λ (o : Option Refusal). number (answered Done o)) (holds-free h)), (λ e. holds-of (answered-free Done (tableFault n N t) e)))
 
   pub holds-slotted : Holds n N t → Slotted n N t
   holds-slotted h = record { sizes = h .sizes; states = h .well .states }
@@ -111,7 +105,7 @@ edit-holds n N t store b d q =
 pub edit-kept : (n N : ℕ) (t store b : List ℕ) (d : Darts) → Holds n N t → Holds n N (editTable n N t store b d)
 edit-kept n N t store b d h = go (editFault n N t store b d) refl
   where
-    go : (o : Option Answer) → editFault n N t store b d ≡ o → Holds n N (editTable n N t store b d)
+    go : (o : Option Refusal) → editFault n N t store b d ≡ o → Holds n N (editTable n N t store b d)
     go none q = edit-holds n N t store b d q
     go (some r) q = rw (refused-table n N t store b d r q) h
 
@@ -149,24 +143,11 @@ module _ (n N : ℕ) (t b : List ℕ) (s : sizesOk n N t ≡ true) where
       go true = filed-slotted
       go false = holds-slotted n N (zeros t) (zeros-hold n N t s)
 
--- the file that a write leaves in the output: as many bytes as the answer counts
-abbrev pub writtenFile : ℕ → ℕ → List ℕ → List ℕ → List ℕ
-writtenFile n N t out = take (getD (values (writeAnswer n N t out)) 0 0) (writeOut n N t out)
+-- ---- what a call has written to its output
 
--- a write that is not refused leaves the map's file, a refused one none
-pub written-file : (n N : ℕ) (t out : List ℕ) → writtenFile n N t out ≡ cond (there (writeFault n N t out)) [] (file n (view N t))
-unfolding writeAnswer writeOut writeFault writeFaultAt mapFault someIf _orElse_ there
-written-file n N t out = go (not (sizesOk n N t)) (not (wellFormed n (view N t))) (ltb (length out) (length (file n (view N t))))
-  where
-    f : List ℕ
-    f = file n (view N t)
-
-    fault : Bool → Bool → Bool → Option Answer
-    fault a b c = (someIf a BadCall orElse someIf b BadTable) orElse someIf c ShortOutput
-
-    go : (a b c : Bool) → take (getD (values (Option·getD (fault a b c) (Written (length f)))) 0 0)
-        (cond (there (fault a b c)) out (f ++ drop (length f) out)) ≡ cond (there (fault a b c)) [] f
-    go true b c = refl
-    go false true c = refl
-    go false false true = refl
-    go false false false = take-append-seam f _
+-- a call that is done has written v, a refused one nothing; `done` is the answer where no refusal is found, and `size` how long v is by its values
+pub written-is : (o : Option Refusal) (done : Answer) (size : List ℕ → ℕ) (v out : List ℕ) → number done ≡ 0 → size (values done) ≡ length v
+    → take (cond (eqb (number (answered done o)) 0) (size (values (answered done o))) 0) (outputAfter o v out) ≡ cond (there o) [] v
+unfolding there
+written-is none done size v out zero long = rw (zero, long) (take-append-seam v _)
+written-is (some f) done size v out zero long = rw (ne-eqb (refusalNumber f) 0 (λ e. omega (arith, number-bounds f .0)))

@@ -7,7 +7,7 @@
 use Prim.Native.Nat.{ℕ, _<_}
 use mathlib.Core.Path.{_≡_}
 use mathlib.Core.Logic.{_⊎_}
-use mathlib.Core.Bool.{Bool, true, false}
+use mathlib.Core.Bool.{Bool, true, false, cond}
 use mathlib.Core.List.{List, []}
 use lib.ListN.{length, getD, take}
 use lib.Dec.{eqb}
@@ -16,7 +16,8 @@ use Rattle.model.specs.Map.{view}
 use Rattle.model.specs.WellFormed.{WellFormed}
 use Rattle.model.specs.Alike.{Alike}
 use Rattle.model.specs.Answer.{number, values}
-use Rattle.model.specs.Calls.{sizesOk, checkTable, checkScheme, editAnswer, editTable, editStore, countAnswer, countStore, loadAnswer, loadTable, writeAnswer, writeOut}
+use Rattle.model.specs.Calls.{sizesOk, checkTable, checkScheme, editAnswer, editTable, editStore, countSize, countAnswer, countStore, countOut}
+use Rattle.model.specs.Calls.{loadAnswer, loadTable, writeAnswer, writeOut}
 use Rattle.model.specs.declared.Darts.{Darts}
 use Rattle.model.specs.declared.Answer.{Answer}
 
@@ -45,7 +46,7 @@ pub record BothHold (n N : ℕ) (t t′ : List ℕ) : Type 0 where
 
 -- ---- the same sequence, with equal other arguments and lent buffers of equal length
 
--- what is asked, with every argument but n, N, the table and the lent buffer
+-- what is asked, with every argument but n, N, the table and what is lent
 pub data Request : Type 0 where
   tableCheck : Request
   schemeCheck : (scheme : List ℕ) → Request
@@ -54,47 +55,68 @@ pub data Request : Type 0 where
   load : (file : List ℕ) → Request
   write : Request
 
--- a call: its request, and the buffer lent to it with what that holds, the working store of an edit or a count, or a write's output; the other calls take none
+-- what is lent to a call, with what it holds: a working store to an edit and a count, an output to a count and a write
+pub record Lent : Type 0 where
+  pub store : List ℕ
+  pub output : List ℕ
+
 pub record Call : Type 0 where
   pub request : Request
-  pub lent : List ℕ
+  pub lent : Lent
 
 pub record SameCall (c c′ : Call) : Type 0 where
   pub request : c .request ≡ c′ .request
-  pub lengths : length (c .lent) ≡ length (c′ .lent)
+  pub stores : length (c .lent .store) ≡ length (c′ .lent .store)
+  pub outputs : length (c .lent .output) ≡ length (c′ .lent .output)
 
 -- ---- what comes of every call
 
--- the answer, and what the table and the lent buffer hold afterwards
+-- the answer, and what the table and what is lent hold afterwards
 pub record Outcome : Type 0 where
   pub answer : Answer
   pub table : List ℕ
-  pub lent : List ℕ
+  pub lent : Lent
 
--- the outcome that the definitions of the calls (Calls.antt) give
+-- the outcome that the definitions of the calls (Calls.antt) give: what a call is not given to change stays as it was
 module _ (n N : ℕ) (t : List ℕ) where
-  unfoldable pub outcomeOf : Request → List ℕ → Outcome
+  abbrev pub outcomeOf : Request → Lent → Outcome
   outcomeOf tableCheck l = record { answer = checkTable n N t; table = t; lent = l }
   outcomeOf (schemeCheck b) l = record { answer = checkScheme b; table = t; lent = l }
-  outcomeOf (edit b D) l = record { answer = editAnswer n N t l b D; table = editTable n N t l b D; lent = editStore n N t l b D }
-  outcomeOf count l = record { answer = countAnswer n N t l true; table = t; lent = countStore n N t l }
+  outcomeOf (edit b D) l = record {
+    answer = editAnswer n N t (l .store) b D;
+    table = editTable n N t (l .store) b D;
+    lent = record { store = editStore n N t (l .store) b D; output = l .output };
+  }
+  outcomeOf count l = record {
+    answer = countAnswer n N t (l .store) (l .output);
+    table = t;
+    lent = record { store = countStore n N t (l .store) (l .output); output = countOut n N t (l .store) (l .output) };
+  }
   outcomeOf (load b) l = record { answer = loadAnswer n N t b; table = loadTable n N t b; lent = l }
-  outcomeOf write l = record { answer = writeAnswer n N t l; table = t; lent = writeOut n N t l }
+  outcomeOf write l = record {
+    answer = writeAnswer n N t (l .output);
+    table = t;
+    lent = record { store = l .store; output = writeOut n N t (l .output) };
+  }
 
-  unfoldable pub outcome : Call → Outcome
+  abbrev pub outcome : Call → Outcome
   outcome c = outcomeOf (c .request) (c .lent)
 
--- the file that a call has written: of a write's output as many bytes as the answer counts, none where it is a refusal
-abbrev pub fileOf : Request → Outcome → List ℕ
-fileOf tableCheck o = []
-fileOf (schemeCheck b) o = []
-fileOf (edit b D) o = []
-fileOf count o = []
-fileOf (load b) o = []
-fileOf write o = take (getD (values (o .answer)) 0 0) (o .lent)
+-- the first k words or bytes of the output of a call that is done, none of one that is refused
+abbrev pub doneOutput : ℕ → Outcome → List ℕ
+doneOutput k o = take (cond (eqb (number (o .answer)) 0) k 0) (o .lent .output)
 
--- whether both maps are known to be well-formed after a call that answers a, where `known` says it of before: "from each table check that answers 0
--- until the next load"
+-- what a call has written: the numbers of a count, and of a write as many bytes as the answer counts
+abbrev pub written : Request → Outcome → List ℕ
+written tableCheck o = []
+written (schemeCheck b) o = []
+written (edit b D) o = []
+written count o = doneOutput countSize o
+written (load b) o = []
+written write o = doneOutput (getD (values (o .answer)) 0 0) o
+
+-- Whether both maps must be well-formed after a call that answers a: "from each table check that answers 0 until the next load". A table check that
+-- answers 0 makes it so, a load ends it, and every other call leaves it as it was before, which is `known`.
 abbrev pub knownAfter : Bool → Request → Answer → Bool
 knownAfter known tableCheck a = known or eqb (number a) 0
 knownAfter known (schemeCheck b) a = known
@@ -112,9 +134,9 @@ pub record Event : Type 0 where
 abbrev pub knownOf : Bool → Event → Bool
 knownOf known e = knownAfter known (e .call .request) (e .outcome .answer)
 
--- both maps are still alike, answers and written files are equal, and where the maps are known to be well-formed they are
+-- both maps are still alike, answers and what is written are equal, and where the maps are known to be well-formed they are
 pub record AlikeEvents (n N : ℕ) (known : Bool) (e e′ : Event) : Type 0 where
   pub tables : AlikeTables n N (e .outcome .table) (e′ .outcome .table)
   pub answers : e .outcome .answer ≡ e′ .outcome .answer
-  pub files : fileOf (e .call .request) (e .outcome) ≡ fileOf (e′ .call .request) (e′ .outcome)
+  pub files : written (e .call .request) (e .outcome) ≡ written (e′ .call .request) (e′ .outcome)
   pub well : known ≡ true → BothHold n N (e .outcome .table) (e′ .outcome .table)

@@ -3,7 +3,6 @@
 use Prim.Native.Nat.{ℕ}
 use mathlib.Core.Path.{_≡_, refl, ap, _∙_}
 use mathlib.Core.Bool.{Bool, true, false, not, cond}
-use mathlib.Core.Option.{Option·getD}
 use mathlib.Core.List.{List}
 use lib.ListN.{length}
 use lib.Dec.{eqb, leb}
@@ -11,17 +10,18 @@ use Rattle.base.specs.First.{someIf, _orElse_}
 use Rattle.model.specs.Map.{view}
 use Rattle.model.specs.WellFormed.{wellFormed}
 use Rattle.model.specs.File.{fileForm, fileMap}
-use Rattle.model.specs.Answer.{number}
+use Rattle.model.specs.Answer.{number, answered}
 use Rattle.model.specs.Calls.{sizesOk, mapFault, tableFault, checkTable, loadFaultAt, loadFault, loadAnswer, loadTable}
 use Rattle.model.specs.declared.Answer.{Answer}
-use Rattle.model.specs.declared.Answer.the-variants.{Done, BadCall, BadTable, BadFile}
+use Rattle.model.specs.declared.Answer.the-variants.{Done, Refused}
+use Rattle.model.specs.declared.Refusal.the-variants.{BadCall, BadTable, BadFile}
 use Rattle.model.proofs.AlikeLaws.{words-formed}
 use Rattle.model.proofs.HoldsLaws.{dimension-small, load-table, load-slotted}
 use Rattle.program.specs.Opening.{emptyTable, fileDimension, fileSlots, fileLoaded, fileTable, openAnswer}
 
 -- the first of three refusals
 abbrev firstOf : Bool → Bool → Bool → Answer
-firstOf sizes form well = Option·getD (someIf (not sizes) BadCall orElse someIf (not form) BadFile orElse someIf (not well) BadTable) Done
+firstOf sizes form well = answered Done (someIf (not sizes) BadCall orElse someIf (not form) BadFile orElse someIf (not well) BadTable)
 
 -- a check that follows a load, where the sizes are right and the file is in the form
 module _ (n N : ℕ) (t b : List ℕ) (s : sizesOk n N t ≡ true) (f : fileForm n N b ≡ true) where
@@ -35,7 +35,7 @@ module _ (n N : ℕ) (t b : List ℕ) (s : sizesOk n N t ≡ true) (f : fileForm
 
 -- a load with these tests, and c where it is done
 composed : (sizes form well : Bool) (c : Answer) → (sizes ≡ true → form ≡ true → c ≡ firstOf true true well)
-    → let load = Option·getD (someIf (not sizes) BadCall orElse someIf (not form) BadFile) Done in cond (eqb (number load) 0) c load ≡ firstOf sizes form well
+    → let load = answered Done (someIf (not sizes) BadCall orElse someIf (not form) BadFile) in cond (eqb (number load) 0) c load ≡ firstOf sizes form well
 unfolding someIf _orElse_
 composed false form well c h = refl
 composed true false well c h = refl
@@ -55,13 +55,13 @@ module _ (f : List ℕ) where
   taken-refusals = composed (sizesOk n N (emptyTable N)) (fileForm n N f) (wellFormed n (fileMap n N f)) _ (check-loaded n N (emptyTable N) f)
 
   -- written out, to be read beside the order of the rules
-  pub open-refusals : openAnswer f ≡ Option·getD (someIf (not (leb 3 (length f))) BadFile orElse someIf (not (sizesOk n N (emptyTable N))) BadCall
-      orElse someIf (not (fileForm n N f)) BadFile orElse someIf (not (wellFormed n (fileMap n N f))) BadTable) Done
+  pub open-refusals : openAnswer f ≡ answered Done (someIf (not (leb 3 (length f))) BadFile orElse someIf (not (sizesOk n N (emptyTable N))) BadCall
+      orElse someIf (not (fileForm n N f)) BadFile orElse someIf (not (wellFormed n (fileMap n N f))) BadTable)
   unfolding openAnswer someIf _orElse_
   open-refusals = go (leb 3 (length f))
     where
-      go : (long : Bool) → cond long (cond (eqb (number (fileLoaded f)) 0) (checkTable n N (fileTable f)) (fileLoaded f)) BadFile
-          ≡ Option·getD (someIf (not long) BadFile orElse someIf (not (sizesOk n N (emptyTable N))) BadCall
-          orElse someIf (not (fileForm n N f)) BadFile orElse someIf (not (wellFormed n (fileMap n N f))) BadTable) Done
+      go : (long : Bool) → cond long (cond (eqb (number (fileLoaded f)) 0) (checkTable n N (fileTable f)) (fileLoaded f)) (Refused BadFile)
+          ≡ answered Done (someIf (not long) BadFile orElse someIf (not (sizesOk n N (emptyTable N))) BadCall
+          orElse someIf (not (fileForm n N f)) BadFile orElse someIf (not (wellFormed n (fileMap n N f))) BadTable)
       go true = taken-refusals
       go false = refl

@@ -4,7 +4,6 @@ use Prim.Native.Nat.{ℕ, _≤_, _<_}
 use mathlib.Core.Path.{_≡_, refl, sym, ap, ap₂, _∙_, subst}
 use mathlib.Core.Logic.{by-cases}
 use mathlib.Core.Bool.{Bool, true, false, cond}
-use mathlib.Core.Option.{Option·getD}
 use mathlib.Core.List.{List, _++_}
 use native.Mathlib.Decide.{ℕ-discrete}
 use native.Mathlib.Omega.{arith}
@@ -15,16 +14,17 @@ use borrow.Author.Tests.{le-leb, lt-leb, eq-eqb, ne-eqb, eqb-false}
 use Rattle.base.specs.Test.{_and_, _or_}
 use Rattle.base.specs.Digits.{numberAt}
 use Rattle.base.proofs.TestLaws.{impossible, and-of, and-no-left, and-no-right}
-use Rattle.model.specs.Answer.{number}
+use Rattle.model.specs.Answer.{number, answered}
 use Rattle.model.specs.Map.{tableSize, maxSlots}
 use Rattle.model.specs.File.{twoAt}
 use Rattle.model.specs.Calls.{sizesOk, checkTable, loadFaultAt, loadFault, loadAnswer, loadTable}
 use Rattle.model.specs.declared.Answer.{Answer}
-use Rattle.model.specs.declared.Answer.the-variants.{Done, BadFile}
-use Rattle.model.proofs.AnswerLaws.{answers-same}
+use Rattle.model.specs.declared.Answer.the-variants.{Done, Refused as refusal}
+use Rattle.model.specs.declared.Refusal.the-variants.{BadFile}
 use Rattle.model.proofs.HoldsLaws.{table-length, load-slotted}
 use Rattle.model.proofs.SizeLaws.{sizes-iff}
 use Rattle.demands.specs.Promises.{TableChecked, FileLoaded}
+use Rattle.demands.proofs.OneOutcome.{answer-of, table-of}
 use Rattle.demands.proofs.RefusalLaws.{load-done}
 use Rattle.kernel.proofs.FileCallLaws.{load-1}
 use Rattle.program.specs.Opening.{emptyTable, fileDimension, fileSlots, fileLoaded, fileTable, openAnswer, openTable}
@@ -38,7 +38,7 @@ module _ (n N : ℕ) (t u b : List ℕ) (e : length t ≡ length u) where
   load-as : loadAnswer n N t b ≡ loadAnswer n N u b
   unfolding loadAnswer loadFault
   load-as =
-      ap (λ (k : ℕ). Option·getD (loadFaultAt ((eqb n 2 or eqb n 3) and leb 1 N and leb N maxSlots and eqb k (tableSize N)) n N b) Done) e
+      ap (λ (k : ℕ). answered Done (loadFaultAt ((eqb n 2 or eqb n 3) and leb 1 N and leb N maxSlots and eqb k (tableSize N)) n N b)) e
 
   -- what it leaves where it is done
   table-as : number (loadAnswer n N t b) ≡ 0 → loadTable n N t b ≡ loadTable n N u b
@@ -92,7 +92,7 @@ module _ (f : List ℕ) (n N : ℕ) (named : Named f n N) where
 
     module _ (r : Answer) (t′ : List ℕ) (x : FileLoaded n N t f r t′) (k : ℕ) (e : k ≡ number r) where
       number-file : k ≡ number (fileLoaded f)
-      number-file = e ∙ ap number (answers-same (x .answer) ∙ load-file)
+      number-file = e ∙ ap number (answer-of x ∙ load-file)
 
       pub load-refused : (k ≡ 0 → ⊥) → k ≡ number (openAnswer f)
       load-refused ne = number-file ∙ ap number (sym (refused-answer f (named .long) (λ z. ne (number-file ∙ z))))
@@ -101,9 +101,9 @@ module _ (f : List ℕ) (n N : ℕ) (named : Named f n N) where
       load-checked c j z y g =
           let zero : number (fileLoaded f) ≡ 0 = sym number-file ∙ z in
           let checked : checkTable n N t′ ≡ checkTable (fileDimension f) (fileSlots f) (fileTable f) =
-          ap (checkTable n N) (x .table ∙ table-file zero)
+          ap (checkTable n N) (table-of x ∙ table-file zero)
           ∙ ap₂ (λ (i j : ℕ). checkTable i j (fileTable f)) (named .dimension) (named .slots) in
-          g ∙ ap number (answers-same (y .answer) ∙ checked ∙ sym (checked-answer f (named .long) zero))
+          g ∙ ap number (answer-of y ∙ checked ∙ sym (checked-answer f (named .long) zero))
 
   -- ---- the table
 
@@ -114,7 +114,7 @@ module _ (f : List ℕ) (n N : ℕ) (named : Named f n N) where
       let i = fileDimension f in
       let j = fileSlots f in
       let over : sizesOk i j (emptyTable j) ≡ false = impossible _ (λ e. omega (arith, sizes-iff i j (emptyTable j) .0 e .few, named .slots)) in
-      let one : 1 ≡ number (fileLoaded f) = ap number (load-1 i j (emptyTable j) f over .0) in
+      let one : 1 ≡ number (fileLoaded f) = ap number (answer-of (load-1 i j (emptyTable j) f over)) in
       one ∙ ap number (sym (refused-answer f (named .long) (λ z. absurd (omega (arith, one, z)))))
 
   pub many-table : (t : List ℕ) → maxSlots < N → t ≡ openTable f t
@@ -141,7 +141,7 @@ unfolding openAnswer
 open-checked f z = go (leb 3 (length f)) (eqb (number (fileLoaded f)) 0) (checkTable (fileDimension f) (fileSlots f) (fileTable f)) (fileLoaded f)
     (eqb-false (number (fileLoaded f)) 0) z
   where
-    go : (long done : Bool) (c l : Answer) → (done ≡ false → number l ≡ 0 → ⊥) → number (cond long (cond done c l) BadFile) ≡ 0 → number c ≡ 0
+    go : (long done : Bool) (c l : Answer) → (done ≡ false → number l ≡ 0 → ⊥) → number (cond long (cond done c l) (refusal BadFile)) ≡ 0 → number c ≡ 0
     go true true c l ne z = z
     go true false c l ne z = absurd (ne refl z)
     go false done c l ne z = absurd (omega (arith, z))

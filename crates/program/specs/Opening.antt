@@ -12,7 +12,8 @@ use Rattle.model.specs.Map.{tableSize, maxSlots}
 use Rattle.model.specs.File.{twoAt}
 use Rattle.model.specs.Calls.{checkTable, loadAnswer, loadTable}
 use Rattle.model.specs.declared.Answer.{Answer}
-use Rattle.model.specs.declared.Answer.the-variants.{BadFile}
+use Rattle.model.specs.declared.Answer.the-variants.{Refused as refusal}
+use Rattle.model.specs.declared.Refusal.the-variants.{BadFile}
 use Rattle.program.specs.declared.opening.Opened.{Opened}
 use Rattle.program.specs.declared.opening.Opened.the-variants.{Map, Refused}
 
@@ -42,7 +43,7 @@ module _ (f : List ℕ) where
   -- a file of under three bytes names no n and N; of any other, what the check of the table answers where the map is loaded, else what the load
   -- answers
   unfoldable pub openAnswer : Answer
-  openAnswer = cond (leb 3 (length f)) (cond (eqb (number fileLoaded) 0) (checkTable fileDimension fileSlots fileTable) fileLoaded) BadFile
+  openAnswer = cond (leb 3 (length f)) (cond (eqb (number fileLoaded) 0) (checkTable fileDimension fileSlots fileTable) fileLoaded) (refusal BadFile)
 
   -- what a table t of `maxSlots` slots holds afterwards: what the load leaves of its first N records, and the rest unchanged; all of it where the
   -- file names no N or one that is too large

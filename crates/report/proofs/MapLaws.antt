@@ -1,29 +1,29 @@
 -- A map of the report: its line, the sums with it, which cannot overflow, and what it leaves in table and store.
 -- Assumes nothing.
 use Prim.Native.Nat.{ℕ, _+_, _*_, _-_, _≤_}
-use mathlib.Core.Path.{_≡_, refl, _∙_}
+use mathlib.Core.Path.{_≡_, refl, ap, _∙_}
 use mathlib.Core.Logic.{⊎-elim}
 use mathlib.Core.Bool.{true, false}
-use mathlib.Core.List.{List, [], _∷_, _++_}
+use mathlib.Core.List.{List, _++_, append-nil}
 use native.Mathlib.Omega.{arith}
-use lib.ListN.{length, getD, take, drop, replicate, List·getD-eq-default}
-use borrow.Author.Tests.{eq-eqb, ne-eqb, eqb-true}
-use Rattle.base.specs.First.{someIf, _orElse_}
+use lib.ListN.{length, getD, take, drop, replicate, List·getD-eq-default, drop-of-length-le}
+use borrow.Author.Tests.{eq-eqb, ne-eqb, eqb-true, le-ltb}
+use Rattle.base.specs.First.{someIf, _orElse_, there}
 use Rattle.base.proofs.TestLaws.{and-of, true-or-false}
 use Rattle.base.proofs.BelowLaws.{le-or-lt}
 use Rattle.base.proofs.ListLaws.{getD-list, length-list}
 use Rattle.model.specs.Answer.{number}
 use Rattle.model.specs.Map.{Map, view, tableSize, maxSlots}
 use Rattle.model.specs.Count.{counts}
-use Rattle.model.specs.Calls.{countSize, checkTable, countFaultAt, countFault, countAnswer, countDone, countStore}
+use Rattle.model.specs.Calls.{countSize, checkTable, mapFault, outputFaultAt, countFault, countStore, countOut}
 use Rattle.model.specs.declared.Answer.{Answer}
-use Rattle.model.specs.declared.Answer.the-variants.{Counted}
-use Rattle.model.proofs.AnswerLaws.{answers-same, number-few}
-use Rattle.model.proofs.CountLaws.{counts-few}
+use Rattle.model.proofs.AnswerLaws.{number-few}
+use Rattle.model.proofs.CountLaws.{counts-few, counts-six}
 use Rattle.model.proofs.HoldsLaws.{holds-iff}
 use Rattle.model.proofs.SizeLaws.{sizes-iff}
 use Rattle.model.proofs.WellFormedLaws.{wellFormed-iff}
 use Rattle.demands.specs.Promises.{MapCounted}
+use Rattle.demands.proofs.OneOutcome.{store-of, output-of}
 use Rattle.numbers.specs.Places.{Put}
 use Rattle.program.specs.Lines.{refusedLine}
 use Rattle.program.specs.Opening.{fileDimension, fileSlots, fileTable, openAnswer, openTable, MapOpen}
@@ -36,29 +36,22 @@ use Rattle.report.proofs.LineLaws.{few-short}
 
 -- ---- the numbers of a map
 
-counts-six : (n : ℕ) (m : Map) → length (counts n m) ≡ countSize
-unfolding counts
-counts-six n m = refl
-
 pub few-of : (n : ℕ) (m : Map) (c : List ℕ) → c ≡ counts n m → m .slots ≤ maxSlots → Few c
 few-of n m c e h = rw e (record { six = counts-six n m; few = λ i. omega (arith, counts-few n m i, h) })
 
 -- a map that is well-formed is counted, and its store comes back zero
 module _ (n N : ℕ) (t u : List ℕ) (z : number (checkTable n N t) ≡ 0) (s : length u ≡ 16 * N) where
-  pub counted : (r : Answer) (u′ : List ℕ) → MapCounted n N t u r u′ → (r ≡ countDone (counts n (view N t))) × (u′ ≡ replicate (16 * N) 0)
-  unfolding countAnswer countStore countFault countFaultAt someIf _orElse_
-  counted r u′ x =
+  pub counted : (out : List ℕ) → length out ≡ countSize → (r : Answer) (u′ out′ : List ℕ) → MapCounted n N t u out r u′ out′
+      → (out′ ≡ counts n (view N t)) × (u′ ≡ replicate (16 * N) 0)
+  unfolding countStore countOut countFault outputFaultAt mapFault someIf _orElse_ there
+  counted out six r u′ out′ x =
       let h = holds-iff n N t .1 z in
-      let fits = and-of (h .sizes) (eq-eqb (length u) (16 * N) s) in (
-        answers-same (x .answer) ∙ rw (fits, wellFormed-iff n (view N t) .1 (h .well)) refl,
-        x .cleared ∙ rw (fits, s) refl,
+      let fits = and-of (h .sizes) (eq-eqb (length u) (16 * N) s) in
+      let whole : counts n (view N t) ++ drop (length (counts n (view N t))) out ≡ counts n (view N t) =
+      ap (λ (k : List ℕ). counts n (view N t) ++ k) (drop-of-length-le out {i = length (counts n (view N t))} (omega (arith, counts-six n (view N t), six))) ∙ append-nil _ in (
+        output-of x ∙ rw (fits, wellFormed-iff n (view N t) .1 (h .well), le-ltb (length out) countSize (omega arith)) whole,
+        store-of x ∙ rw (fits, s) refl,
       )
-
--- the six numbers of the answer
-pub numbers-of : (n N : ℕ) (t : List ℕ) (r : Answer) (l v e f p o : ℕ) → r ≡ Counted l v e f p o → r ≡ countDone (counts n (view N t))
-    → l ∷ v ∷ e ∷ f ∷ p ∷ o ∷ [] ≡ counts n (view N t)
-unfolding countDone counts
-numbers-of n N t r l v e f p o q x = cc
 
 -- ---- a file that is not refused
 

@@ -1,6 +1,5 @@
 // The line of a map, and the sums with it.
 use crate::lines::count_line;
-use model::Answer;
 use program::lines::refused_line;
 use program::opening::Opened;
 use program::opening::open;
@@ -28,18 +27,9 @@ fn counts(n: u32, slots: u32, table: &[u32], store: &mut [u32]) -> [u32; 6]
     ensures { λ r. ⌜ r ≡ countsOf n (view slots (now (table .entry))) ⌝ }
     ensures { λ _. ⌜ now (store .exit) ≡ replicate (16 * slots) 0 ⌝ }
 {
-    let answer = kernel::count(n, slots, table, store);
-    match answer {
-        Answer::Counted {
-            live,
-            vertices,
-            edges,
-            faces,
-            pieces,
-            volumes,
-        } => [live, vertices, edges, faces, pieces, volumes],
-        _ => [0; 6],
-    }
+    let mut c = [0u32; 6];
+    kernel::count(n, slots, table, store, &mut c);
+    c
 }
 
 // Six numbers added to six.

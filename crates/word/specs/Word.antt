@@ -1,58 +1,60 @@
 -- The answer as one word, for callers in C, and the way back.
--- Assumes nothing.
 use Prim.Native.Nat.{ℕ, _+_, _*_, _/_, _%_, _<_}
+use mathlib.Core.Path.{_≡_}
 use mathlib.Core.Bool.{cond}
-use mathlib.Core.List.{List, [], _∷_}
-use lib.ListN.{length, getD}
-use lib.Dec.{eqb, ltb, leb}
-use Rattle.model.specs.Answer.{number, values}
+use lib.ListN.{getD}
+use lib.Dec.{ltb}
+use Rattle.model.specs.Answer.{refusalNumber, refusalValues, refusalOf}
+use Rattle.model.specs.Sequence.{Request, tableCheck, schemeCheck, edit, count, load, write}
+use Rattle.model.specs.declared.Refusal.{Refusal}
 use Rattle.model.specs.declared.Answer.{Answer}
+use Rattle.model.specs.declared.Answer.the-variants.{Done, Edited, Written, Refused}
+use Rattle.word.specs.declared.Named.{Named}
 
--- bit 63 is clear; three values take 21 bits each, or one takes all
-abbrev pub done : List ℕ → ℕ
-done v = getD v 0 0 + getD v 1 0 * 2097152 + getD v 2 0 * 4398046511104
+-- value k of a refusal, 0 where it has not so many
+abbrev pub valueOf : Refusal → ℕ → ℕ
+valueOf f k = getD (refusalValues f) k 0
+
+-- r has the number and the values of the refusal f
+pub record NamedBy (f : Refusal) (r : Named) : Type 0 where
+  pub number : r .number ≡ refusalNumber f
+  pub node : r .node ≡ valueOf f 0
+  pub i : r .i ≡ valueOf f 1
+  pub j : r .j ≡ valueOf f 2
 
 -- bit 63 is set; the number, the node, i and j take a byte each
 abbrev pub refused : ℕ → ℕ → ℕ → ℕ → ℕ
 refused k node i j = 9223372036854775808 + k + node * 256 + i * 65536 + j * 16777216
 
--- the values that stand in the word: up to three; the six of a count do not, they are in the output
-abbrev pub inWord : List ℕ → List ℕ
-inWord v = cond (leb (length v) 3) v []
-
--- the word of a number and of the values that stand in it
-abbrev pub word : ℕ → List ℕ → ℕ
-word k v = cond (eqb k 0) (done v) (refused k (getD v 0 0) (getD v 1 0) (getD v 2 0))
-
+-- where the call is done bit 63 is clear: the three counts of an edit take 21 bits each, and the length of a file takes them all
 abbrev pub packed : Answer → ℕ
-packed a = word (number a) (inWord (values a))
+packed Done = 0
+packed (Edited orbit added deleted) = orbit + added * 2097152 + deleted * 4398046511104
+packed (Written size) = size
+packed (Refused f) = refused (refusalNumber f) (valueOf f 0) (valueOf f 1) (valueOf f 2)
 
--- each of some values is below a bound
-abbrev pub Each : ℕ → List ℕ → Type 0
-Each bound [] = Unit
-Each bound (v ∷ l) = (v < bound) × Each bound l
+-- what a refusal names fits a byte
+abbrev pub SmallRefusal : Refusal → Type 0
+SmallRefusal f = (valueOf f 0 < 256) × (valueOf f 1 < 256) × (valueOf f 2 < 256)
 
--- what a value must be below, by the number of the answer and how many values it has
-abbrev pub room : ℕ → ℕ → ℕ
-room k many = cond (eqb k 0) (cond (eqb many 1) 9223372036854775808 2097152) 256
-
--- what stands in the word of an answer of the kernel is small enough for its place there
+-- what an answer returns fits its place in the word
 abbrev pub Small : Answer → Type 0
-Small a = Each (room (number a) (length (inWord (values a)))) (inWord (values a))
+Small Done = Unit
+Small (Edited orbit added deleted) = (orbit < 2097152) × (added < 2097152) × (deleted < 2097152)
+Small (Written size) = size < 9223372036854775808
+Small (Refused f) = SmallRefusal f
 
 -- ---- back
 
-unfoldable pub wordNumber : ℕ → ℕ
-wordNumber w = cond (ltb w 9223372036854775808) 0 (w % 256)
+-- what a request that is done has returned, by its word
+abbrev pub doneBack : Request → ℕ → Answer
+doneBack tableCheck w = Done
+doneBack (schemeCheck b) w = Done
+doneBack (edit b D) w = Edited (w % 2097152) (w / 2097152 % 2097152) (w / 4398046511104 % 2097152)
+doneBack count w = Done
+doneBack (load b) w = Done
+doneBack write w = Written w
 
--- the values of a call that is done, by how many it returns in the word: none, one or three
-unfoldable pub doneValues : ℕ → ℕ → List ℕ
-doneValues k w = getD ([] ∷ (w ∷ []) ∷ [] ∷ (w % 2097152 ∷ w / 2097152 % 2097152 ∷ w / 4398046511104 % 2097152 ∷ []) ∷ []) k []
-
--- the values of a refusal, by its number
-unfoldable pub shown : ℕ → ℕ → ℕ → ℕ → List ℕ
-shown k node i j = getD ([] ∷ [] ∷ [] ∷ (node ∷ []) ∷ (node ∷ []) ∷ (node ∷ i ∷ j ∷ []) ∷ []) k []
-
--- k: how many values the call returns in the word where it is done
-unfoldable pub wordValues : ℕ → ℕ → List ℕ
-wordValues k w = cond (ltb w 9223372036854775808) (doneValues k w) (shown (w % 256) (w / 256 % 256) (w / 65536 % 256) (w / 16777216 % 256))
+unfoldable pub unpacked : Request → ℕ → Answer
+unpacked q w = cond (ltb w 9223372036854775808) (doneBack q w)
+    (Refused (refusalOf (w % 256) (w / 256 % 256) (w / 65536 % 256) (w / 16777216 % 256)))

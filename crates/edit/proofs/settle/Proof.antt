@@ -77,20 +77,20 @@ rewrite-requires c κs =
     let r = p .prepare .ensures (room-ready P n o (e .if1 .left)) in
     link-ready P n o (e .if1 .left) r (g .give .ensures (give-ready P n o (e .if1 .left) r))
 
-cast-t38 : tie.Need-cast-t38
-cast-t38 c = record { fits = omega (arith, new-few (listed (given (c .before .before)))) }
+cast-t39 : tie.Need-cast-t39
+cast-t39 c = record { fits = omega (arith, new-few (listed (given (c .before .before)))) }
 
 mul-t16 : tie.Need-mul-t16
 mul-t16 c = record { fits = omega (arith, new-few (listed (given (c .before .before)))) }
 
-cast-t39 : tie.Need-cast-t39
-cast-t39 c = record { fits = omega (arith, new-few (listed (given (c .before .before)))) }
+cast-t40 : tie.Need-cast-t40
+cast-t40 c = record { fits = omega (arith, new-few (listed (given (c .before .before)))) }
 
 mul-t17 : tie.Need-mul-t17
 mul-t17 c = record { fits = omega (arith, gone-few (listed (given (c .before .before .before)))) }
 
-cast-t40 : tie.Need-cast-t40
-cast-t40 c = record { fits = omega (arith, gone-few (listed (given (c .before .before .before)))) }
+cast-t41 : tie.Need-cast-t41
+cast-t41 c = record { fits = omega (arith, gone-few (listed (given (c .before .before .before)))) }
 
 returns-2 : tie.Need-returns-2
 returns-2 c =
@@ -107,4 +107,4 @@ returns-2 c =
 pub settle-spec : {M : Type 1} → statement M
 settle-spec =
     tie.close (tie.spec of-kind-requires of-kind-requires-2 mul-if1 add-if1 mul-if1-2 returns prepare-requires give-requires rewrite-requires
-    cast-t38 mul-t16 cast-t39 mul-t17 cast-t40 (λ c. search needs) (λ c. search needs) returns-2)
+    cast-t39 mul-t16 cast-t40 mul-t17 cast-t41 (λ c. search needs) (λ c. search needs) returns-2)

@@ -7,7 +7,7 @@ use borrow.Author.Tests.{not-true, not-false}
 use denote.Ref.{now}
 use Rattle.model.specs.Calls.{sizesOk}
 use Rattle.kernel.proofs.CallLaws.{sizes-read}
-use Rattle.kernel.proofs.FileCallLaws.{load-kept, load-1, load-sized}
+use Rattle.kernel.proofs.FileCallLaws.{load-1, load-sized}
 use Rattle.kernel.proofs.load.Statement.{statement}
 use Rattle.kernel.proofs.load.Tie as tie
 
@@ -18,7 +18,7 @@ sizes-requires : tie.Need-sizes-requires
 sizes-requires c κs = search needs
 
 returns : tie.Need-returns
-returns c = load-kept (load-1 _ _ _ _ (sym (c .before .sizes .ensures) ∙ not-true _ (c .if1 .taken)))
+returns c = (load-1 _ _ _ _ (sym (c .before .sizes .ensures) ∙ not-true _ (c .if1 .taken)))
 
 load-requires : tie.Need-load-requires
 load-requires c κs = let a = c .before .before .before .before .before .before .args in sizes-read (a .n) (a .slots) (now (a .table)) (sized (c .before))
@@ -26,12 +26,12 @@ load-requires c κs = let a = c .before .before .before .before .before .before 
 returns-2 : tie.Need-returns-2
 returns-2 c =
     let l = c .before .before .before in
-    load-kept (load-sized _ _ _ _ (sized (l .before .before)) false (sym (l .load .ensures .0) ∙ not-true _ (c .if2 .taken)) _ (l .load .ensures .1))
+    (load-sized _ _ _ _ (sized (l .before .before)) false (sym (l .load .ensures .0) ∙ not-true _ (c .if2 .taken)) _ (l .load .ensures .1))
 
 returns-3 : tie.Need-returns-3
 returns-3 c =
     let l = c .before .before .before in
-    load-kept (load-sized _ _ _ _ (sized (l .before .before)) true (sym (l .load .ensures .0) ∙ not-false _ (c .if2 .left)) _ (l .load .ensures .1))
+    (load-sized _ _ _ _ (sized (l .before .before)) true (sym (l .load .ensures .0) ∙ not-false _ (c .if2 .left)) _ (l .load .ensures .1))
 
 pub load-spec : {M : Type 1} → statement M
 load-spec = tie.close (tie.spec sizes-requires (λ c. search needs) returns load-requires (λ c. search needs) returns-2 (λ c. search needs) returns-3)

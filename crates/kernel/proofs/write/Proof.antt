@@ -12,7 +12,7 @@ use Rattle.model.specs.WellFormed.{wellFormed}
 use Rattle.model.specs.Calls.{sizesOk}
 use Rattle.table.proofs.SurveyLaws.{survey-live, survey-broken}
 use Rattle.kernel.proofs.CallLaws.{sizes-read}
-use Rattle.kernel.proofs.FileCallLaws.{write-kept, write-0, write-1, write-7, write-12, write-few, write-fits, write-live}
+use Rattle.kernel.proofs.FileCallLaws.{write-0, write-1, write-7, write-12, write-few, write-fits, write-live}
 use Rattle.kernel.proofs.write.Statement.{statement}
 use Rattle.kernel.proofs.write.Tie as tie
 
@@ -27,7 +27,7 @@ sizes-requires : tie.Need-sizes-requires
 sizes-requires c κs = search needs
 
 returns : tie.Need-returns
-returns c = write-kept (write-1 _ _ _ _ (sym (c .before .sizes .ensures) ∙ not-true _ (c .if1 .taken)))
+returns c = (write-1 _ _ _ _ (sym (c .before .sizes .ensures) ∙ not-true _ (c .if1 .taken)))
 
 survey-requires : tie.Need-survey-requires
 survey-requires c κs = let a = c .before .before .before .before .args in sizes-read (a .n) (a .slots) (now (a .table)) (sized c)
@@ -40,7 +40,7 @@ size-requires c κs =
 returns-2 : tie.Need-returns-2
 returns-2 c =
     let f = surveyed (c .before .before .before) in
-    write-kept (write-12 _ _ _ _ (sized (c .before .before .before .before .before .before)) _ (f .1) _ (c .before .size .ensures .0) (f .0) (c .if2 .taken))
+    (write-12 _ _ _ _ (sized (c .before .before .before .before .before .before)) _ (f .1) _ (c .before .size .ensures .0) (f .0) (c .if2 .taken))
 
 write-requires : tie.Need-write-requires
 write-requires c κs =
@@ -59,22 +59,22 @@ write-requires c κs =
       ),
     )
 
-cast-t17 : tie.Need-cast-t17
-cast-t17 c = omega (arith, c .before .before .before .before .before .size .ensures .1)
+cast-t19 : tie.Need-cast-t19
+cast-t19 c = omega (arith, c .before .before .before .before .before .size .ensures .1)
 
 returns-3 : tie.Need-returns-3
 returns-3 c =
     let b = c .before .before .before .before in
     let f = b .before .before .before in
     let g = surveyed f in
-    write-kept (write-0 _ _ _ _ (sized (f .before .before .before)) _ (g .1) _ (b .before .size .ensures .0) (g .0) _
+    (write-0 _ _ _ _ (sized (f .before .before .before)) _ (g .1) _ (b .before .size .ensures .0) (g .0) _
     (b .if2 .left) (c .before .before .write .ensures))
 
 returns-4 : tie.Need-returns-4
-returns-4 c = write-kept (write-7 _ _ _ _ (sized (c .before .before .before))
+returns-4 c = (write-7 _ _ _ _ (sized (c .before .before .before))
     (survey-broken _ _ _ (c .before .before .survey .ensures) (c .enum-told .given .1)))
 
 pub write-spec : {M : Type 1} → statement M
 write-spec =
-    tie.close (tie.spec sizes-requires returns survey-requires (λ c. search needs) size-requires returns-2 write-requires cast-t17
+    tie.close (tie.spec sizes-requires returns survey-requires (λ c. search needs) size-requires returns-2 write-requires cast-t19
     (λ c. search needs) (λ c. search needs) returns-3 returns-4)

@@ -7,7 +7,7 @@ use native.Mathlib.Omega.{arith}
 use borrow.Author.Needs.{needs}
 use Rattle.base.specs.First.{first}
 use Rattle.base.proofs.FirstLaws.{first-more}
-use Rattle.model.specs.declared.Answer.the-variants.{Done}
+use Rattle.model.specs.declared.Fault.the-variants.{Clean}
 use Rattle.incidence.specs.Cycles.{atNode}
 use Rattle.incidence.proofs.CycleSearchLaws.{Passed, passed-none, passed-pair, passed-dimension, passed-node}
 use Rattle.incidence.proofs.CycleSearchLaws.{found-at-node, found-pair, found-no-pair}
@@ -15,24 +15,24 @@ use Rattle.incidence.proofs.cycles.cycle_fault.Statement.{statement}
 use Rattle.incidence.proofs.cycles.cycle_fault.Tie as tie
 
 abbrev Inv-loop2 : tie.InvT-loop2
-Inv-loop2 n nodes orbit kinds lefts rights top answer₀ s j i₀ answer i =
-    Passed orbit kinds lefts rights s i j × (i ≤ j) × (answer ≡ Done)
+Inv-loop2 n nodes orbit kinds lefts rights top found₀ s j i₀ found i =
+    Passed orbit kinds lefts rights s i j × (i ≤ j) × (found ≡ Clean)
 
 abbrev μ-loop2 : tie.MeasureT-loop2
-μ-loop2 n nodes orbit kinds lefts rights top answer₀ s j i₀ answer i = j - i
+μ-loop2 n nodes orbit kinds lefts rights top found₀ s j i₀ found i = j - i
 
 abbrev Inv-loop : tie.InvT-loop
-Inv-loop n nodes orbit kinds lefts rights top answer₀ s j₀ answer j = Passed orbit kinds lefts rights s 0 j × (answer ≡ Done)
+Inv-loop n nodes orbit kinds lefts rights top found₀ s j₀ found j = Passed orbit kinds lefts rights s 0 j × (found ≡ Clean)
 
 abbrev μ-loop : tie.MeasureT-loop
-μ-loop n nodes orbit kinds lefts rights top answer₀ s j₀ answer j = 4 - j
+μ-loop n nodes orbit kinds lefts rights top found₀ s j₀ found j = 4 - j
 
 abbrev Inv-nodes : tie.InvT-nodes
-Inv-nodes n nodes orbit kinds lefts rights top answer₀ s₀ answer s =
-    (s ≤ nodes) × (first s (atNode orbit kinds lefts rights n) ≡ none) × (answer ≡ Done)
+Inv-nodes n nodes orbit kinds lefts rights top found₀ s₀ found s =
+    (s ≤ nodes) × (first s (atNode orbit kinds lefts rights n) ≡ none) × (found ≡ Clean)
 
 abbrev μ-nodes : tie.MeasureT-nodes
-μ-nodes n nodes orbit kinds lefts rights top answer₀ s₀ answer s = nodes - s
+μ-nodes n nodes orbit kinds lefts rights top found₀ s₀ found s = nodes - s
 
 top-of-requires : tie.Need-top-of-requires Inv-loop2 μ-loop2 Inv-loop μ-loop Inv-nodes μ-nodes
 top-of-requires c κs = search needs

@@ -1,14 +1,15 @@
 -- `kernel::stages::staged` meets its contract.
 -- Assumes nothing.
-use mathlib.Core.Path.{_≡_, sym, _∙_}
+use mathlib.Core.Path.{_≡_, sym, ap, _∙_}
 use mathlib.Core.Bool.{true}
 use denote.Ref.{now}
 use Rattle.base.proofs.TestLaws.{and-left}
 use Rattle.model.specs.Scheme.{inForm, schemeOf}
-use Rattle.model.specs.Calls.{takes}
+use Rattle.model.specs.Answer.{faultOf}
+use Rattle.model.specs.Calls.{bytesFault, takes}
 use Rattle.conditions.specs.Verdict.{VerdictOf}
-use Rattle.kernel.proofs.StageLaws.{judged, form-refused, read-scheme, taken-is, judged-good, judge-asks}
-use Rattle.kernel.proofs.StageLaws.{no-fault, its-fault, no-fault-accepted, no-fault-alone, stage-refused, stage-on, not-zero}
+use Rattle.kernel.proofs.StageLaws.{form-refused, read-scheme, taken-is, form-judged, judge-asks, found-none, found-some}
+use Rattle.kernel.proofs.StageLaws.{no-fault-accepted, no-fault-alone, stage-refused, stage-on}
 use borrow.Author.Needs.{needs}
 use borrow.Author.Tests.{not-true, not-false}
 use Rattle.kernel.proofs.stages.staged.Statement.{statement}
@@ -36,8 +37,9 @@ module _ (j : tie.After-judge) where
   verdict : VerdictOf (read-done .before .before .read .result .scheme) (j .judge .result)
   verdict = j .judge .ensures (judge-asks _ _ (read-done .before .before .read .ensures) (form read-done))
 
-  answer-is : let a = start read-done .args in j .judge .result .answer ≡ judged (takes (a .darts) (now (a .bytes))) (now (a .bytes))
-  answer-is = judged-good _ _ _ (told read-done) (scheme-is read-done) _ (verdict .answer)
+  -- the fault that was found is the fault of the bytes
+  fault-is : let a = start read-done .args in j .judge .result .fault ≡ faultOf (bytesFault (takes (a .darts) (now (a .bytes))) (now (a .bytes)))
+  fault-is = verdict .fault ∙ ap faultOf (sym (form-judged _ _ _ (told read-done) (scheme-is read-done)))
 
 returns : tie.Need-returns
 returns c =
@@ -58,7 +60,7 @@ apply-at-requires c κs =
     let e = read-done j in
     let p = start e .pre in
     let D = start e .args .darts in
-    let none = no-fault _ _ _ (answer-is j) (o .enum-told .given .1) in (
+    let none = found-none _ (sym (o .enum-told .given .1) ∙ fault-is j) in (
       p .0,
       (
         no-fault-accepted D _ _ none (scheme-is e),
@@ -76,15 +78,15 @@ returns-2 c =
     let f = s .before in
     let o = f .before .before .before in
     let j = o .before .before .before .before in
-    stage-on _ _ _ _ (start (read-done j) .args .darts) (no-fault _ _ _ (answer-is j) (o .enum-told .given .1)) (scheme-is (read-done j))
+    stage-on _ _ _ _ (start (read-done j) .args .darts) (found-none _ (sym (o .enum-told .given .1) ∙ fault-is j)) (scheme-is (read-done j))
     (f .first .ensures) (s .second .ensures) (a .apply-at .ensures)
 
 returns-3 : tie.Need-returns-3
 returns-3 c =
-    let j = c .before .before .before in
-    stage-refused _ _ _ _ (start (read-done j) .args .darts) (its-fault _ _ _ (answer-is j) (λ e. not-zero (rw e at (c .match .keys2))))
+    let j = c .before .before .before .before .before in
+    stage-refused _ _ _ _ (start (read-done j) .args .darts) (found-some _ _ (sym (c .before .found .given .1) ∙ fault-is j))
 
 pub staged-spec : {M : Type 1} → statement M
 staged-spec =
     tie.close (tie.spec (λ c κs. search needs) (λ c κs. search needs) returns judge-requires (λ c. search needs) (λ c κs. search needs)
-    (λ c κs. search needs) apply-at-requires (λ c. search needs) (λ c. search needs) returns-2 returns-3)
+    (λ c κs. search needs) apply-at-requires (λ c. search needs) (λ c. search needs) (λ c. search needs) returns-2 returns-3)

@@ -1,6 +1,7 @@
 -- `program::opening::load` meets its contract: a load that is refused is the answer, and else the check is.
 -- Assumes nothing.
 use borrow.Author.Needs.{needs}
+use Rattle.demands.proofs.OneOutcome.{table-of}
 use Rattle.program.proofs.OpeningLaws.{load-refused, load-checked}
 use Rattle.program.proofs.opening.load.Statement.{statement}
 use Rattle.program.proofs.opening.load.Tie as tie
@@ -15,7 +16,7 @@ returns : tie.Need-returns
 returns c =
     let l = c .before .before .before .before in
     let s = l .before .before .before .before in
-    (load-refused _ _ _ (s .pre .0) _ (s .pre .1) _ _ (l .load .ensures) _ (c .before .number .ensures) (c .if1 .taken), l .load .ensures .table)
+    (load-refused _ _ _ (s .pre .0) _ (s .pre .1) _ _ (l .load .ensures) _ (c .before .number .ensures) (c .if1 .taken), table-of (l .load .ensures))
 
 check-table-requires : tie.Need-check-table-requires
 check-table-requires c κs = search needs
@@ -30,7 +31,7 @@ returns-2 c =
     let s = l .before .before .before .before in (
       load-checked _ _ _ (s .pre .0) _ (s .pre .1) _ _ (l .load .ensures) _ (e .before .number .ensures) _ _ (e .if1 .left)
           (c .before .check-table .ensures) (c .number2 .ensures),
-      l .load .ensures .table,
+      table-of (l .load .ensures),
     )
 
 pub load-spec : {M : Type 1} → statement M

@@ -1,0 +1,3 @@
+pub mod SmallLaws
+pub mod PackLaws
+pub mod Exports
