@@ -41,3 +41,12 @@ module _ {A : Type 0} (f : ℕ → A → A) where
           (λ w. h n (steps n f a) (omega arith) (λ q. omega arith) (steps-keep n a o)
           ∙ steps-one n k w (λ j b m q p. h j b (omega arith) q p) g e a o)
           (below-suc l)
+
+-- the same, where nothing has to be kept true
+module _ {A B : Type 0} (f : ℕ → A → A) (see : A → B) where
+  pub steps-untouched : (n : ℕ) → ((k : ℕ) (a : A) → k < n → see (f k a) ≡ see a) → (a : A) → see (steps n f a) ≡ see a
+  steps-untouched n h a = steps-leave f (λ b. b ≡ b) (λ k b o. refl) see n (λ k b l o. h k b l) a refl
+
+  pub steps-alone : (n k : ℕ) → k < n → ((j : ℕ) (a : A) → j < n → (j ≡ k → ⊥) → see (f j a) ≡ see a)
+      → (g : B → B) → ((a : A) → see (f k a) ≡ g (see a)) → (a : A) → see (steps n f a) ≡ g (see a)
+  steps-alone n k l h g e a = steps-one f (λ b. b ≡ b) (λ j b o. refl) see n k l (λ j b m ne o. h j b m ne) g (λ b o. e b) a refl

@@ -11,11 +11,10 @@ use lib.Dec.{eqb}
 use borrow.Author.Count.{below-none, below-more}
 use borrow.Author.Tests.{eq-eqb, ne-eqb}
 use Rattle.base.specs.Below.{countBelow}
-use Rattle.model.specs.Map.{view, live}
+use Rattle.model.specs.Map.{Map, live}
 use Rattle.model.specs.WellFormed.{WellFormed}
 use Rattle.model.specs.Count.{cells, allBut, all, counts}
 use Rattle.model.proofs.CountLaws.{cells-by, all-but-small}
-use Rattle.table.specs.Words.{Sized}
 use Rattle.orbit.specs.Walk.{BeforeWalking}
 
 -- ---- what is listed
@@ -63,39 +62,39 @@ all-listed = below-more P 3 (three allLinks all refl refl refl) refl
 
 -- ---- the walk of each kind
 
-module _ (N : ℕ) (t : List ℕ) (n : ℕ) (d : (n ≡ 2) ⊎ (n ≡ 3)) (sized : Sized N t) (w : WellFormed n (view N t)) where
+module _ (m : Map) (n : ℕ) (d : (n ≡ 2) ⊎ (n ≡ 3)) (w : WellFormed n m) where
   small : n ≤ 3
   small = ⊎-elim (λ e. omega arith) (λ e. omega arith) d
 
   -- a list that has the dimensions of an orbit type can be walked by, and makes its cells
   module _ (l : List ℕ) (k : ℕ) (dim : ℕ → ℕ) (few : k ≤ 4) (low : (p : ℕ) → p < k → dim p ≤ n) (is : (p : ℕ) → p < k → getD l p 0 ≡ dim p) where
-    ready : BeforeWalking N t l k
-    ready = record { sized = sized; n = n; small = small; well = w; few = few; dim = λ p h. rw (is p h) (low p h) }
+    ready : BeforeWalking m l k
+    ready = record { n = n; small = small; well = w; few = few; dim = λ p h. rw (is p h) (low p h) }
 
-    cells-are : cells (view N t) k (λ p. getD l p 0) ≡ cells (view N t) k dim
-    cells-are = cells-by (view N t) k (λ p. getD l p 0) dim is
+    cells-are : cells m k (λ p. getD l p 0) ≡ cells m k dim
+    cells-are = cells-by m k (λ p. getD l p 0) dim is
 
   -- the cells of all links but i, where k is n
   module _ (l : List ℕ) (i : ℕ) (is : (p : ℕ) → p < 3 → getD l p 0 ≡ allBut i p) {k : ℕ} (e : k ≡ n) where
-    pub kind-ready : BeforeWalking N t l k
+    pub kind-ready : BeforeWalking m l k
     kind-ready = rw e (ready l n (allBut i) (omega (arith, small)) (all-but-small n i) (λ p h. is p (omega (arith, small))))
 
-    pub kind-cells : {c : ℕ} → c ≡ cells (view N t) k (λ p. getD l p 0) → c ≡ cells (view N t) n (allBut i)
-    kind-cells q = q ∙ ap (λ (z : ℕ). cells (view N t) z (λ p. getD l p 0)) e
+    pub kind-cells : {c : ℕ} → c ≡ cells m k (λ p. getD l p 0) → c ≡ cells m n (allBut i)
+    kind-cells q = q ∙ ap (λ (z : ℕ). cells m z (λ p. getD l p 0)) e
         ∙ cells-are l n (allBut i) (omega (arith, small)) (all-but-small n i) (λ p h. is p (omega (arith, small)))
 
   module _ {k : ℕ} (e : k ≡ n) where
-    pub pieces-ready : BeforeWalking N t allLinks (k + 1)
+    pub pieces-ready : BeforeWalking m allLinks (k + 1)
     pieces-ready = rw e (ready allLinks (n + 1) all (omega (arith, small)) (λ p h. omega arith) (λ p h. all-listed p (omega (arith, small))))
 
-    pieces-cells : {c : ℕ} → c ≡ cells (view N t) (k + 1) (λ p. getD allLinks p 0) → c ≡ cells (view N t) (n + 1) all
-    pieces-cells q = q ∙ ap (λ (z : ℕ). cells (view N t) (z + 1) (λ p. getD allLinks p 0)) e
+    pieces-cells : {c : ℕ} → c ≡ cells m (k + 1) (λ p. getD allLinks p 0) → c ≡ cells m (n + 1) all
+    pieces-cells q = q ∙ ap (λ (z : ℕ). cells m (z + 1) (λ p. getD allLinks p 0)) e
         ∙ cells-are allLinks (n + 1) all (omega (arith, small)) (λ p h. omega arith) (λ p h. all-listed p (omega (arith, small)))
 
-  pub counts-are : {k : ℕ} → k ≡ n → {d a b c e o : ℕ} → d ≡ countBelow N (live (view N t)) → a ≡ cells (view N t) k (λ p. getD vertexLinks p 0)
-      → b ≡ cells (view N t) k (λ p. getD edgeLinks p 0) → c ≡ cells (view N t) k (λ p. getD faceLinks p 0)
-      → e ≡ cells (view N t) (k + 1) (λ p. getD allLinks p 0) → o ≡ cond (eqb n 3) (cells (view N t) n (allBut 3)) 0
-      → (d ∷ a ∷ b ∷ c ∷ e ∷ o ∷ []) ≡ counts n (view N t)
+  pub counts-are : {k : ℕ} → k ≡ n → {d a b c e o : ℕ} → d ≡ countBelow (m .slots) (live m) → a ≡ cells m k (λ p. getD vertexLinks p 0)
+      → b ≡ cells m k (λ p. getD edgeLinks p 0) → c ≡ cells m k (λ p. getD faceLinks p 0)
+      → e ≡ cells m (k + 1) (λ p. getD allLinks p 0) → o ≡ cond (eqb n 3) (cells m n (allBut 3)) 0
+      → (d ∷ a ∷ b ∷ c ∷ e ∷ o ∷ []) ≡ counts n m
   unfolding counts
   counts-are same darts vertices edges faces pieces volumes i =
       darts i ∷ kind-cells vertexLinks 0 vertices-listed same vertices i ∷ kind-cells edgeLinks 1 edges-listed same edges i

@@ -31,7 +31,8 @@ fn fresh(slots: usize, table: &[u32], store: &[u32], x: usize) -> bool
 
 // Walks each orbit from its smallest dart, and counts them. Marks stay from one walk to the next.
 fn walks(slots: usize, table: &[u32], dims: [u8; 4], k: usize, store: &mut [u32]) -> u32
-    requires { ⌜ BeforeWalking slots (now table) dims k ⌝ }
+    requires { ⌜ Sized slots (now table) ⌝ }
+    requires { ⌜ BeforeWalking (view slots (now table)) dims k ⌝ }
     requires { ⌜ length (now store) ≡ 16 * slots ⌝ }
     ensures { λ r. ⌜ r ≡ cells (view slots (now (table .entry))) k (λ p. getD dims p 0) ⌝ }
 {
@@ -51,7 +52,8 @@ fn walks(slots: usize, table: &[u32], dims: [u8; 4], k: usize, store: &mut [u32]
 
 // How many orbits the first k dimensions of dims make. For two and for three of them the walks are compiled apart, with no test of k at each link.
 pub fn orbits(slots: usize, table: &[u32], dims: [u8; 4], k: usize, store: &mut [u32]) -> u32
-    requires { ⌜ BeforeWalking slots (now table) dims k ⌝ }
+    requires { ⌜ Sized slots (now table) ⌝ }
+    requires { ⌜ BeforeWalking (view slots (now table)) dims k ⌝ }
     requires { ⌜ length (now store) ≡ 16 * slots ⌝ }
     ensures { λ r. ⌜ r ≡ cells (view slots (now (table .entry))) k (λ p. getD dims p 0) ⌝ }
 {

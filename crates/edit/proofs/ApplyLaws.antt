@@ -13,7 +13,7 @@ use borrow.Author.Tests.{lt-ltb, le-ltb}
 use Rattle.base.specs.Below.{countBelow}
 use Rattle.base.proofs.BelowLaws.{count-le}
 use Rattle.base.specs.First.{someIf, _orElse_, there, nthLowest}
-use Rattle.model.specs.Map.{view, tableOf, unused, maxSlots}
+use Rattle.model.specs.Map.{Map, tableOf, unused, maxSlots}
 use Rattle.model.specs.Scheme.{left, right, orbitDim, added}
 use Rattle.model.specs.Site.{Site, siteAt, Sound}
 use Rattle.model.specs.Match.{matches}
@@ -27,7 +27,6 @@ use Rattle.edit.specs.Nodes.{isKind, Listed}
 use Rattle.conditions.specs.Tree.{TreeOf}
 use Rattle.conditions.specs.declared.tree.Tree.{Tree}
 use Rattle.model.proofs.CodeLaws.{coded}
-use Rattle.table.specs.Words.{Sized}
 use Rattle.orbit.specs.Store.{Taken, Walked}
 use Rattle.orbit.specs.At.{At, site}
 use Rattle.orbit.specs.Walk as W
@@ -49,14 +48,13 @@ no-match {E} m e = let q : matches E ≡ false = sym (m .is) ∙ e in record { a
 
 -- ---- from one phase to the next
 
-abbrev pub at-site : {slots : ℕ} {t : List ℕ} {S : Scheme} {d d₂ : ℕ} → Sized slots t → Sound (siteAt (view slots t) S d d₂) → At slots t
-at-site {S = S} {d = d} {d₂ = d₂} sized sound = record { scheme = S; dart = d; other = d₂; sized = sized; sound = sound }
+abbrev pub at-site : {m : Map} {S : Scheme} {d d₂ : ℕ} → m .slots ≤ maxSlots → Sound (siteAt m S d d₂) → At m
+at-site {S = S} {d = d} {d₂ = d₂} few sound = record { scheme = S; dart = d; other = d₂; few = few; sound = sound }
 
-module _ {slots : ℕ} {t : List ℕ} (A : At slots t) where
+module _ {m : Map} (A : At m) where
   -- the walk can begin
-  pub walk-ready : W.BeforeWalking slots t (A .scheme .orbit) (A .scheme .places)
+  pub walk-ready : W.BeforeWalking m (A .scheme .orbit) (A .scheme .places)
   walk-ready = record {
-    sized = A .sized;
     n = A .scheme .n;
     small = small (A .scheme) (A .sound .accepted .shaped);
     well = A .sound .well;
@@ -65,17 +63,17 @@ module _ {slots : ℕ} {t : List ℕ} (A : At slots t) where
   }
 
   -- the orbit stands in the store
-  pub walking : {store : List ℕ} {size k : ℕ} → k ≡ A .scheme .places → Walked (view slots t) k (orbitDim (A .scheme)) (A .dart) store size
-      → Taken slots store size → Walking A store size
+  pub walking : {store : List ℕ} {size k : ℕ} → k ≡ A .scheme .places → Walked m k (orbitDim (A .scheme)) (A .dart) store size
+      → Taken (m .slots) store size → Walking A store size
   walking {store} {size} e w o = record {
-    walked = subst (λ (z : ℕ). Walked (view slots t) z (orbitDim (A .scheme)) (A .dart) store size) e w;
+    walked = subst (λ (z : ℕ). Walked m z (orbitDim (A .scheme)) (A .dart) store size) e w;
     taken = o;
   }
 
   -- the match can be looked for, along the trees of the scheme's left arcs; what fits goes on to its end
   module _ {store : List ℕ} {size : ℕ} (w : Walking A store size) {p : Tree} (P : TreeOf (A .scheme) p) where
     abbrev pub match-ready : {k : ℕ} → k ≡ A .scheme .places → (cols : List ℕ) → length cols ≡ 16
-        → C.Posed slots t store size (A .scheme .orbit) k (A .other) (p .node) (p .parent) (p .dim) (p .roots) (p .size) (A .scheme .ltargets) cols
+        → C.Posed m store size (A .scheme .orbit) k (A .other) (p .node) (p .parent) (p .dim) (p .roots) (p .size) (A .scheme .ltargets) cols
     match-ready places cols wide = record {
       ready = record {
         at = A;
@@ -92,16 +90,16 @@ module _ {slots : ℕ} {t : List ℕ} (A : At slots t) where
     }
 
     abbrev pub settle-ready : {store′ cols′ : List ℕ} {answer : Bool} → C.Matched (site A) store store′ cols′ size answer → answer ≡ true
-        → {c : ℕ} → c ≡ A .scheme .nodes → {room : ℕ} → room ≡ countBelow slots (unused (view slots t))
-        → Settling slots t store′ c (A .scheme .kinds) (A .scheme .donors) (A .scheme .ltargets) (A .scheme .rtargets) size room cols′
-    settle-ready {store′} m e n free = record {
+        → {c : ℕ} → c ≡ A .scheme .nodes → {room : ℕ} → room ≡ countBelow (m .slots) (unused m)
+        → Settling m store′ c (A .scheme .kinds) (A .scheme .donors) (A .scheme .ltargets) (A .scheme .rtargets) size room cols′
+    settle-ready {store′} a e n free = record {
       at = A;
       fitting = record {
-        long = m .long ∙ w .taken .long;
-        walked = walked-kept _ _ _ _ store store′ size (places-few A) (w .walked) (m .kept e);
-        match = sym (m .is) ∙ e;
-        assigned = m .assigned e;
-        wide = m .wide e;
+        long = a .long ∙ w .taken .long;
+        walked = walked-kept _ _ _ _ store store′ size (places-few A) (w .walked) (a .kept e);
+        match = sym (a .is) ∙ e;
+        assigned = a .assigned e;
+        wide = a .wide e;
       };
       nodes = n;
       kinded = refl;
@@ -113,8 +111,8 @@ module _ {slots : ℕ} {t : List ℕ} (A : At slots t) where
 
 -- ---- the end of an edit
 
-module _ {slots : ℕ} {t store : List ℕ} {c : ℕ} {kinds donors lefts rights : List ℕ} {size room : ℕ} {cols : List ℕ}
-    (P : Settling slots t store c kinds donors lefts rights size room cols) where
+module _ {m : Map} {store : List ℕ} {c : ℕ} {kinds donors lefts rights : List ℕ} {size room : ℕ} {cols : List ℕ}
+    (P : Settling m store c kinds donors lefts rights size room cols) where
   open Settling P using (at as A, fitting as F)
 
   abbrev E : Site
@@ -124,7 +122,7 @@ module _ {slots : ℕ} {t store : List ℕ} {c : ℕ} {kinds donors lefts rights
   nodes-few = omega (arith, P .nodes, A .sound .accepted .shaped .nodesFew)
 
   pub room-few : room ≤ maxSlots
-  room-few = omega (arith, P .free, count-le slots (unused (view slots t)), A .sized .few)
+  room-few = omega (arith, P .free, count-le (m .slots) (unused m), A .few)
 
   -- the nodes of a kind are those of the scheme, and their darts are few
   module _ {k : ℕ} {node : List ℕ} {many : ℕ} (n : Listed c kinds k node many) where
@@ -133,7 +131,7 @@ module _ {slots : ℕ} {t store : List ℕ} {c : ℕ} {kinds donors lefts rights
 
     pub pairs-few : (size ≤ maxSlots) × (size * many ≤ 16 * maxSlots)
     pairs-few =
-        let few : size ≤ maxSlots = omega (arith, F .walked .fits, A .sized .few) in
+        let few : size ≤ maxSlots = omega (arith, F .walked .fits, A .few) in
         let below : many ≤ c = rw (n .total) (count-le c (isKind kinds k)) in
         let nodes : many ≤ 16 = omega (arith, nodes-few) in
         (few, omega (arith, mul-le-mul-right many few, mul-le-mul-left maxSlots nodes))
@@ -148,7 +146,7 @@ module _ {slots : ℕ} {t store : List ℕ} {c : ℕ} {kinds donors lefts rights
     unfolding roomOf deletedDarts orbitSize
     space-is = ap₂ _+_ (P .free) (ap₂ _*_ (sym (F .walked .counted)) (kind-count old))
 
-    pub no-room : room + size * gone < size * many → Applied E t (Refused NoRoom) t
+    pub no-room : {t : List ℕ} → room + size * gone < size * many → Applied E t (Refused NoRoom) t
     unfolding fitFault someIf _orElse_ there
     no-room h =
         let short : ltb (roomOf E) (addedDarts E) ≡ true = ap₂ ltb (sym space-is) (sym added-is) ∙ lt-ltb (room + size * gone) (size * many) h in
@@ -163,7 +161,7 @@ module _ {slots : ℕ} {t store : List ℕ} {c : ℕ} {kinds donors lefts rights
       listed-added a l = sym (ap₂ (λ (z : ℕ) (q : List ℕ). nthLowest z (isKind q 3) a) (P .nodes) (P .kinded)) ∙ new .each a l
 
       -- the deleted darts can be taken out
-      abbrev pub room-ready : O.BeforeRoom slots t store size node many donors kinds c cols
+      abbrev pub room-ready : O.BeforeRoom m store size node many donors kinds c cols
       room-ready = record {
         at = A;
         grant = record { long = F .long; walked = F .walked; every = kind-count new; match = F .match; room = roomy };
@@ -175,9 +173,9 @@ module _ {slots : ℕ} {t store : List ℕ} {c : ℕ} {kinds donors lefts rights
       }
 
       -- then the darts of the added pairs can be given
-      abbrev pub give-ready : {t₁ store₁ : List ℕ} → O.Roomy A store size cols t₁ store₁ → G.BeforeGiving slots t₁ store₁ size node many cols
-      give-ready {t₁} {store₁} o = record {
-        before = t;
+      abbrev pub give-ready : {m₁ : Map} {store₁ : List ℕ} → O.Roomy A store size cols m₁ store₁ → G.BeforeGiving (m .slots) m₁ store₁ size node many cols
+      give-ready {m₁} {store₁} o = record {
+        before = m;
         at = A;
         grant = record {
           long = o .kept .long ∙ F .long;
@@ -194,12 +192,11 @@ module _ {slots : ℕ} {t store : List ℕ} {c : ℕ} {kinds donors lefts rights
       }
 
       -- and with them the links can be rewritten
-      abbrev pub link-ready : {t₁ store₁ : List ℕ} → O.Roomy A store size cols t₁ store₁ → {t′ store′ cols′ : List ℕ}
-          → G.Granted E t store₁ t′ store′ cols′ size → L.BeforeRewriting slots t′ store′ size lefts rights c cols′
-      link-ready {t₁} {store₁} o {t′} {store′} g = record {
-        before = t;
+      abbrev pub link-ready : {m₁ : Map} {store₁ : List ℕ} → O.Roomy A store size cols m₁ store₁ → {m′ : Map} {store′ cols′ : List ℕ}
+          → G.Granted E store₁ m′ store′ cols′ size → L.BeforeRewriting (m .slots) m′ store′ size lefts rights c cols′
+      link-ready {m₁} {store₁} o {m′} {store′} g = record {
+        before = m;
         at = A;
-        sized = record { few = A .sized .few; long = g .given .long ∙ A .sized .long };
         stored = g .kept .long ∙ o .kept .long ∙ F .long;
         walked = walked-kept _ _ _ _ store₁ store′ size (places-few A)
             (walked-kept _ _ _ _ store store₁ size (places-few A) (F .walked) (o .kept)) (g .kept);
@@ -212,12 +209,12 @@ module _ {slots : ℕ} {t store : List ℕ} {c : ℕ} {kinds donors lefts rights
         rightCoded = P .rightCoded;
       }
 
-      pub done : {t′ : List ℕ} → t′ ≡ tableOf (edited E) → Applied E t (Edited size (size * many) (size * gone)) t′
+      pub done : {t t′ : List ℕ} → t′ ≡ tableOf (edited E) → Applied E t (Edited size (size * many) (size * gone)) t′
       unfolding fitFault siteDone someIf _orElse_ there addedDarts deletedDarts orbitSize
       done q =
           let s = F .walked .counted in
           let n = kind-count new in
           let g = kind-count old in
-          let wide : ltb (roomOf E) (countBelow slots (E .orbit) * countBelow (A .scheme .nodes) (added (A .scheme))) ≡ false =
+          let wide : ltb (roomOf E) (countBelow (m .slots) (E .orbit) * countBelow (A .scheme .nodes) (added (A .scheme))) ≡ false =
           ap₂ ltb (sym space-is) (ap₂ _*_ s (sym n)) ∙ le-ltb (room + size * gone) (size * many) h in
           record { answer = rw (F .match, wide, s, ← n, ← g) refl; table = rw (F .match, wide) q }

@@ -14,7 +14,7 @@ use Rattle.base.specs.Below.{countBelow}
 use Rattle.base.specs.First.{someIf, _orElse_, there}
 use Rattle.base.proofs.TestLaws.{and-of}
 use Rattle.base.proofs.BelowLaws.{count-same, count-not}
-use Rattle.model.specs.Map.{Map, view, live, unused}
+use Rattle.model.specs.Map.{Map, live, unused}
 use Rattle.model.specs.WellFormed.{wellFormed}
 use Rattle.model.specs.Accepted.{Accepted}
 use Rattle.model.specs.Site.{Site, Sound}
@@ -74,11 +74,11 @@ module _ (m : Map) (x : ℕ) where
   unfolding _and_
   dart-in h s e = rw (lt-ltb x (m .slots) h, e)
 
--- in a well-formed table the slots that are not live are unused
-pub unused-left : (n N : ℕ) (t : List ℕ) (k : ℕ) → wellFormed n (view N t) ≡ true → k ≡ countBelow N (live (view N t))
-    → (k ≤ N) × (N - k ≡ countBelow N (unused (view N t)))
-unused-left n N t k w e =
-    let m = view N t in
+-- in a well-formed map the slots that are not live are unused
+pub unused-left : (n : ℕ) (m : Map) (k : ℕ) → wellFormed n m ≡ true → k ≡ countBelow (m .slots) (live m)
+    → (k ≤ m .slots) × (m .slots - k ≡ countBelow (m .slots) (unused m))
+unused-left n m k w e =
+    let N = m .slots in
     let all = count-not N (live m) in
     let rest : countBelow N (λ x. not (live m x)) ≡ countBelow N (unused m) =
     count-same N _ (unused m) (λ x h. either (m .state x) (wellFormed-iff n m .0 w .states x h)) in

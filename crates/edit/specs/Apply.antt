@@ -8,7 +8,7 @@ use mathlib.Core.List.{List}
 use lib.ListN.{length}
 use Rattle.base.specs.Below.{countBelow}
 use Rattle.base.specs.First.{there}
-use Rattle.model.specs.Map.{view, tableOf, unused}
+use Rattle.model.specs.Map.{Map, tableOf, unused}
 use Rattle.model.specs.Scheme.{left, right}
 use Rattle.model.specs.Site.{Site}
 use Rattle.model.specs.Match.{matches}
@@ -21,30 +21,30 @@ use Rattle.model.specs.Shaped.{Coded}
 use Rattle.orbit.specs.Store.{Taken, Assigned}
 use Rattle.orbit.specs.At.{At, site, WalkedAt}
 
-module _ {slots : ℕ} {t : List ℕ} (A : At slots t) where
+module _ {m : Map} (A : At m) where
   -- the store holds the orbit
   pub record Walking (store : List ℕ) (size : ℕ) : Type 0 where
     pub walked : WalkedAt (site A) store size
-    pub taken : Taken slots store size
+    pub taken : Taken (m .slots) store size
 
   -- it fits: the store holds the darts of the left pairs
   pub record Fitting (store : List ℕ) (size : ℕ) (cols : List ℕ) : Type 0 where
-    pub long : length store ≡ 16 * slots
+    pub long : length store ≡ 16 * m .slots
     pub walked : WalkedAt (site A) store size
     pub match : matches (site A) ≡ true
     pub assigned : Assigned (site A) store cols size
     pub wide : length cols ≡ 16
 
 -- what the end of an edit is handed: a match, the scheme's nodes, kinds, donors and arcs, and the number of unused slots
-pub record Settling (slots : ℕ) (t store : List ℕ) (c : ℕ) (kinds donors lefts rights : List ℕ) (size room : ℕ) (cols : List ℕ) : Type 0 where
-  pub at : At slots t
+pub record Settling (m : Map) (store : List ℕ) (c : ℕ) (kinds donors lefts rights : List ℕ) (size room : ℕ) (cols : List ℕ) : Type 0 where
+  pub at : At m
   pub fitting : Fitting at store size cols
   pub nodes : c ≡ at .scheme .nodes
   pub kinded : kinds ≡ at .scheme .kinds
   pub donorsAre : donors ≡ at .scheme .donors
   pub leftCoded : Coded (at .scheme) left lefts
   pub rightCoded : Coded (at .scheme) right rights
-  pub free : room ≡ countBelow slots (unused (view slots t))
+  pub free : room ≡ countBelow (m .slots) (unused m)
 
 -- the answer r and the table t′ of an edit of the table t at a site, whose faults are `fault`
 pub record Settled (fault : Option Refusal) (E : Site) (t : List ℕ) (r : Answer) (t′ : List ℕ) : Type 0 where

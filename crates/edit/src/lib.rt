@@ -33,8 +33,9 @@ fn settle<'a>(
     room: usize,
     cols: &mut [usize; 16],
 ) -> Answer
-    requires { ⌜ Settling slots (now table) (now store) c (now kinds) (now donors) (now lefts) (now rights) size room (now cols) ⌝ }
-    ensures { λ r. ⌜ ((P : Settling slots (now (table .entry)) (now (store .entry)) c (now (kinds .entry)) (now (donors .entry)) (now (lefts .entry))
+    requires { ⌜ Sized slots (now table) ⌝ }
+    requires { ⌜ Settling (view slots (now table)) (now store) c (now kinds) (now donors) (now lefts) (now rights) size room (now cols) ⌝ }
+    ensures { λ r. ⌜ ((P : Settling (view slots (now (table .entry))) (now (store .entry)) c (now (kinds .entry)) (now (donors .entry)) (now (lefts .entry))
         (now (rights .entry)) size room (now (cols .entry)))
         → Applied (site (P .at)) (now (table .entry)) r (now (table .exit))) ⌝ }
 {

@@ -16,26 +16,26 @@ use Rattle.model.specs.Map.{Map}
 use Rattle.orbit.specs.Store.{next, dartAt}
 use Rattle.matching.specs.ArcTests.{Slots, Testable, Turns, Firm, follows, explicitTest, implicitTest, codeTest, arcTest, arcsTest}
 
-module _ (m : Map) (s : List ℕ) (i from base : ℕ) (to : ℕ → ℕ) where
-  pub follows-none : follows m s 0 i from base to ≡ true
+module _ (link : ℕ → ℕ) (s : List ℕ) (from base : ℕ) (to : ℕ → ℕ) where
+  pub follows-none : follows link s 0 from base to ≡ true
   unfolding follows
   follows-none = all-none _
 
   -- x, y, z are what the loop reads at place r
-  module _ (r x y z : ℕ) (a : x ≡ getD s (from + r) 0) (b : y ≡ m .link i x) (c : z ≡ getD s (base + to r) 0) where
-    read : eqb y z ≡ eqb (m .link i (dartAt s from r)) (dartAt s base (to r))
+  module _ (r x y z : ℕ) (a : x ≡ getD s (from + r) 0) (b : y ≡ link x) (c : z ≡ getD s (base + to r) 0) where
+    read : eqb y z ≡ eqb (link (dartAt s from r)) (dartAt s base (to r))
     unfolding dartAt
     read = rw (b, a, c)
 
-    pub follows-more : y ≡ z → follows m s r i from base to ≡ true → follows m s (r + 1) i from base to ≡ true
+    pub follows-more : y ≡ z → follows link s r from base to ≡ true → follows link s (r + 1) from base to ≡ true
     unfolding follows
     follows-more e f = all-more _ r f (sym read ∙ eq-eqb y z e)
 
-    pub follows-stop : (size : ℕ) → r < size → eqb y z ≡ false → false ≡ follows m s size i from base to
+    pub follows-stop : (size : ℕ) → r < size → eqb y z ≡ false → false ≡ follows link s size from base to
     unfolding follows
     follows-stop size h e = all-stops _ r size h (sym read ∙ e)
 
-  pub follows-done : (r size : ℕ) → r ≤ size → size ≤ r → follows m s r i from base to ≡ true → true ≡ follows m s size i from base to
+  pub follows-done : (r size : ℕ) → r ≤ size → size ≤ r → follows link s r from base to ≡ true → true ≡ follows link s size from base to
   unfolding follows
   follows-done r size h l e = all-ends _ r size e h l
 
@@ -50,17 +50,17 @@ unfolding next
 turn-below N s p r q size e o h = rw e (o .place r h)
 
 -- q, x, y, z are what the loop reads at place r
-module _ (m : Map) (s : List ℕ) (i from p r q x y z : ℕ) (n : q ≡ getD s (4 * m .slots + 4 * r + p) 0)
-    (a : x ≡ getD s (from + r) 0) (b : y ≡ m .link i x) (c : z ≡ getD s (from + q) 0) where
-  turn-read : z ≡ getD s (from + next (m .slots) s r p) 0
+module _ (N : ℕ) (link : ℕ → ℕ) (s : List ℕ) (from p r q x y z : ℕ) (n : q ≡ getD s (4 * N + 4 * r + p) 0)
+    (a : x ≡ getD s (from + r) 0) (b : y ≡ link x) (c : z ≡ getD s (from + q) 0) where
+  turn-read : z ≡ getD s (from + next N s r p) 0
   unfolding next
   turn-read = c ∙ ap (λ (k : ℕ). getD s (from + k) 0) n
 
-  pub turned-more : y ≡ z → follows m s r i from from (λ o. next (m .slots) s o p) ≡ true → follows m s (r + 1) i from from (λ o. next (m .slots) s o p) ≡ true
-  turned-more = follows-more m s i from from (λ o. next (m .slots) s o p) r x y z a b turn-read
+  pub turned-more : y ≡ z → follows link s r from from (λ o. next N s o p) ≡ true → follows link s (r + 1) from from (λ o. next N s o p) ≡ true
+  turned-more = follows-more link s from from (λ o. next N s o p) r x y z a b turn-read
 
-  pub turned-stop : (size : ℕ) → r < size → eqb y z ≡ false → false ≡ follows m s size i from from (λ o. next (m .slots) s o p)
-  turned-stop = follows-stop m s i from from (λ o. next (m .slots) s o p) r x y z a b turn-read
+  pub turned-stop : (size : ℕ) → r < size → eqb y z ≡ false → false ≡ follows link s size from from (λ o. next N s o p)
+  turned-stop = follows-stop link s from from (λ o. next N s o p) r x y z a b turn-read
 
 -- ---- one arc
 
@@ -74,7 +74,7 @@ module _ (m : Map) (s : List ℕ) (size : ℕ) (dims cols : List ℕ) (j i from 
     unfolding explicitTest
     explicit-tree x d q = sym (or-left _ (or-right _ (rw (← d) (eq-eqb x i q))))
 
-    pub explicit-tested : (r : Bool) → to ≤ from → (getD dims j 0 ≡ i → ⊥) → r ≡ follows m s size i from to (λ q. q) → r
+    pub explicit-tested : (r : Bool) → to ≤ from → (getD dims j 0 ≡ i → ⊥) → r ≡ follows (m .link i) s size from to (λ q. q) → r
         ≡ explicitTest m s size dims cols j i from t
     unfolding explicitTest _or_
     explicit-tested r h other f = rw (← e, le-ltb from to h, ne-eqb (getD dims j 0) i other) f
@@ -92,7 +92,7 @@ module _ (m : Map) (s : List ℕ) (size : ℕ) (dims cols : List ℕ) (j i from 
     unfolding codeTest implicitTest _or_
     code-hook h z = rw (ne-eqb code 255 some, le-ltb code 16 h, lt-ltb j roots z)
 
-    pub code-implicit : (r : Bool) → 16 ≤ code → roots ≤ j → r ≡ follows m s size i from from (λ q. next (m .slots) s q (code - 16)) → r
+    pub code-implicit : (r : Bool) → 16 ≤ code → roots ≤ j → r ≡ follows (m .link i) s size from from (λ q. next (m .slots) s q (code - 16)) → r
         ≡ codeTest m s size dims cols j i from roots code
     unfolding codeTest implicitTest _or_
     code-implicit r h late e = rw (ne-eqb code 255 some, le-ltb code 16 h, le-ltb j roots late) e
@@ -127,7 +127,7 @@ module _ (m : Map) (s : List ℕ) (size : ℕ) (nodes dims : List ℕ) (roots : 
 
 -- ---- what the tests of an arc ask for
 
-module _ (N : ℕ) (t s : List ℕ) (size : ℕ) (nodes codes cols : List ℕ) (count : ℕ) (f : Firm N t s size nodes codes cols count)
+module _ (N : ℕ) (s : List ℕ) (size : ℕ) (nodes codes cols : List ℕ) (count : ℕ) (f : Firm N s size nodes codes cols count)
     (j i : ℕ) (h : j < count) (k : i < 4) (v : ℕ) (a : v ≡ getD nodes j 0) where
   pub firm-node : v < 16
   firm-node = rw a (f .node j h)
@@ -136,21 +136,19 @@ module _ (N : ℕ) (t s : List ℕ) (size : ℕ) (nodes codes cols : List ℕ) (
     code-is : code ≡ getD codes (4 * getD nodes j 0 + i) 0
     code-is = b ∙ ap (λ (z : ℕ). getD codes (4 * z + i) 0) a
 
-    testable : (to : ℕ) → to + size ≤ 2 * N → Testable N t s size i (getD cols v 0) to
+    testable : (to : ℕ) → to + size ≤ 2 * N → Testable N s size (getD cols v 0) to
     testable to o = record {
-      sized = f .sized;
       long = f .long;
-      dim = k;
       few = f .few;
       fromInside = rw a (f .column j h);
       toInside = o;
       slots = rw a (f .slots j h);
     }
 
-    pub firm-explicit : code < 16 → Testable N t s size i (getD cols v 0) (getD cols code 0)
+    pub firm-explicit : code < 16 → Testable N s size (getD cols v 0) (getD cols code 0)
     firm-explicit g = testable (getD cols code 0) (rw code-is (f .target j i h k (rw code-is at g)))
 
-    pub firm-implicit : 16 ≤ code → (code ≡ 255 → ⊥) → Testable N t s size i (getD cols v 0) (getD cols v 0) × ((code - 16 < 4) × Turns N s (code - 16) size)
+    pub firm-implicit : 16 ≤ code → (code ≡ 255 → ⊥) → Testable N s size (getD cols v 0) (getD cols v 0) × ((code - 16 < 4) × Turns N s (code - 16) size)
     firm-implicit g ne =
         let r = f .turn j i h k (rw code-is at g) (λ q. ne (code-is ∙ q)) in
         let same = code-is in

@@ -14,7 +14,7 @@ use Rattle.base.specs.Test.{_or_}
 use Rattle.base.proofs.TestLaws.{or-cases, or-right, same-test}
 use Rattle.base.proofs.BelowLaws.{all-at, all-of}
 use Rattle.base.proofs.RowLaws.{digits, row-end, row-cell}
-use Rattle.model.specs.Map.{Map, view}
+use Rattle.model.specs.Map.{Map}
 use Rattle.model.specs.Scheme.{left, orbitDim, word, arcPart, has, firstHook}
 use Rattle.model.specs.Conditions.{Arc, absent, explicit, implicit, arcAt}
 use Rattle.model.specs.Site.{Site, Sound}
@@ -39,20 +39,20 @@ use Rattle.matching.proofs.ColumnTreeLaws.{good, node-below, hooks-some
 
 -- ---- the tests
 
-follows-at : (m : Map) (s : List ℕ) (size i from base : ℕ) (to : ℕ → ℕ) → follows m s size i from base to ≡ true → (r : ℕ) → r < size
-    → m .link i (dartAt s from r) ≡ dartAt s base (to r)
+follows-at : (link : ℕ → ℕ) (s : List ℕ) (size from base : ℕ) (to : ℕ → ℕ) → follows link s size from base to ≡ true → (r : ℕ) → r < size
+    → link (dartAt s from r) ≡ dartAt s base (to r)
 unfolding follows
-follows-at m s size i from base to e r h = eqb-true _ _ (all-at size _ e r h)
+follows-at link s size from base to e r h = eqb-true _ _ (all-at size _ e r h)
 
-follows-of : (m : Map) (s : List ℕ) (size i from base : ℕ) (to : ℕ → ℕ) → ((r : ℕ) → r < size → m .link i (dartAt s from r) ≡ dartAt s base (to r))
-    → follows m s size i from base to ≡ true
+follows-of : (link : ℕ → ℕ) (s : List ℕ) (size from base : ℕ) (to : ℕ → ℕ) → ((r : ℕ) → r < size → link (dartAt s from r) ≡ dartAt s base (to r))
+    → follows link s size from base to ≡ true
 unfolding follows
-follows-of m s size i from base to f = all-of size _ (λ r h. eq-eqb _ _ (f r h))
+follows-of link s size from base to f = all-of size _ (λ r h. eq-eqb _ _ (f r h))
 
 module _ (m : Map) (s : List ℕ) (size : ℕ) (dims cols : List ℕ) (j i from roots : ℕ) where
   -- what a test that holds says of each kind of arc
   explicit-cases : (t : ℕ) → t < 16 → codeTest m s size dims cols j i from roots t ≡ true
-      → (from < getD cols t 0) ⊎ ((getD dims j 0 ≡ i) ⊎ (follows m s size i from (getD cols t 0) (λ r. r) ≡ true))
+      → (from < getD cols t 0) ⊎ ((getD dims j 0 ≡ i) ⊎ (follows (m .link i) s size from (getD cols t 0) (λ r. r) ≡ true))
   unfolding codeTest explicitTest
   explicit-cases t h e =
       let f = rw (ne-eqb t 255 (λ q. absurd (omega arith)), lt-ltb t 16 h) at e in
@@ -65,7 +65,7 @@ module _ (m : Map) (s : List ℕ) (size : ℕ) (dims cols : List ℕ) (j i from 
       (or-cases _ _ f)
 
   implicit-case : (p : ℕ) → p < 4 → roots ≤ j → codeTest m s size dims cols j i from roots (16 + p) ≡ true
-      → follows m s size i from from (λ r. next (m .slots) s r p) ≡ true
+      → follows (m .link i) s size from from (λ r. next (m .slots) s r p) ≡ true
   unfolding codeTest implicitTest _or_
   implicit-case p h late e =
       let same : 16 + p - 16 ≡ p = omega arith in
@@ -76,24 +76,28 @@ module _ (m : Map) (s : List ℕ) (size : ℕ) (dims cols : List ℕ) (j i from 
   unfolding codeTest
   absent-holds = refl
 
-  explicit-holds : (t : ℕ) → t < 16 → follows m s size i from (getD cols t 0) (λ r. r) ≡ true → codeTest m s size dims cols j i from roots t ≡ true
+  explicit-holds : (t : ℕ) → t < 16 → follows (m .link i) s size from (getD cols t 0) (λ r. r) ≡ true → codeTest m s size dims cols j i from roots t ≡ true
   unfolding codeTest explicitTest
   explicit-holds t h f = rw (ne-eqb t 255 (λ q. absurd (omega arith)), lt-ltb t 16 h) (or-right _ f)
 
-  implicit-holds : (p : ℕ) → p < 4 → follows m s size i from from (λ r. next (m .slots) s r p) ≡ true
+  implicit-holds : (p : ℕ) → p < 4 → follows (m .link i) s size from from (λ r. next (m .slots) s r p) ≡ true
       → codeTest m s size dims cols j i from roots (16 + p) ≡ true
   unfolding codeTest implicitTest
   implicit-holds p h f =
       let same : 16 + p - 16 ≡ p = omega arith in
       rw (ne-eqb (16 + p) 255 (λ q. absurd (omega arith)), le-ltb (16 + p) 16 (omega arith), same) (or-right _ f)
 
-module _ {N : ℕ} {t s : List ℕ} {size : ℕ} {nodes parents dims : List ℕ} {roots count : ℕ}
-    (R : BeforeMatching N t s size nodes parents dims roots count) {s′ cols : List ℕ} (G : Grown (view N t) nodes parents dims roots s s′ cols size count)
+module _ {M : Map} {s : List ℕ} {size : ℕ} {nodes parents dims : List ℕ} {roots count : ℕ}
+    (R : BeforeMatching M s size nodes parents dims roots count) {s′ cols : List ℕ} (G : Grown M nodes parents dims roots s s′ cols size count)
     {codes : List ℕ} (C : Coded (R .at .scheme) left codes) where
   abbrev E : Site
   E = site (R .at)
 
   open Site E using (map as m, scheme as S, orbit as O)
+
+  abbrev N : ℕ
+  N = m .slots
+
   open Sound (R .at .sound) using (accepted, well)
 
   abbrev node : ℕ → ℕ
@@ -125,9 +129,8 @@ module _ {N : ℕ} {t s : List ℕ} {size : ℕ} {nodes parents dims : List ℕ}
 
   -- ---- an arc can be tested
 
-  pub firm : Firm N t s′ size nodes codes cols count
+  pub firm : Firm N s′ size nodes codes cols count
   firm = record {
-    sized = R .at .sized;
     long = G .taken .long;
     few = R .walked .fits;
     entries = R .rooted .few;
@@ -181,7 +184,7 @@ module _ {N : ℕ} {t s : List ℕ} {size : ℕ} {nodes parents dims : List ℕ}
         let end = explicit-end S left single (node j) i w e in
         let on = R .rooted .onLeft j h in
         explicit-holds m s′ size dims cols j i (getD cols (node j) 0) roots w (omega (arith, end .0, accepted .shaped .nodesFew))
-        (follows-of m s′ size i (getD cols (node j) 0) (getD cols w 0) (λ r. r) (λ r b.
+        (follows-of (m .link i) s′ size (getD cols (node j) 0) (getD cols w 0) (λ r. r) (λ r b.
         ap (m .link i) (image-at (node j) r (on .0) (on .1) b)
         ∙ arc-image R q (place N s r) (node j) i w (place-in (R .walked) r b) (on .0) (on .1) (end .2) e
         ∙ sym (image-at w r (end .0) (end .1) b)))
@@ -189,7 +192,7 @@ module _ {N : ℕ} {t s : List ℕ} {size : ℕ} {nodes parents dims : List ℕ}
         let on = R .rooted .onLeft j h in
         let f = implicit-in (node j) i p (on .0) k e in
         implicit-holds m s′ size dims cols j i (getD cols (node j) 0) roots p (f .1)
-        (follows-of m s′ size i (getD cols (node j) 0) (getD cols (node j) 0) (λ r. next N s′ r p) (λ r b.
+        (follows-of (m .link i) s′ size (getD cols (node j) 0) (getD cols (node j) 0) (λ r. next N s′ r p) (λ r b.
         let g = turn r p b (f .0) in
         ap (m .link i) (image-at (node j) r (on .0) (on .1) b)
         ∙ turn-image R q (place N s r) (node j) i p (place-in (R .walked) r b) (on .0) (on .1) (f .2) e
@@ -302,7 +305,7 @@ module _ {N : ℕ} {t s : List ℕ} {size : ℕ} {nodes parents dims : List ℕ}
         let low : i ≤ S .n = subst (λ (x : ℕ). x ≤ S .n) tree (arc .0) in
         let on = dart-slot R G k r l c in
         ap (m .link i) step ∙ well .back (at (node k) r) (on .0) (on .1) i low)
-        (λ f. follows-at m s′ size i (getD cols (node j) 0) (getD cols (node k) 0) (λ q. q) f r c)
+        (λ f. follows-at (m .link i) s′ size (getD cols (node j) 0) (getD cols (node k) 0) (λ q. q) f r c)
         w)
         (explicit-cases m s′ size dims cols j i (getD cols (node j) 0) roots (node k) below (test-at j i h b (explicit (node k)) e))
 
@@ -358,7 +361,7 @@ module _ {N : ℕ} {t s : List ℕ} {size : ℕ} {nodes parents dims : List ℕ}
         let few : p < 4 = omega (arith, small S (accepted .shaped), accepted .shaped .placesFew) in
         let a : arcAt S left (node (z .0)) i ≡ implicit p = ap (λ (x : ℕ). arcAt S left x i) (z .2) ∙ e in
         let g = implicit-case m s′ size dims cols (z .0) i (getD cols (node (z .0)) 0) roots p few (omega arith) (test-at (z .0) i (z .1) k (implicit p) a) in
-        follows-at m s′ size i _ _ (λ q. next N s′ q p) g r c))
+        follows-at (m .link i) s′ size _ _ (λ q. next N s′ q p) g r c))
 
     -- two pairs with one dart are one pair
     apart : (v w r q : ℕ) → v < S .nodes → has S left v ≡ true → w < S .nodes → has S left w ≡ true → r < size → q < size → at v r ≡ at w q → (r ≡ q) × (v ≡ w)
@@ -436,10 +439,10 @@ module _ {N : ℕ} {t s : List ℕ} {size : ℕ} {nodes parents dims : List ℕ}
       }
 
 -- what the columns start from, once the hooks have theirs
-module _ {N : ℕ} {t s : List ℕ} {size : ℕ} {orbit : List ℕ} {k other : ℕ} {nodes parents dims : List ℕ} {roots count : ℕ} {codes cols₀ : List ℕ}
-    (P : Posed N t s size orbit k other nodes parents dims roots count codes cols₀) {s′ : List ℕ} {w : Bool}
-    (H : HungAll N t s s′ size orbit k other roots w) (e : w ≡ true) where
-  abbrev pub ready : BeforeMatching N t s′ size nodes parents dims roots count
+module _ {m : Map} {s : List ℕ} {size : ℕ} {orbit : List ℕ} {k other : ℕ} {nodes parents dims : List ℕ} {roots count : ℕ} {codes cols₀ : List ℕ}
+    (P : Posed m s size orbit k other nodes parents dims roots count codes cols₀) {s′ : List ℕ} {w : Bool}
+    (H : HungAll m s s′ size orbit k other roots w) (e : w ≡ true) where
+  abbrev pub ready : BeforeMatching m s′ size nodes parents dims roots count
   ready = record {
     at = P .ready .at;
     walked = hung-walked (P .ready) (H .done e (P .ready) .0) (H .done e (P .ready) .1);
@@ -447,8 +450,8 @@ module _ {N : ℕ} {t s : List ℕ} {size : ℕ} {orbit : List ℕ} {k other : �
     rooted = P .rooted;
   }
 
-  pub matched-at : {s″ cols : List ℕ} → Grown (view N t) nodes parents dims roots s′ s″ cols size count → (b : Bool)
-      → b ≡ arcsTest (view N t) s″ size nodes dims roots codes cols (4 * count) → Matched (site (P .ready .at)) s s″ cols size b
+  pub matched-at : {s″ cols : List ℕ} → Grown m nodes parents dims roots s′ s″ cols size count → (b : Bool)
+      → b ≡ arcsTest m s″ size nodes dims roots codes cols (4 * count) → Matched (site (P .ready .at)) s s″ cols size b
   matched-at G b f = matched ready G (P .coded) s (P .ready .taken) (H .done e (P .ready) .1) b f
 
 -- where two pairs fall on one dart, or the other dart is in the orbit

@@ -9,7 +9,6 @@ use native.Mathlib.Decide.{ℕ-discrete}
 use native.Mathlib.Omega.{arith}
 use lib.ListN.{getD}
 use Rattle.base.proofs.TestLaws.{same-test}
-use Rattle.model.specs.Map.{Map}
 use Rattle.orbit.specs.Store.{mark, place, next, dartAt, Taken, Kept}
 use Rattle.orbit.specs.Places.{Pushed}
 use Rattle.matching.specs.Opposite.{Longer}
@@ -81,36 +80,35 @@ pub mark-read : (s : List ℕ) (y w : ℕ) → w ≡ getD s y 0 → w ≡ 0 → 
 unfolding mark
 mark-read s y w e z = sym e ∙ z
 
-module _ (m : Map) (i from : ℕ) (s : List ℕ) (end : ℕ) where
-  pub column-none : Taken (m .slots) s end → Column m i from s s end 0
+module _ (N : ℕ) (link : ℕ → ℕ) (from : ℕ) (s : List ℕ) (end : ℕ) where
+  pub column-none : Taken N s end → Column N link from s s end 0
   column-none t = record {
     taken = let same : end + 0 ≡ end = omega arith in rw same t;
     longer = record { places = λ e h. refl; rest = λ k h. refl };
     darts = λ q h. absurd (omega arith);
   }
 
-  module _ (s′ : List ℕ) (r : ℕ) (c : Column m i from s s′ end r) (from-place : m .slots ≤ from) (inside : from + r < m .slots + end) where
+  module _ (s′ : List ℕ) (r : ℕ) (c : Column N link from s s′ end r) (from-place : N ≤ from) (inside : from + r < N + end) where
     read : (x : ℕ) → x ≡ getD s′ (from + r) 0 → x ≡ dartAt s from r
     unfolding dartAt
-    read x e = e ∙ longer-dart (m .slots) s s′ end (c .longer) from r from-place inside
+    read x e = e ∙ longer-dart N s s′ end (c .longer) from r from-place inside
 
-    pub column-slot : (x : ℕ) → x ≡ getD s′ (from + r) 0 → x < m .slots
+    pub column-slot : (x : ℕ) → x ≡ getD s′ (from + r) 0 → x < N
     column-slot x e =
-        let N = m .slots in
         let at : dartAt s′ from r ≡ place N s′ (from - N + r) = dart-place N s′ (from - N) r from (omega arith) in
         let d : dartAt s′ from r ≡ dartAt s from r = longer-dart N s s′ end (c .longer) from r from-place inside in
         let b : place N s′ (from - N + r) < N = c .taken .slot (from - N + r) (omega arith) in
         let q = read x e in
         omega arith
 
-    module _ (x y : ℕ) (a : x ≡ getD s′ (from + r) 0) (b : y ≡ m .link i x) where
-      at : y ≡ m .link i (dartAt s from r)
-      at = b ∙ ap (m .link i) (read x a)
+    module _ (x y : ℕ) (a : x ≡ getD s′ (from + r) 0) (b : y ≡ link x) where
+      at : y ≡ link (dartAt s from r)
+      at = b ∙ ap link (read x a)
 
-      pub column-below : (size : ℕ) → r < size → Linked m i s from size → y < m .slots
+      pub column-below : (size : ℕ) → r < size → Linked N link s from size → y < N
       column-below size h o = rw at (o .slot r h)
 
-      pub column-clash : (size w : ℕ) → r < size → w ≡ getD s′ y 0 → (w ≡ 0 → ⊥) → Columned m i from s s′ end size false
+      pub column-clash : (size w : ℕ) → r < size → w ≡ getD s′ y 0 → (w ≡ 0 → ⊥) → Columned N link from s s′ end size false
       unfolding mark
       column-clash size w h e ne = record {
         done = λ q. absurd (true≢false (sym q));
@@ -118,13 +116,12 @@ module _ (m : Map) (i from : ℕ) (s : List ℕ) (end : ℕ) where
           r,
           h,
           c,
-          (let z : w ≡ mark s′ (m .link i (dartAt s from r)) = e ∙ ap (λ (k : ℕ). getD s′ k 0) at in omega (arith, z, ne)),
+          (let z : w ≡ mark s′ (link (dartAt s from r)) = e ∙ ap (λ (k : ℕ). getD s′ k 0) at in omega (arith, z, ne)),
         );
       }
 
-      pub column-more : (s″ : List ℕ) → y < m .slots → Pushed (m .slots) s′ (end + r) y s″ → Column m i from s s″ end (r + 1)
+      pub column-more : (s″ : List ℕ) → y < N → Pushed N s′ (end + r) y s″ → Column N link from s s″ end (r + 1)
       column-more s″ l p =
-          let N = m .slots in
           let longer : Longer N s′ s″ (end + r) = pushed-longer N s′ s″ (end + r) y l p in
           record {
             taken = let same : end + (r + 1) ≡ end + r + 1 = omega arith in rw same (p .taken);
@@ -134,5 +131,5 @@ module _ (m : Map) (i from : ℕ) (s : List ℕ) (end : ℕ) where
                 (λ ne. longer .places (end + q) (omega arith) ∙ c .darts q (omega arith));
           }
 
-  pub column-done : (s′ : List ℕ) (r : ℕ) → Column m i from s s′ end r → (size : ℕ) → r ≤ size → size ≤ r → Columned m i from s s′ end size true
+  pub column-done : (s′ : List ℕ) (r : ℕ) → Column N link from s s′ end r → (size : ℕ) → r ≤ size → size ≤ r → Columned N link from s s′ end size true
   column-done s′ r c size h l = record { done = λ q. let same : r ≡ size = omega arith in rw (← same) c; clash = λ q. absurd (true≢false q) }

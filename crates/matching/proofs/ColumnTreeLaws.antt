@@ -13,7 +13,7 @@ use lib.Seq.{getD-set-same, getD-set-other}
 use borrow.Author.Tests.{eqb-true}
 use Rattle.base.proofs.TestLaws.{true-or-false}
 use Rattle.base.proofs.RowLaws.{row-end, row-cell, row-of}
-use Rattle.model.specs.Map.{view}
+use Rattle.model.specs.Map.{Map}
 use Rattle.model.specs.Scheme.{left, orbitDim, has}
 use Rattle.model.specs.Conditions.{explicit, implicit, arcAt}
 use Rattle.model.specs.Site.{Site, Sound}
@@ -21,7 +21,6 @@ use Rattle.model.specs.Match.{image, arcHolds, matches, Assignment}
 use Rattle.model.proofs.AcceptedLaws.{small}
 use Rattle.model.proofs.MatchLaws.{GoodOrbit, match-assigns, arc-of}
 use Rattle.model.proofs.MatchIff.{good-orbit}
-use Rattle.table.specs.Words.{Sized}
 use Rattle.orbit.specs.At.{site}
 use Rattle.orbit.specs.Store.{mark, place, dartAt, Taken}
 use Rattle.matching.specs.Columns.{BeforeMatching, Linked, Column, Columned, Grown, ColumnedAll}
@@ -30,12 +29,16 @@ use Rattle.conditions.proofs.TreeLaws.{roots-few}
 use Rattle.orbit.proofs.PlaceLaws.{place-in}
 use Rattle.matching.proofs.ColumnLaws.{dart-place, longer-dart, longer-less, longer-trans}
 
-module _ {N : ℕ} {t s : List ℕ} {size : ℕ} {nodes parents dims : List ℕ} {roots count : ℕ}
-    (R : BeforeMatching N t s size nodes parents dims roots count) where
+module _ {M : Map} {s : List ℕ} {size : ℕ} {nodes parents dims : List ℕ} {roots count : ℕ}
+    (R : BeforeMatching M s size nodes parents dims roots count) where
   abbrev E : Site
   E = site (R .at)
 
   open Site E using (map as m, scheme as S, orbit as O)
+
+  abbrev N : ℕ
+  N = m .slots
+
   open Sound (R .at .sound) using (accepted, well)
 
   abbrev node : ℕ → ℕ
@@ -146,10 +149,10 @@ module _ {N : ℕ} {t s : List ℕ} {size : ℕ} {nodes parents dims : List ℕ}
       source-slot r b = let p = R .rooted .earlier k l h in
           subst (λ (v : ℕ). (dartAt s′ (getD cols v 0) r < N) × (m .state (dartAt s′ (getD cols v 0) r) ≡ 1)) (p .2) (dart-slot (p .0) r (p .1) b)
 
-      pub linked : Linked m (dim k) s′ (getD cols (parent k) 0) size
+      pub linked : Linked N (m .link (dim k)) s′ (getD cols (parent k) 0) size
       linked = record { slot = λ r b. let e = source-slot r b in well .below _ (e .0) (e .1) (dim k) (R .rooted .arc k l h .0) }
 
-      module _ (s″ : List ℕ) (C : Column m (dim k) (getD cols (parent k) 0) s′ s″ (k * size) size) where
+      module _ (s″ : List ℕ) (C : Column N (m .link (dim k)) (getD cols (parent k) 0) s′ s″ (k * size) size) where
         abbrev cols′ : List ℕ
         cols′ = set cols (node k) (N + k * size)
 
@@ -270,7 +273,7 @@ module _ {N : ℕ} {t s : List ℕ} {size : ℕ} {nodes parents dims : List ℕ}
             (subst (λ (v : ℕ). dartAt s′ (getD cols v 0) r ≡ image E (place N s r) v) (p .2) (images (p .0) r (p .1) c))
 
         -- a dart of the next column that has a place already is the image of two pairs
-        pub taken-twice : (s″ : List ℕ) (r : ℕ) → r < size → Column m (dim k) (getD cols (parent k) 0) s′ s″ (k * size) r
+        pub taken-twice : (s″ : List ℕ) (r : ℕ) → r < size → Column N (m .link (dim k)) (getD cols (parent k) 0) s′ s″ (k * size) r
             → 1 ≤ mark s″ (m .link (dim k) (dartAt s′ (getD cols (parent k) 0) r)) → ⊥
         taken-twice s″ r c C a =
             let y = m .link (dim k) (dartAt s′ (getD cols (parent k) 0) r) in
@@ -293,16 +296,16 @@ module _ {N : ℕ} {t s : List ℕ} {size : ℕ} {nodes parents dims : List ℕ}
 
 -- ---- the loop over the entries
 
-pub columns-done : {N : ℕ} {t nodes parents dims s s′ cols : List ℕ} {roots size count k : ℕ} → k ≤ count → count ≤ k
-    → Grown (view N t) nodes parents dims roots s s′ cols size k → ColumnedAll N t nodes parents dims roots s s′ cols size count true
+pub columns-done : {m : Map} {nodes parents dims s s′ cols : List ℕ} {roots size count k : ℕ} → k ≤ count → count ≤ k
+    → Grown m nodes parents dims roots s s′ cols size k → ColumnedAll m nodes parents dims roots s s′ cols size count true
 columns-done {count = count} {k = k} h l G = record {
   done = λ e. let same : k ≡ count = omega arith in rw (← same) G;
   none = λ e. absurd (true≢false e);
 }
 
 -- the nodes of an entry are within the arrays
-module _ {N : ℕ} {t s : List ℕ} {size : ℕ} {nodes parents dims : List ℕ} {roots count : ℕ}
-    (R : BeforeMatching N t s size nodes parents dims roots count) {k x : ℕ} (h : k < count) where
+module _ {m : Map} {s : List ℕ} {size : ℕ} {nodes parents dims : List ℕ} {roots count : ℕ}
+    (R : BeforeMatching m s size nodes parents dims roots count) {k x : ℕ} (h : k < count) where
   pub node-fits : x ≡ getD nodes k 0 → x < 16
   node-fits a = rw a (node-below R k h)
 
@@ -312,39 +315,34 @@ module _ {N : ℕ} {t s : List ℕ} {size : ℕ} {nodes parents dims : List ℕ}
       rw (a, ← p .2) (node-below R (p .0) (omega (arith, p .1)))
 
 -- from, i and end are what the loop hands to the column of entry k
-module _ {N : ℕ} {t s : List ℕ} {size : ℕ} {nodes parents dims : List ℕ} {roots count : ℕ} {s′ cols : List ℕ} {k : ℕ}
-    (G : Grown (view N t) nodes parents dims roots s s′ cols size k) (l : roots ≤ k) (h : k < count) {x i end : ℕ}
+module _ {m : Map} {s : List ℕ} {size : ℕ} {nodes parents dims : List ℕ} {roots count : ℕ} {s′ cols : List ℕ} {k : ℕ}
+    (G : Grown m nodes parents dims roots s s′ cols size k) (l : roots ≤ k) (h : k < count) {x i end : ℕ}
     (a : x ≡ getD parents k 0) (b : i ≡ getD dims k 0) (e : end ≡ k * size) where
-  module _ (R : BeforeMatching N t s size nodes parents dims roots count) where
-    pub column-asks : Sized N t × (Taken N s′ end × (((i ≤ 3) × (size ≤ N) × (N ≤ getD cols x 0) × (getD cols x 0 + size ≤ N + end))
-        × Linked (view N t) i s′ (getD cols x 0) size))
+  module _ (R : BeforeMatching m s size nodes parents dims roots count) where
+    pub column-asks : Taken (m .slots) s′ end
+        × (((i ≤ 3) × (size ≤ m .slots) × (m .slots ≤ getD cols x 0) × (getD cols x 0 + size ≤ m .slots + end))
+        × Linked (m .slots) (m .link i) s′ (getD cols x 0) size)
     column-asks =
         let from = source R G l h in
         let few = R .walked .fits in (
-          R .at .sized,
-          (
-            rw e (G .taken),
-            (
-              (rw b (dim-below R k l h), few, rw a (from .0), rw (a, e) (from .1)),
-              rw (a, b) (linked R G l h),
-            ),
-          ),
+          rw e (G .taken),
+          ((rw b (dim-below R k l h), few, rw a (from .0), rw (a, e) (from .1)), rw (a, b) (linked R G l h)),
         )
 
-    pub columns-more : (s″ : List ℕ) (y : ℕ) → y ≡ getD nodes k 0 → (w : Bool) → Columned (view N t) i (getD cols x 0) s′ s″ end size w → w ≡ true
-        → Grown (view N t) nodes parents dims roots s s″ (set cols y (N + end)) size (k + 1)
+    pub columns-more : (s″ : List ℕ) (y : ℕ) → y ≡ getD nodes k 0 → (w : Bool) → Columned (m .slots) (m .link i) (getD cols x 0) s′ s″ end size w → w ≡ true
+        → Grown m nodes parents dims roots s s″ (set cols y (m .slots + end)) size (k + 1)
     columns-more s″ y c w C z =
-        let D : Column (view N t) (getD dims k 0) (getD cols (getD parents k 0) 0) s′ s″ (k * size) size = rw (a, b, e) at (C .done z) in
+        let D : Column (m .slots) (m .link (getD dims k 0)) (getD cols (getD parents k 0) 0) s′ s″ (k * size) size = rw (a, b, e) at (C .done z) in
         rw (c, e) (grown-more R G l h s″ D)
 
-  pub columns-clash : (s″ : List ℕ) (w : Bool) → Columned (view N t) i (getD cols x 0) s′ s″ end size w → w ≡ false
-      → ColumnedAll N t nodes parents dims roots s s″ cols size count false
+  pub columns-clash : (s″ : List ℕ) (w : Bool) → Columned (m .slots) (m .link i) (getD cols x 0) s′ s″ end size w → w ≡ false
+      → ColumnedAll m nodes parents dims roots s s″ cols size count false
   columns-clash s″ w C z = record {
     done = λ f. absurd (true≢false (sym f));
     none = λ f R. ⊎-elim
         (λ q.
-        let y : (r : ℕ) × (r < size) × Column (view N t) (getD dims k 0) (getD cols (getD parents k 0) 0) s′ s″ (k * size) r
-        × (1 ≤ mark s″ (view N t .link (getD dims k 0) (dartAt s′ (getD cols (getD parents k 0) 0) r))) = rw (a, b, e) at (C .clash z) in
+        let y : (r : ℕ) × (r < size) × Column (m .slots) (m .link (getD dims k 0)) (getD cols (getD parents k 0) 0) s′ s″ (k * size) r
+        × (1 ≤ mark s″ (m .link (getD dims k 0) (dartAt s′ (getD cols (getD parents k 0) 0) r))) = rw (a, b, e) at (C .clash z) in
         absurd (taken-twice R q G (omega arith) l h s″ (y .0) (y .1) (y .2) (y .3)))
         (λ q. q)
         (true-or-false (matches (site (R .at))));

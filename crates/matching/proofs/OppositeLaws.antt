@@ -12,6 +12,7 @@ use native.Mathlib.Omega.{arith}
 use lib.ListN.{getD}
 use Rattle.base.proofs.TestLaws.{true-or-false}
 use Rattle.base.proofs.RowLaws.{row-end}
+use Rattle.model.specs.Map.{Map}
 use Rattle.model.specs.Scheme.{left, orbitDim, has, firstHook}
 use Rattle.model.specs.Site.{Site, Sound, LiveDart}
 use Rattle.model.specs.Match.{image, matches, Assignment}
@@ -56,10 +57,10 @@ mark-some s y w e ne = omega (arith, ne)
 -- ---- one dart or one link more
 
 -- the orbit stands where it stood, in a store with further places
-pub still-walked : {N : ℕ} {t : List ℕ} (A : At N t) {s s′ : List ℕ} {size end end′ : ℕ} → WalkedAt (site A) s size → Taken N s end → size ≤ end
-    → Longer N s s′ end → Taken N s′ end′ → end ≤ end′ → WalkedAt (site A) s′ size
-still-walked {N} A {s} {s′} {size} {end} {end′} W T few l T′ more =
-    walked-kept (site A .map) (A .scheme .places) (orbitDim (A .scheme)) (A .dart) s s′ size (places-few A) W (longer-kept N s s′ end l end′ T T′ more size few)
+pub still-walked : {m : Map} (A : At m) {s s′ : List ℕ} {size end end′ : ℕ} → WalkedAt (site A) s size → Taken (m .slots) s end → size ≤ end
+    → Longer (m .slots) s s′ end → Taken (m .slots) s′ end′ → end ≤ end′ → WalkedAt (site A) s′ size
+still-walked {m} A {s} {s′} {size} {end} {end′} W T few l T′ more =
+    walked-kept m (A .scheme .places) (orbitDim (A .scheme)) (A .dart) s s′ size (places-few A) W (longer-kept (m .slots) s s′ end l end′ T T′ more size few)
 
 pub next-longer : (N : ℕ) (s s′ : List ℕ) (end : ℕ) → Longer N s s′ end → (r p : ℕ) → next N s′ r p ≡ next N s r p
 unfolding next
@@ -133,18 +134,22 @@ module _ (E : Site) where
   pub opposed-row : (s : List ℕ) (size head p end : ℕ) → S .places ≤ p → p ≤ 4 → Opposed E s size (4 * head + p) end → Opposed E s size (4 * (head + 1)) end
   opposed-row s size head p end few l O = opposed-links s size (4 * head + p) (4 * (head + 1)) end O (λ r q k h. O .links r q k (omega arith))
 
-module _ {N : ℕ} {t : List ℕ} (A : At N t) {s : List ℕ} {size : ℕ} (W : WalkedAt (site A) s size) where
+module _ {M : Map} (A : At M) {s : List ℕ} {size : ℕ} (W : WalkedAt (site A) s size) where
   abbrev E₁ : Site
   E₁ = site A
 
   open Site E₁ using (map as m, scheme as S)
+
+  abbrev N₁ : ℕ
+  N₁ = m .slots
+
   open Sound (A .sound) using (accepted, well)
 
   abbrev h : ℕ
   h = S .second
 
   abbrev place₁ : ℕ → ℕ
-  place₁ r = place N s r
+  place₁ r = place N₁ s r
 
   -- ---- the places come in turn
 
@@ -159,8 +164,8 @@ module _ {N : ℕ} {t : List ℕ} (A : At N t) {s : List ℕ} {size : ℕ} (W : 
         omega (arith, o .to, w .leads))
 
     -- the next link leads to a place that stands in the column, or to the next one
-    pub in-turn : (head p : ℕ) → head < size → p < S .places → c ≡ 4 * head + p → next N s head p ≤ end
-    in-turn head p b l e = by-cases (decLt end (next N s head p))
+    pub in-turn : (head p : ℕ) → head < size → p < S .places → c ≡ 4 * head + p → next N₁ s head p ≤ end
+    in-turn head p b l e = by-cases (decLt end (next N₁ s head p))
         (λ late.
         let w = W .reached end some (omega (arith, W .links head p b l .0)) in
         let o = O .links (w .from) (w .position) (w .below) (omega (arith, w .first head b p l late)) in
@@ -170,7 +175,7 @@ module _ {N : ℕ} {t : List ℕ} (A : At N t) {s : List ℕ} {size : ℕ} (W : 
     -- the link of a dart of the column leads to a live dart
     pub link-live : (q p : ℕ) → q < end → p < S .places → LiveDart m (m .link (orbitDim S p) (place₁ (size + q)))
     link-live q p b l =
-        let slot : place₁ (size + q) < N = O .taken .slot (size + q) (omega arith) in
+        let slot : place₁ (size + q) < N₁ = O .taken .slot (size + q) (omega arith) in
         let low = accepted .shaped .orbitDims p l in
         record { slot = well .below _ slot (O .alive q b) _ low; alive = well .alive _ slot (O .alive q b) _ low }
 
@@ -188,7 +193,7 @@ module _ {N : ℕ} {t : List ℕ} (A : At N t) {s : List ℕ} {size : ℕ} (W : 
     first-image = sym (assignment₁ .second) ∙ ap (λ (x : ℕ). image E₁ x h) (sym (W .start))
 
     -- the link of the image for place r leads to the image for the place to which the link leads within the orbit
-    pub link-image : (r p x : ℕ) → r < size → p < S .places → x ≡ image E₁ (place₁ r) h → m .link (orbitDim S p) x ≡ image E₁ (place₁ (next N s r p)) h
+    pub link-image : (r p x : ℕ) → r < size → p < S .places → x ≡ image E₁ (place₁ r) h → m .link (orbitDim S p) x ≡ image E₁ (place₁ (next N₁ s r p)) h
     link-image r p x b l e =
         ap (m .link (orbitDim S p)) e ∙ second-link E₁ accepted good₁ (image E₁) assignment₁ (place₁ r) p (place-in W r b) l
         ∙ ap (λ (x : ℕ). image E₁ x h) (sym (W .links r p b l .1))
@@ -202,7 +207,7 @@ module _ {N : ℕ} {t : List ℕ} (A : At N t) {s : List ℕ} {size : ℕ} (W : 
         (place-once W u r l b (w .0), w .1)
 
     -- the image for the next place has no place yet
-    image-new : (c end y : ℕ) → Opposed E₁ s size c end → end < size → 1 ≤ h → y < N → y ≡ image E₁ (place₁ end) h → 1 ≤ mark s y → ⊥
+    image-new : (c end y : ℕ) → Opposed E₁ s size c end → end < size → 1 ≤ h → y < N₁ → y ≡ image E₁ (place₁ end) h → 1 ≤ mark s y → ⊥
     image-new c end y O b some low is a =
         let e = mark s y - 1 in
         let there = O .taken .found y low a in
@@ -220,7 +225,7 @@ module _ {N : ℕ} {t : List ℕ} (A : At N t) {s : List ℕ} {size : ℕ} (W : 
         absurd (omega (arith, w .0)))
 
   -- where y, which would be the image for place r, cannot stand for it, there is no match
-  pub unmet : (c end r y : ℕ) → Opposed E₁ s size c end → r < size → 1 ≤ h → y < N → (matches E₁ ≡ true → y ≡ image E₁ (place₁ r) h)
+  pub unmet : (c end r y : ℕ) → Opposed E₁ s size c end → r < size → 1 ≤ h → y < N₁ → (matches E₁ ≡ true → y ≡ image E₁ (place₁ r) h)
       → ((r < end) × (place₁ (size + r) ≢ y)) ⊎ ((r ≡ end) × (1 ≤ mark s y)) → matches E₁ ≡ false
   unmet c end r y O b some low is u = ⊎-elim
       (λ q. absurd (⊎-elim
@@ -232,11 +237,14 @@ module _ {N : ℕ} {t : List ℕ} (A : At N t) {s : List ℕ} {size : ℕ} (W : 
 
 -- ---- the loop of `expand`
 
-module _ {N : ℕ} {t s : List ℕ} {size : ℕ} {dims : List ℕ} {k head tail : ℕ} (T : Retracing N t s size dims k head tail) where
+module _ {M : Map} {s : List ℕ} {size : ℕ} {dims : List ℕ} {k head tail : ℕ} (T : Retracing M s size dims k head tail) where
   abbrev E₂ : Site
   E₂ = site (T .at)
 
   open Site E₂ using (map as m₂, scheme as S₂)
+
+  abbrev N₂ : ℕ
+  N₂ = m₂ .slots
 
   pub few-positions : k ≤ 4
   few-positions = omega (arith, T .placesAre, places-few (T .at))
@@ -244,17 +252,17 @@ module _ {N : ℕ} {t s : List ℕ} {size : ℕ} {dims : List ℕ} {k head tail 
   pub head-stands : head < tail
   head-stands = stands (T .at) (T .walked) (T .opposed) (T .some) head (T .low) (omega arith)
 
-  pub expand-first : Opposed E₂ s size (4 * head + 0) tail × Longer N s s (size + tail)
+  pub expand-first : Opposed E₂ s size (4 * head + 0) tail × Longer N₂ s s (size + tail)
   expand-first =
       let same : 4 * head + 0 ≡ 4 * head = omega arith in
       (rw same (T .opposed), record { places = λ e h. refl; rest = λ i h. refl })
 
   -- x is the dart for place `head`
-  module _ (x : ℕ) (a : x ≡ getD s (N + size + head) 0) where
-    x-is : x ≡ place N s (size + head)
-    x-is = column-read N s size head x a
+  module _ (x : ℕ) (a : x ≡ getD s (N₂ + size + head) 0) where
+    x-is : x ≡ place N₂ s (size + head)
+    x-is = column-read N₂ s size head x a
 
-    pub x-slot : x < N
+    pub x-slot : x < N₂
     x-slot = rw x-is (T .opposed .taken .slot (size + head) (let b = head-stands in omega arith))
 
     -- i is the dimension at position p
@@ -269,25 +277,25 @@ module _ {N : ℕ} {t s : List ℕ} {size : ℕ} {dims : List ℕ} {k head tail 
       dim-low = omega (arith, i-is, small S₂ (T .at .sound .accepted .shaped), T .at .sound .accepted .shaped .orbitDims p inside)
 
       -- y and q are the dart and the place to which the link leads
-      module _ {s′ : List ℕ} {end : ℕ} (O : Opposed E₂ s′ size (4 * head + p) end) (L : Longer N s s′ (size + tail)) (grown : tail ≤ end)
-          (y q : ℕ) (d : y ≡ m₂ .link i x) (e : q ≡ getD s′ (4 * N + 4 * head + p) 0) where
+      module _ {s′ : List ℕ} {end : ℕ} (O : Opposed E₂ s′ size (4 * head + p) end) (L : Longer N₂ s s′ (size + tail)) (grown : tail ≤ end)
+          (y q : ℕ) (d : y ≡ m₂ .link i x) (e : q ≡ getD s′ (4 * N₂ + 4 * head + p) 0) where
         walked′ : WalkedAt E₂ s′ size
         walked′ = still-walked (T .at) (T .walked) (T .opposed .taken) (omega arith) L (O .taken) (omega arith)
 
         some′ : 1 ≤ end
         some′ = omega (arith, T .some)
 
-        q-is : q ≡ next N s′ head p
+        q-is : q ≡ next N₂ s′ head p
         unfolding next
         q-is = e
 
-        y-is : y ≡ m₂ .link (orbitDim S₂ p) (place N s′ (size + head))
+        y-is : y ≡ m₂ .link (orbitDim S₂ p) (place N₂ s′ (size + head))
         y-is = let low = head-stands in d ∙ ap₂ (m₂ .link) i-is (x-is ∙ sym (L .places (size + head) (omega arith)))
 
         y-live : LiveDart m₂ y
         y-live = let low = head-stands in subst (LiveDart m₂) (sym y-is) (link-live (T .at) walked′ O some′ head p (omega arith) inside)
 
-        pub y-slot : y < N
+        pub y-slot : y < N₂
         y-slot = y-live .slot
 
         pub q-next : q ≤ end
@@ -296,53 +304,53 @@ module _ {N : ℕ} {t s : List ℕ} {size : ℕ} {dims : List ℕ} {k head tail 
         q-low : q < size
         q-low = omega (arith, q-is, walked′ .links head p (T .low) inside .0)
 
-        y-image : matches E₂ ≡ true → y ≡ image E₂ (place N s′ q) (S₂ .second)
+        y-image : matches E₂ ≡ true → y ≡ image E₂ (place N₂ s′ q) (S₂ .second)
         y-image z =
             let low = head-stands in
             y-is ∙ link-image (T .at) walked′ z head p _ (T .low) inside (O .images z head (omega arith))
-            ∙ ap (λ (r : ℕ). image E₂ (place N s′ r) (S₂ .second)) (sym q-is)
+            ∙ ap (λ (r : ℕ). image E₂ (place N₂ s′ r) (S₂ .second)) (sym q-is)
 
         -- y stands for place q already
-        step-old : q < end → place N s′ (size + q) ≡ y → Opposed E₂ s′ size (4 * head + (p + 1)) end
+        step-old : q < end → place N₂ s′ (size + q) ≡ y → Opposed E₂ s′ size (4 * head + (p + 1)) end
         step-old below here =
             let low = head-stands in
             opposed-step E₂ s′ size head p end (places-few (T .at)) (omega (arith, few-positions)) O record {
               from = omega arith;
               to = omega (arith, q-is);
-              is = sym y-is ∙ sym here ∙ ap (λ (r : ℕ). place N s′ (size + r)) q-is;
+              is = sym y-is ∙ sym here ∙ ap (λ (r : ℕ). place N₂ s′ (size + r)) q-is;
             }
 
         -- y takes the next place, which is q
-        step-new : {s″ : List ℕ} → q ≡ end → Pushed N s′ (size + end) y s″ → Longer N s′ s″ (size + end) → Opposed E₂ s″ size (4 * head + (p + 1)) (end + 1)
+        step-new : {s″ : List ℕ} → q ≡ end → Pushed N₂ s′ (size + end) y s″ → Longer N₂ s′ s″ (size + end) → Opposed E₂ s″ size (4 * head + (p + 1)) (end + 1)
         step-new {s″} last pushed more =
             let low = head-stands in
             let grows : Opposed E₂ s″ size (4 * head + p) (end + 1) =
             opposed-push E₂ s′ size (4 * head + p) end y O (omega (arith, q-low)) y-live (λ z. absurd (omega (arith, some′)))
-            (λ z. y-image z ∙ ap (λ (r : ℕ). image E₂ (place N s′ r) (S₂ .second)) last) s″ pushed in
-            let here : place N s″ (size + end) ≡ y = pushed-here N s′ (size + end) y (O .taken) (y-live .slot) s″ pushed in
-            let same : next N s″ head p ≡ end = next-longer N s′ s″ (size + end) more head p ∙ sym q-is ∙ last in
+            (λ z. y-image z ∙ ap (λ (r : ℕ). image E₂ (place N₂ s′ r) (S₂ .second)) last) s″ pushed in
+            let here : place N₂ s″ (size + end) ≡ y = pushed-here N₂ s′ (size + end) y (O .taken) (y-live .slot) s″ pushed in
+            let same : next N₂ s″ head p ≡ end = next-longer N₂ s′ s″ (size + end) more head p ∙ sym q-is ∙ last in
             opposed-step E₂ s″ size head p (end + 1) (places-few (T .at)) (omega (arith, few-positions)) grows record {
               from = omega arith;
               to = omega (arith, same);
               is = ap (m₂ .link (orbitDim S₂ p)) (more .places (size + head) (omega arith)) ∙ sym y-is ∙ sym here
-                  ∙ ap (λ (r : ℕ). place N s″ (size + r)) (sym same);
+                  ∙ ap (λ (r : ℕ). place N₂ s″ (size + r)) (sym same);
             }
 
-        pub expand-more : {s″ : List ℕ} {end′ : ℕ} → Met N s′ size end q y s″ end′ → (end′ ≡ 0 → ⊥)
-            → (tail ≤ end′) × (Opposed E₂ s″ size (4 * head + (p + 1)) end′ × Longer N s s″ (size + tail))
+        pub expand-more : {s″ : List ℕ} {end′ : ℕ} → Met N₂ s′ size end q y s″ end′ → (end′ ≡ 0 → ⊥)
+            → (tail ≤ end′) × (Opposed E₂ s″ size (4 * head + (p + 1)) end′ × Longer N₂ s s″ (size + tail))
         expand-more (inl v) ne = (omega (arith, v .0), rw (v .0, v .1) (step-old (v .2) (v .3), L))
         expand-more {s″} (inr (inl v)) ne =
-            let more = pushed-longer N s′ s″ (size + end) y (y-live .slot) (v .2) in
-            let longer = longer-trans N s s′ (size + tail) L s″ (longer-less N s′ s″ (size + end) more (size + tail) (omega arith)) in
+            let more = pushed-longer N₂ s′ s″ (size + end) y (y-live .slot) (v .2) in
+            let longer = longer-trans N₂ s s′ (size + tail) L s″ (longer-less N₂ s′ s″ (size + end) more (size + tail) (omega arith)) in
             (omega (arith, v .0), rw (v .0) (step-new (v .1) (v .2) more, longer))
         expand-more (inr (inr v)) ne = absurd (ne (v .0))
 
-        pub expand-none : {s″ : List ℕ} {end′ : ℕ} → Met N s′ size end q y s″ end′ → end′ ≡ 0 → matches E₂ ≡ false
+        pub expand-none : {s″ : List ℕ} {end′ : ℕ} → Met N₂ s′ size end q y s″ end′ → end′ ≡ 0 → matches E₂ ≡ false
         expand-none (inl v) z = absurd (omega (arith, v .0, some′))
         expand-none (inr (inl v)) z = absurd (omega (arith, v .0))
         expand-none (inr (inr v)) z = unmet (T .at) walked′ (4 * head + p) end q y O q-low (T .named) y-slot y-image (v .2)
 
-  pub expand-done : {s′ : List ℕ} {p end : ℕ} → Opposed E₂ s′ size (4 * head + p) end → Longer N s s′ (size + tail) → tail ≤ end → p ≡ k
+  pub expand-done : {s′ : List ℕ} {p end : ℕ} → Opposed E₂ s′ size (4 * head + p) end → Longer N₂ s s′ (size + tail) → tail ≤ end → p ≡ k
       → Retraced E₂ s s′ size tail (head + 1) end
   expand-done {s′} {p} {end} O L grown e = record {
     done = λ some. (grown, opposed-row E₂ s′ size head p end (omega (arith, T .placesAre)) (omega (arith, few-positions)) O, L);
@@ -351,9 +359,12 @@ module _ {N : ℕ} {t s : List ℕ} {size : ℕ} {dims : List ℕ} {k head tail 
 
 -- ---- the loop of `retrace`
 
-module _ {N : ℕ} {t s : List ℕ} {size : ℕ} {dims : List ℕ} {k tail : ℕ} (T : Retracing N t s size dims k 0 tail) where
+module _ {M : Map} {s : List ℕ} {size : ℕ} {dims : List ℕ} {k tail : ℕ} (T : Retracing M s size dims k 0 tail) where
   abbrev E₃ : Site
   E₃ = site (T .at)
+
+  abbrev N₃ : ℕ
+  N₃ = M .slots
 
   pub retrace-first : Retraced E₃ s s size tail 0 tail
   retrace-first = record {
@@ -368,7 +379,7 @@ module _ {N : ℕ} {t s : List ℕ} {size : ℕ} {dims : List ℕ} {k tail : ℕ
     abbrev walked₃ : WalkedAt E₃ s′ size
     walked₃ = still-walked (T .at) (T .walked) (T .opposed .taken) (omega arith) (D .done some .2) (O₃ .taken) (omega (arith, D .done some .0))
 
-    abbrev pub retracing : head < size → Retracing N t s′ size dims k head end
+    abbrev pub retracing : head < size → Retracing M s′ size dims k head end
     retracing b = record {
       at = T .at;
       walked = walked₃;
@@ -385,8 +396,8 @@ module _ {N : ℕ} {t s : List ℕ} {size : ℕ} {dims : List ℕ} {k tail : ℕ
       done = λ l.
           let d = D .done some in
           let f = F .done l in
-          let more = longer-less N s′ s″ (size + end) (f .2) (size + tail) (omega (arith, d .0)) in
-          (omega (arith, d .0, f .0), f .1, longer-trans N s s′ (size + tail) (d .2) s″ more);
+          let more = longer-less N₃ s′ s″ (size + end) (f .2) (size + tail) (omega (arith, d .0)) in
+          (omega (arith, d .0, f .0), f .1, longer-trans N₃ s s′ (size + tail) (d .2) s″ more);
       none = F .none;
     }
 
@@ -396,7 +407,7 @@ module _ {N : ℕ} {t s : List ℕ} {size : ℕ} {dims : List ℕ} {k tail : ℕ
       done = λ q.
           let last = stands (T .at) walked₃ O₃ some (size - 1) (omega (arith, T .low)) (omega arith) in
           let full : end ≡ size = omega (arith, O₃ .fits) in
-          (rw (e, full) at O₃, longer-less N s s′ (size + tail) (D .done some .2) size (omega arith));
+          (rw (e, full) at O₃, longer-less N₃ s s′ (size + tail) (D .done some .2) size (omega arith));
       none = λ q. absurd (true≢false q);
     }
 
@@ -405,35 +416,38 @@ module _ {N : ℕ} {t s : List ℕ} {size : ℕ} {dims : List ℕ} {k tail : ℕ
 
 -- ---- `opposite`
 
-module _ {N : ℕ} {t s : List ℕ} {size : ℕ} {dims : List ℕ} {k other roots : ℕ} (R : BeforeHanging N t s size dims k other roots) where
+module _ {m : Map} {s : List ℕ} {size : ℕ} {dims : List ℕ} {k other roots : ℕ} (R : BeforeHanging m s size dims k other roots) where
   abbrev E₄ : Site
   E₄ = site (R .at)
 
-  pub other-slot : other < N
+  abbrev N₄ : ℕ
+  N₄ = m .slots
+
+  pub other-slot : other < N₄
   other-slot = rw (R .otherIs) (R .at .sound .other .slot)
 
-  pub hung-walked : {s′ : List ℕ} → Hung E₄ s′ size roots → Longer N s s′ size → WalkedAt E₄ s′ size
+  pub hung-walked : {s′ : List ℕ} → Hung E₄ s′ size roots → Longer N₄ s s′ size → WalkedAt E₄ s′ size
   hung-walked H l =
       let some : 1 ≤ roots = omega (arith, R .rootsAre, roots-few (R .at .scheme .second) .0) in
       still-walked (R .at) (R .walked) (R .taken) (omega arith) l (H .taken) (let e = row-end size 0 roots some in omega arith)
 
   -- the dart that the call names takes the first place, if it has none yet
-  module _ (two : roots ≡ 1 → ⊥) {s′ : List ℕ} {tail : ℕ} (M : Met N s size 0 0 other s′ tail) where
+  module _ (two : roots ≡ 1 → ⊥) {s′ : List ℕ} {tail : ℕ} (M : Met N₄ s size 0 0 other s′ tail) where
     pub named : 1 ≤ R .at .scheme .second
     named = second-named _ (λ z. two (R .rootsAre ∙ z)) .1
 
-    other-image : matches E₄ ≡ true → other ≡ image E₄ (place N s 0) (R .at .scheme .second)
+    other-image : matches E₄ ≡ true → other ≡ image E₄ (place N₄ s 0) (R .at .scheme .second)
     other-image q = R .otherIs ∙ first-image (R .at) (R .walked) q
 
-    pub first-met : (tail ≡ 0 → ⊥) → (1 ≤ tail) × (Opposed E₄ s′ size (4 * 0) tail × Longer N s s′ size)
+    pub first-met : (tail ≡ 0 → ⊥) → (1 ≤ tail) × (Opposed E₄ s′ size (4 * 0) tail × Longer N₄ s s′ size)
     first-met ne = ⊎-elim
         (λ v. absurd (omega (arith, v .2)))
         (λ w. ⊎-elim
         (λ v.
         let live : LiveDart (E₄ .map) other = subst (LiveDart (E₄ .map)) (sym (R .otherIs)) (R .at .sound .other) in
         let P = opposed-push E₄ s size (4 * 0) 0 other (opposed-none E₄ s size (R .taken)) (R .walked .some) live (λ z. R .otherIs) other-image s′ (v .2) in
-        let more = pushed-longer N s s′ (size + 0) other (live .slot) (v .2) in
-        (omega (arith, v .0), (rw (v .0) P, longer-less N s s′ (size + 0) more size (omega arith))))
+        let more = pushed-longer N₄ s s′ (size + 0) other (live .slot) (v .2) in
+        (omega (arith, v .0), (rw (v .0) P, longer-less N₄ s s′ (size + 0) more size (omega arith))))
         (λ v. absurd (ne (v .0)))
         w)
         M
@@ -447,7 +461,7 @@ module _ {N : ℕ} {t s : List ℕ} {size : ℕ} {dims : List ℕ} {k other root
         w)
         M
 
-    abbrev pub ready : (tail ≡ 0 → ⊥) → Retracing N t s′ size dims k 0 tail
+    abbrev pub ready : (tail ≡ 0 → ⊥) → Retracing m s′ size dims k 0 tail
     ready ne = record {
       at = R .at;
       walked = let f = first-met ne .1 in
@@ -461,15 +475,15 @@ module _ {N : ℕ} {t s : List ℕ} {size : ℕ} {dims : List ℕ} {k other root
     }
 
     -- both hooks have their columns
-    pub hung-both : {s″ : List ℕ} → (tail ≡ 0 → ⊥) → Opposed E₄ s″ size (4 * size) size × Longer N s′ s″ size → Hung E₄ s″ size roots × Longer N s s″ size
+    pub hung-both : {s″ : List ℕ} → (tail ≡ 0 → ⊥) → Opposed E₄ s″ size (4 * size) size × Longer N₄ s′ s″ size → Hung E₄ s″ size roots × Longer N₄ s s″ size
     hung-both {s″} ne D =
         let both : roots ≡ 2 = R .rootsAre ∙ second-named (R .at .scheme .second) (λ z. two (R .rootsAre ∙ z)) .0 in
         let rows : roots * size ≡ size + size = ap (λ (z : ℕ). z * size) both ∙ omega arith in
-        (record { taken = rw rows (D .0 .taken); second = λ z. D .0 }, longer-trans N s s′ size (first-met ne .1 .1) s″ (D .1))
+        (record { taken = rw rows (D .0 .taken); second = λ z. D .0 }, longer-trans N₄ s s′ size (first-met ne .1 .1) s″ (D .1))
 
-module _ {N : ℕ} {t s : List ℕ} {size : ℕ} {dims : List ℕ} {k other roots : ℕ} where
+module _ {m : Map} {s : List ℕ} {size : ℕ} {dims : List ℕ} {k other roots : ℕ} where
   -- no second hook
-  pub hung-single : roots ≡ 1 → HungAll N t s s size dims k other roots true
+  pub hung-single : roots ≡ 1 → HungAll m s s size dims k other roots true
   hung-single e = record {
     done = λ q R. (
       record {
@@ -481,13 +495,13 @@ module _ {N : ℕ} {t s : List ℕ} {size : ℕ} {dims : List ℕ} {k other root
     none = λ q. absurd (true≢false q);
   }
 
-  module _ (two : roots ≡ 1 → ⊥) {s′ : List ℕ} {tail : ℕ} (M : Met N s size 0 0 other s′ tail) where
+  module _ (two : roots ≡ 1 → ⊥) {s′ : List ℕ} {tail : ℕ} (M : Met (m .slots) s size 0 0 other s′ tail) where
     -- the dart that the call names has a place in the orbit
-    pub hung-none : tail ≡ 0 → HungAll N t s s′ size dims k other roots false
+    pub hung-none : tail ≡ 0 → HungAll m s s′ size dims k other roots false
     hung-none z = record { done = λ q. absurd (true≢false (sym q)); none = λ q R. first-unmet R two M z }
 
-    pub hung-all : {s″ : List ℕ} {w : Bool} (ne : tail ≡ 0 → ⊥) → ((T : Retracing N t s′ size dims k 0 tail) → RetracedAll (site (T .at)) s′ s″ size w)
-        → HungAll N t s s″ size dims k other roots w
+    pub hung-all : {s″ : List ℕ} {w : Bool} (ne : tail ≡ 0 → ⊥) → ((T : Retracing m s′ size dims k 0 tail) → RetracedAll (site (T .at)) s′ s″ size w)
+        → HungAll m s s″ size dims k other roots w
     hung-all ne D = record {
       done = λ q R. hung-both R two M ne (D (ready R two M ne) .done q);
       none = λ q R. D (ready R two M ne) .none q;

@@ -9,18 +9,15 @@ use lib.Dec.{eqb, ltb}
 use Rattle.base.specs.Test.{_or_}
 use Rattle.base.specs.Below.{allBelow}
 use Rattle.model.specs.Map.{Map}
-use Rattle.table.specs.Words.{Sized}
 use Rattle.orbit.specs.Store.{next, dartAt}
 
 -- the column at `from` holds slots
 pub record Slots (N : ℕ) (s : List ℕ) (from size : ℕ) : Type 0 where
   pub slot : (r : ℕ) → r < size → dartAt s from r < N
 
--- the i-links of the column at `from` can be compared with the column at `to`
-pub record Testable (N : ℕ) (t s : List ℕ) (size i from to : ℕ) : Type 0 where
-  pub sized : Sized N t
+-- the links of the column at `from` can be compared with the column at `to`
+pub record Testable (N : ℕ) (s : List ℕ) (size from to : ℕ) : Type 0 where
   pub long : length s ≡ 16 * N
-  pub dim : i < 4
   pub few : size ≤ N
   pub fromInside : from + size ≤ 2 * N
   pub toInside : to + size ≤ 2 * N
@@ -30,20 +27,20 @@ pub record Testable (N : ℕ) (t s : List ℕ) (size i from to : ℕ) : Type 0 w
 pub record Turns (N : ℕ) (s : List ℕ) (p size : ℕ) : Type 0 where
   pub place : (r : ℕ) → r < size → next N s r p < size
 
--- for each place r of the orbit, the i-link leads from the dart in the column at `from` to the one at place `to r` of the column at `base`
-unfoldable pub follows : Map → List ℕ → ℕ → ℕ → ℕ → ℕ → (ℕ → ℕ) → Bool
-follows m s size i from base to = allBelow size (λ r. eqb (m .link i (dartAt s from r)) (dartAt s base (to r)))
+-- for each place r of the orbit, the link leads from the dart in the column at `from` to the one at place `to r` of the column at `base`
+unfoldable pub follows : (ℕ → ℕ) → List ℕ → ℕ → ℕ → ℕ → (ℕ → ℕ) → Bool
+follows link s size from base to = allBelow size (λ r. eqb (link (dartAt s from r)) (dartAt s base (to r)))
 
 module _ (m : Map) (s : List ℕ) (size : ℕ) (dims cols : List ℕ) (j i from : ℕ) where
   -- the explicit arc of entry j at dimension i, to a node: it is tested from the later of its two columns, and an arc of a tree not at all
   unfoldable pub explicitTest : ℕ → Bool
-  explicitTest t = ltb from (getD cols t 0) or eqb (getD dims j 0) i or follows m s size i from (getD cols t 0) (λ r. r)
+  explicitTest t = ltb from (getD cols t 0) or eqb (getD dims j 0) i or follows (m .link i) s size from (getD cols t 0) (λ r. r)
 
   -- the first `roots` entries are hooks
   module _ (roots : ℕ) where
     -- the implicit arc of entry j at dimension i, at a position; those of the hooks hold since their columns were walked along the links
     unfoldable pub implicitTest : ℕ → Bool
-    implicitTest p = ltb j roots or follows m s size i from from (λ r. next (m .slots) s r p)
+    implicitTest p = ltb j roots or follows (m .link i) s size from from (λ r. next (m .slots) s r p)
 
     -- the arc with this code
     unfoldable pub codeTest : ℕ → Bool
@@ -59,8 +56,7 @@ module _ (m : Map) (s : List ℕ) (size : ℕ) (nodes dims : List ℕ) (roots : 
   arcsTest bound = allBelow bound (λ k. arcTest (k / 4) (k % 4))
 
 -- the columns and codes are such that an arc can be tested
-pub record Firm (N : ℕ) (t s : List ℕ) (size : ℕ) (nodes codes cols : List ℕ) (count : ℕ) : Type 0 where
-  pub sized : Sized N t
+pub record Firm (N : ℕ) (s : List ℕ) (size : ℕ) (nodes codes cols : List ℕ) (count : ℕ) : Type 0 where
   pub long : length s ≡ 16 * N
   pub few : size ≤ N
   pub entries : count ≤ 16

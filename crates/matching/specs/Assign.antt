@@ -5,6 +5,7 @@ use mathlib.Core.Path.{_≡_}
 use mathlib.Core.Bool.{Bool, true}
 use mathlib.Core.List.{List}
 use lib.ListN.{length}
+use Rattle.model.specs.Map.{Map}
 use Rattle.model.specs.Scheme.{left}
 use Rattle.model.specs.Site.{Site}
 use Rattle.model.specs.Match.{matches}
@@ -15,9 +16,9 @@ use Rattle.matching.specs.Opposite.{BeforeHanging}
 use Rattle.matching.specs.Columns.{Rooted}
 
 -- the orbit in the store, the trees of the scheme with the codes of its left arcs, and room for the columns of all nodes
-pub record Posed (N : ℕ) (t s : List ℕ) (size : ℕ) (orbit : List ℕ) (k other : ℕ) (nodes parents dims : List ℕ) (roots count : ℕ)
+pub record Posed (m : Map) (s : List ℕ) (size : ℕ) (orbit : List ℕ) (k other : ℕ) (nodes parents dims : List ℕ) (roots count : ℕ)
     (codes cols : List ℕ) : Type 0 where
-  pub ready : BeforeHanging N t s size orbit k other roots
+  pub ready : BeforeHanging m s size orbit k other roots
   pub rooted : Rooted (ready .at .scheme) roots count nodes parents dims
   pub coded : Coded (ready .at .scheme) left codes
   pub colsLong : length cols ≡ 16
@@ -31,6 +32,6 @@ pub record Matched (E : Site) (s s′ cols : List ℕ) (size : ℕ) (answer : Bo
   pub wide : answer ≡ true → length cols ≡ 16
 
 -- it is the answer for the site at which it was asked
-pub record Answered (N : ℕ) (t s : List ℕ) (size : ℕ) (orbit : List ℕ) (k other : ℕ) (nodes parents dims : List ℕ) (roots count : ℕ)
+pub record Answered (m : Map) (s : List ℕ) (size : ℕ) (orbit : List ℕ) (k other : ℕ) (nodes parents dims : List ℕ) (roots count : ℕ)
     (codes cols s′ cols′ : List ℕ) (answer : Bool) : Type 0 where
-  pub at : (P : Posed N t s size orbit k other nodes parents dims roots count codes cols) → Matched (site (P .ready .at)) s s′ cols′ size answer
+  pub at : (P : Posed m s size orbit k other nodes parents dims roots count codes cols) → Matched (site (P .ready .at)) s s′ cols′ size answer

@@ -6,7 +6,7 @@ use mathlib.Core.Path.{_≡_}
 use mathlib.Core.Bool.{Bool, true, false}
 use mathlib.Core.List.{List}
 use lib.ListN.{length, getD}
-use Rattle.model.specs.Map.{Map, view}
+use Rattle.model.specs.Map.{Map}
 use Rattle.model.specs.Scheme.{left, has}
 use Rattle.model.specs.Conditions.{explicit, arcAt}
 use Rattle.model.specs.Match.{matches}
@@ -28,27 +28,27 @@ pub record Rooted (S : Scheme) (roots size : ℕ) (node parent dim : List ℕ) :
   pub once : (j k : ℕ) → j < size → k < size → getD node j 0 ≡ getD node k 0 → j ≡ k
   pub every : (s : ℕ) → s < S .nodes → has S left s ≡ true → (k : ℕ) × (k < size) × (getD node k 0 ≡ s)
 
--- an accepted scheme with its trees, at live darts of a table that is well-formed for it, and in the store the columns of the hooks
-pub record BeforeMatching (N : ℕ) (t s : List ℕ) (size : ℕ) (nodes parents dims : List ℕ) (roots count : ℕ) : Type 0 where
-  pub at : At N t
+-- an accepted scheme with its trees, at live darts of a map that is well-formed for it, and in the store the columns of the hooks
+pub record BeforeMatching (m : Map) (s : List ℕ) (size : ℕ) (nodes parents dims : List ℕ) (roots count : ℕ) : Type 0 where
+  pub at : At m
   pub walked : WalkedAt (site at) s size
   pub hung : Hung (site at) s size roots
   pub rooted : Rooted (at .scheme) roots count nodes parents dims
 
--- the i-links lead from the column at `from` to slots
-pub record Linked (m : Map) (i : ℕ) (s : List ℕ) (from size : ℕ) : Type 0 where
-  pub slot : (r : ℕ) → r < size → m .link i (dartAt s from r) < m .slots
+-- the links lead from the column at `from` to slots
+pub record Linked (N : ℕ) (link : ℕ → ℕ) (s : List ℕ) (from size : ℕ) : Type 0 where
+  pub slot : (r : ℕ) → r < size → link (dartAt s from r) < N
 
--- from the places `end` on stand the first r darts of a column: those to which the i-links of the column at `from` lead
-pub record Column (m : Map) (i from : ℕ) (s s′ : List ℕ) (end r : ℕ) : Type 0 where
-  pub taken : Taken (m .slots) s′ (end + r)
-  pub longer : Longer (m .slots) s s′ end
-  pub darts : (q : ℕ) → q < r → place (m .slots) s′ (end + q) ≡ m .link i (dartAt s from q)
+-- from the places `end` on stand the first r darts of a column: those to which the links of the column at `from` lead
+pub record Column (N : ℕ) (link : ℕ → ℕ) (from : ℕ) (s s′ : List ℕ) (end r : ℕ) : Type 0 where
+  pub taken : Taken N s′ (end + r)
+  pub longer : Longer N s s′ end
+  pub darts : (q : ℕ) → q < r → place N s′ (end + q) ≡ link (dartAt s from q)
 
 -- a column of `size` darts was added, or else the next of its darts has a place already
-pub record Columned (m : Map) (i from : ℕ) (s s′ : List ℕ) (end size : ℕ) (whole : Bool) : Type 0 where
-  pub done : whole ≡ true → Column m i from s s′ end size
-  pub clash : whole ≡ false → (r : ℕ) × (r < size) × Column m i from s s′ end r × (1 ≤ mark s′ (m .link i (dartAt s from r)))
+pub record Columned (N : ℕ) (link : ℕ → ℕ) (from : ℕ) (s s′ : List ℕ) (end size : ℕ) (whole : Bool) : Type 0 where
+  pub done : whole ≡ true → Column N link from s s′ end size
+  pub clash : whole ≡ false → (r : ℕ) × (r < size) × Column N link from s s′ end r × (1 ≤ mark s′ (link (dartAt s from r)))
 
 -- the first k entries of the trees have their columns, and each but the hooks' was made from its parent's
 pub record Grown (m : Map) (nodes parents dims : List ℕ) (roots : ℕ) (s s′ cols : List ℕ) (size k : ℕ) : Type 0 where
@@ -61,6 +61,6 @@ pub record Grown (m : Map) (nodes parents dims : List ℕ) (roots : ℕ) (s s′
       → dartAt s′ (getD cols (getD nodes j 0) 0) r ≡ m .link (getD dims j 0) (dartAt s′ (getD cols (getD parents j 0) 0) r)
 
 -- all entries have their columns, or else there is no match
-pub record ColumnedAll (N : ℕ) (t : List ℕ) (nodes parents dims : List ℕ) (roots : ℕ) (s s′ cols : List ℕ) (size count : ℕ) (whole : Bool) : Type 0 where
-  pub done : whole ≡ true → Grown (view N t) nodes parents dims roots s s′ cols size count
-  pub none : whole ≡ false → (R : BeforeMatching N t s size nodes parents dims roots count) → matches (site (R .at)) ≡ false
+pub record ColumnedAll (m : Map) (nodes parents dims : List ℕ) (roots : ℕ) (s s′ cols : List ℕ) (size count : ℕ) (whole : Bool) : Type 0 where
+  pub done : whole ≡ true → Grown m nodes parents dims roots s s′ cols size count
+  pub none : whole ≡ false → (R : BeforeMatching m s size nodes parents dims roots count) → matches (site (R .at)) ≡ false

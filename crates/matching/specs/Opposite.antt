@@ -7,6 +7,7 @@ use mathlib.Core.Logic.{_⊎_, _≢_}
 use mathlib.Core.Bool.{Bool, true, false}
 use mathlib.Core.List.{List}
 use lib.ListN.{getD}
+use Rattle.model.specs.Map.{Map}
 use Rattle.model.specs.Scheme.{orbitDim}
 use Rattle.model.specs.Site.{Site}
 use Rattle.model.specs.Match.{image, matches}
@@ -50,18 +51,18 @@ pub record Hung (E : Site) (s : List ℕ) (size roots : ℕ) : Type 0 where
   pub second : roots ≡ 2 → Opposed E s size (4 * size) size
 
 -- what the column of the second hook starts from: the orbit in the store, the orbit type, the other dart, and how many hooks there are
-pub record BeforeHanging (N : ℕ) (t s : List ℕ) (size : ℕ) (dims : List ℕ) (k other roots : ℕ) : Type 0 where
-  pub at : At N t
+pub record BeforeHanging (m : Map) (s : List ℕ) (size : ℕ) (dims : List ℕ) (k other roots : ℕ) : Type 0 where
+  pub at : At m
   pub walked : WalkedAt (site at) s size
-  pub taken : Taken N s size
+  pub taken : Taken (m .slots) s size
   pub dimsAre : dims ≡ at .scheme .orbit
   pub placesAre : k ≡ at .scheme .places
   pub otherIs : other ≡ at .other
   pub rootsAre : roots ≡ rootsOf (at .scheme .second)
 
 -- what following the links of the dart for place `head` starts from: the orbit, and the column of a second hook with the darts met so far
-pub record Retracing (N : ℕ) (t s : List ℕ) (size : ℕ) (dims : List ℕ) (k head tail : ℕ) : Type 0 where
-  pub at : At N t
+pub record Retracing (m : Map) (s : List ℕ) (size : ℕ) (dims : List ℕ) (k head tail : ℕ) : Type 0 where
+  pub at : At m
   pub walked : WalkedAt (site at) s size
   pub named : 1 ≤ at .scheme .second
   pub opposed : Opposed (site at) s size (4 * head) tail
@@ -82,6 +83,6 @@ pub record RetracedAll (E : Site) (s s′ : List ℕ) (size : ℕ) (whole : Bool
   pub none : whole ≡ false → matches E ≡ false
 
 -- the hooks have their columns, or else there is no match
-pub record HungAll (N : ℕ) (t s s′ : List ℕ) (size : ℕ) (dims : List ℕ) (k other roots : ℕ) (whole : Bool) : Type 0 where
-  pub done : whole ≡ true → (R : BeforeHanging N t s size dims k other roots) → Hung (site (R .at)) s′ size roots × Longer N s s′ size
-  pub none : whole ≡ false → (R : BeforeHanging N t s size dims k other roots) → matches (site (R .at)) ≡ false
+pub record HungAll (m : Map) (s s′ : List ℕ) (size : ℕ) (dims : List ℕ) (k other roots : ℕ) (whole : Bool) : Type 0 where
+  pub done : whole ≡ true → (R : BeforeHanging m s size dims k other roots) → Hung (site (R .at)) s′ size roots × Longer (m .slots) s s′ size
+  pub none : whole ≡ false → (R : BeforeHanging m s size dims k other roots) → matches (site (R .at)) ≡ false

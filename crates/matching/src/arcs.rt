@@ -3,9 +3,10 @@ use conditions::arcs::wide;
 use orbit::store::word;
 use table::words::link;
 ghost use mathlib.Core.Path.{_≡_};
-ghost use Prim.Native.Nat.{_*_, _<_};
+ghost use Prim.Native.Nat.{_*_, _<_, _≤_};
 ghost use lib.ListN.{getD};
 ghost use Rattle.model.specs.Map.{view};
+ghost use Rattle.table.specs.Words.{Sized};
 ghost use Rattle.orbit.specs.Store.{next};
 ghost use Rattle.matching.specs.ArcTests.{Testable, Turns, follows, explicitTest, arcTest, arcsTest, Firm};
 
@@ -19,8 +20,10 @@ fn straight(
     from: usize,
     to: usize,
 ) -> bool
-    requires { ⌜ Testable slots (now table) (now store) size i from to ⌝ }
-    ensures { λ r. ⌜ r ≡ follows (view slots (now (table .entry))) (now (store .entry)) size i from to (λ q. q) ⌝ }
+    requires { ⌜ Sized slots (now table) ⌝ }
+    requires { ⌜ Testable slots (now store) size from to ⌝ }
+    requires { ⌜ i ≤ 3 ⌝ }
+    ensures { λ r. ⌜ r ≡ follows (view slots (now (table .entry)) .link i) (now (store .entry)) size from to (λ q. q) ⌝ }
 {
     let mut r = 0;
     while r < size {
@@ -42,9 +45,10 @@ fn turned(
     from: usize,
     p: usize,
 ) -> bool
-    requires { ⌜ Testable slots (now table) (now store) size i from from ⌝ }
-    requires { ⌜ (p < 4) × Turns slots (now store) p size ⌝ }
-    ensures { λ r. ⌜ r ≡ follows (view slots (now (table .entry))) (now (store .entry)) size i from from (λ q. next slots (now (store .entry)) q p) ⌝ }
+    requires { ⌜ Sized slots (now table) ⌝ }
+    requires { ⌜ Testable slots (now store) size from from ⌝ }
+    requires { ⌜ (i ≤ 3) × (p < 4) × Turns slots (now store) p size ⌝ }
+    ensures { λ r. ⌜ r ≡ follows (view slots (now (table .entry)) .link i) (now (store .entry)) size from from (λ q. next slots (now (store .entry)) q p) ⌝ }
 {
     let mut r = 0;
     while r < size {
@@ -70,8 +74,9 @@ fn explicit(
     from: usize,
     t: usize,
 ) -> bool
-    requires { ⌜ Testable slots (now table) (now store) size i from (getD (now cols) t 0) ⌝ }
-    requires { ⌜ (j < 16) × (t < 16) ⌝ }
+    requires { ⌜ Sized slots (now table) ⌝ }
+    requires { ⌜ Testable slots (now store) size from (getD (now cols) t 0) ⌝ }
+    requires { ⌜ (i ≤ 3) × (j < 16) × (t < 16) ⌝ }
     ensures { λ r. ⌜ r ≡ explicitTest (view slots (now (table .entry))) (now (store .entry)) size (now (dims .entry)) (now (cols .entry)) j i from t ⌝ }
 {
     let to = cols[t];
@@ -99,9 +104,11 @@ fn arc(
     j: usize,
     i: usize,
 ) -> bool
-    requires { ⌜ Firm slots (now table) (now store) size (now nodes) (now codes) (now cols) count ⌝ }
+    requires { ⌜ Sized slots (now table) ⌝ }
+    requires { ⌜ Firm slots (now store) size (now nodes) (now codes) (now cols) count ⌝ }
     requires { ⌜ (j < count) × (i < 4) ⌝ }
-    ensures { λ r. ⌜ r ≡ arcTest (view slots (now (table .entry))) (now (store .entry)) size (now (nodes .entry)) (now (dims .entry)) roots (now (codes .entry)) (now (cols .entry)) j i ⌝ }
+    ensures { λ r. ⌜ r ≡ arcTest (view slots (now (table .entry))) (now (store .entry)) size (now (nodes .entry)) (now (dims .entry)) roots
+        (now (codes .entry)) (now (cols .entry)) j i ⌝ }
 {
     let v = wide(nodes[j]);
     let code = wide(codes[4 * v + i]);
@@ -131,8 +138,10 @@ pub(crate) fn arcs(
     codes: &[u8; 64],
     cols: &[usize; 16],
 ) -> bool
-    requires { ⌜ Firm slots (now table) (now store) size (now nodes) (now codes) (now cols) count ⌝ }
-    ensures { λ r. ⌜ r ≡ arcsTest (view slots (now (table .entry))) (now (store .entry)) size (now (nodes .entry)) (now (dims .entry)) roots (now (codes .entry)) (now (cols .entry)) (4 * count) ⌝ }
+    requires { ⌜ Sized slots (now table) ⌝ }
+    requires { ⌜ Firm slots (now store) size (now nodes) (now codes) (now cols) count ⌝ }
+    ensures { λ r. ⌜ r ≡ arcsTest (view slots (now (table .entry))) (now (store .entry)) size (now (nodes .entry)) (now (dims .entry)) roots
+        (now (codes .entry)) (now (cols .entry)) (4 * count) ⌝ }
 {
     let mut k = 0;
     while k < 4 * count {

@@ -24,8 +24,8 @@ fn column(
     requires { ⌜ Sized slots (now table) ⌝ }
     requires { ⌜ Taken slots (now store) end ⌝ }
     requires { ⌜ (i ≤ 3) × (size ≤ slots) × (slots ≤ from) × (from + size ≤ slots + end) ⌝ }
-    requires { ⌜ Linked (view slots (now table)) i (now store) from size ⌝ }
-    ensures { λ r. ⌜ Columned (view slots (now (table .entry))) i from (now (store .entry)) (now (store .exit)) end size r ⌝ }
+    requires { ⌜ Linked slots (view slots (now table) .link i) (now store) from size ⌝ }
+    ensures { λ r. ⌜ Columned slots (view slots (now (table .entry)) .link i) from (now (store .entry)) (now (store .exit)) end size r ⌝ }
 {
     let mut r = 0;
     while r < size {
@@ -62,9 +62,11 @@ pub(crate) fn columns(
     count: usize,
     cols: &mut [usize; 16],
 ) -> bool
+    requires { ⌜ Sized slots (now table) ⌝ }
     requires { ⌜ length (now cols) ≡ 16 ⌝ }
-    requires { ⌜ BeforeMatching slots (now table) (now store) size (now nodes) (now parents) (now dims) roots count ⌝ }
-    ensures { λ r. ⌜ ColumnedAll slots (now (table .entry)) (now (nodes .entry)) (now (parents .entry)) (now (dims .entry)) roots (now (store .entry)) (now (store .exit)) (now (cols .exit)) size count r ⌝ }
+    requires { ⌜ BeforeMatching (view slots (now table)) (now store) size (now nodes) (now parents) (now dims) roots count ⌝ }
+    ensures { λ r. ⌜ ColumnedAll (view slots (now (table .entry))) (now (nodes .entry)) (now (parents .entry)) (now (dims .entry)) roots
+        (now (store .entry)) (now (store .exit)) (now (cols .exit)) size count r ⌝ }
 {
     begin(slots, size, nodes, roots, cols);
     let mut end = roots * size;

@@ -3,6 +3,8 @@ mod arcs;
 mod columns;
 mod opposite;
 
+ghost use Rattle.model.specs.Map.{view};
+ghost use Rattle.table.specs.Words.{Sized};
 ghost use Rattle.matching.specs.Assign.{Posed, Answered};
 
 // Whether the scheme of the trees and the codes matches at the orbit in the store, with its second hook at `other`; where it does, the columns of its
@@ -23,8 +25,11 @@ pub fn assign<'a>(
     codes: &'a [u8; 64],
     cols: &mut [usize; 16],
 ) -> bool
-    requires { ⌜ Posed slots (now table) (now store) size (now orbit) k other (now nodes) (now parents) (now dims) roots count (now codes) (now cols) ⌝ }
-    ensures { λ r. ⌜ Answered slots (now (table .entry)) (now (store .entry)) size (now (orbit .entry)) k other (now (nodes .entry)) (now (parents .entry)) (now (dims .entry)) roots count (now (codes .entry)) (now (cols .entry)) (now (store .exit)) (now (cols .exit)) r ⌝ }
+    requires { ⌜ Sized slots (now table) ⌝ }
+    requires { ⌜ Posed (view slots (now table)) (now store) size (now orbit) k other (now nodes) (now parents) (now dims) roots count (now codes) (now cols) ⌝ }
+    ensures { λ r. ⌜ Answered (view slots (now (table .entry))) (now (store .entry)) size (now (orbit .entry)) k other
+        (now (nodes .entry)) (now (parents .entry)) (now (dims .entry)) roots count (now (codes .entry)) (now (cols .entry))
+        (now (store .exit)) (now (cols .exit)) r ⌝ }
 {
     if !opposite::opposite(slots, table, store, size, orbit, k, other, roots) {
         return false;

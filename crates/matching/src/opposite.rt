@@ -5,7 +5,8 @@ use orbit::store::push;
 use orbit::store::word;
 use table::words::link;
 ghost use Prim.Native.Nat.{_+_, _<_, _≤_};
-ghost use Rattle.model.specs.Map.{maxSlots};
+ghost use Rattle.model.specs.Map.{view, maxSlots};
+ghost use Rattle.table.specs.Words.{Sized};
 ghost use Rattle.orbit.specs.Store.{Taken};
 ghost use Rattle.orbit.specs.At.{site};
 ghost use Rattle.matching.specs.Opposite.{Met, Retracing, Retraced, RetracedAll, BeforeHanging, HungAll};
@@ -42,8 +43,9 @@ fn expand(
     head: usize,
     tail: usize,
 ) -> usize
-    requires { ⌜ Retracing slots (now table) (now store) size (now dims) k head tail ⌝ }
-    ensures { λ r. ⌜ ((T : Retracing slots (now (table .entry)) (now (store .entry)) size (now (dims .entry)) k head tail)
+    requires { ⌜ Sized slots (now table) ⌝ }
+    requires { ⌜ Retracing (view slots (now table)) (now store) size (now dims) k head tail ⌝ }
+    ensures { λ r. ⌜ ((T : Retracing (view slots (now (table .entry))) (now (store .entry)) size (now (dims .entry)) k head tail)
         → Retraced (site (T .at)) (now (store .entry)) (now (store .exit)) size tail (head + 1) r) ⌝ }
 {
     let x = word(store, slots + size + head);
@@ -76,8 +78,9 @@ fn retrace(
     k: usize,
     tail: usize,
 ) -> bool
-    requires { ⌜ Retracing slots (now table) (now store) size (now dims) k 0 tail ⌝ }
-    ensures { λ r. ⌜ ((T : Retracing slots (now (table .entry)) (now (store .entry)) size (now (dims .entry)) k 0 tail)
+    requires { ⌜ Sized slots (now table) ⌝ }
+    requires { ⌜ Retracing (view slots (now table)) (now store) size (now dims) k 0 tail ⌝ }
+    ensures { λ r. ⌜ ((T : Retracing (view slots (now (table .entry))) (now (store .entry)) size (now (dims .entry)) k 0 tail)
         → RetracedAll (site (T .at)) (now (store .entry)) (now (store .exit)) size r) ⌝ }
 {
     let mut end = tail;
@@ -103,8 +106,9 @@ pub(crate) fn opposite(
     other: usize,
     roots: usize,
 ) -> bool
-    requires { ⌜ BeforeHanging slots (now table) (now store) size (now dims) k other roots ⌝ }
-    ensures { λ r. ⌜ HungAll slots (now (table .entry)) (now (store .entry)) (now (store .exit)) size (now (dims .entry)) k other roots r ⌝ }
+    requires { ⌜ Sized slots (now table) ⌝ }
+    requires { ⌜ BeforeHanging (view slots (now table)) (now store) size (now dims) k other roots ⌝ }
+    ensures { λ r. ⌜ HungAll (view slots (now (table .entry))) (now (store .entry)) (now (store .exit)) size (now (dims .entry)) k other roots r ⌝ }
 {
     if roots == 1 {
         return true;

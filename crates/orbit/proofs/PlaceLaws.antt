@@ -14,7 +14,7 @@ use Rattle.orbit.specs.At.{At}
 use Rattle.orbit.proofs.StoreLaws.{among-at, among-of}
 
 -- an orbit type has four dimensions at the most
-pub places-few : {N : ℕ} {t : List ℕ} (A : At N t) → A .scheme .places ≤ 4
+pub places-few : {m : Map} (A : At m) → A .scheme .places ≤ 4
 places-few A = omega (arith, A .sound .accepted .shaped .placesFew, small (A .scheme) (A .sound .accepted .shaped))
 
 module _ {m : Map} {k : ℕ} {dim : ℕ → ℕ} {d : ℕ} {s : List ℕ} {size : ℕ} (W : Walked m k dim d s size) where

@@ -7,18 +7,16 @@ use mathlib.Core.Bool.{true}
 use mathlib.Core.List.{List}
 use lib.ListN.{getD}
 use Rattle.base.specs.Test.{_or_}
-use Rattle.model.specs.Map.{Map, view}
+use Rattle.model.specs.Map.{Map}
 use Rattle.model.specs.WellFormed.{WellFormed}
 use Rattle.model.specs.Orbit.{orbit}
-use Rattle.table.specs.Words.{Sized}
 use Rattle.orbit.specs.Store.{mark, marked, place, next, Taken}
 
--- the table is well-formed for some n, for which the first k of `dims` are dimensions
-pub record BeforeWalking (slots : ℕ) (t dims : List ℕ) (k : ℕ) : Type 0 where
-  pub sized : Sized slots t
+-- the map is well-formed for some n, for which the first k of `dims` are dimensions
+pub record BeforeWalking (m : Map) (dims : List ℕ) (k : ℕ) : Type 0 where
   pub n : ℕ
   pub small : n ≤ 3
-  pub well : WellFormed n (view slots t)
+  pub well : WellFormed n m
   pub few : k ≤ 4
   pub dim : (p : ℕ) → p < k → getD dims p 0 ≤ n
 

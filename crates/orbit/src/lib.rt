@@ -10,6 +10,7 @@ ghost use mathlib.Core.Path.{_≡_};
 ghost use Prim.Native.Nat.{_*_, _<_, _≤_};
 ghost use lib.ListN.{getD};
 ghost use Rattle.model.specs.Map.{view, maxSlots};
+ghost use Rattle.table.specs.Words.{Sized};
 ghost use Rattle.orbit.specs.Store.{Taken, Walked, place};
 ghost use Rattle.orbit.specs.Walk.{BeforeWalking, Followed, Expanded, Begun, Joined};
 
@@ -40,7 +41,8 @@ fn expand(
     head: usize,
     tail: usize,
 ) -> usize
-    requires { ⌜ BeforeWalking slots (now table) dims k ⌝ }
+    requires { ⌜ Sized slots (now table) ⌝ }
+    requires { ⌜ BeforeWalking (view slots (now table)) dims k ⌝ }
     requires { ⌜ Taken slots (now store) tail ⌝ }
     requires { ⌜ (head < tail) × (view slots (now table) .state (place slots (now store) head) ≡ 1) ⌝ }
     ensures { λ r. ⌜ Expanded (view slots (now (table .entry))) k (λ p. getD dims p 0) head (now (store .entry)) tail (now (store .exit)) r ⌝ }
@@ -72,7 +74,8 @@ pub fn walk(
     begin: usize,
     d: usize,
 ) -> usize
-    requires { ⌜ BeforeWalking slots (now table) dims k ⌝ }
+    requires { ⌜ Sized slots (now table) ⌝ }
+    requires { ⌜ BeforeWalking (view slots (now table)) dims k ⌝ }
     requires { ⌜ (d < slots) × (view slots (now table) .state d ≡ 1) ⌝ }
     requires { ⌜ Begun (view slots (now table)) k (λ p. getD dims p 0) (now store) begin d ⌝ }
     ensures { λ r. ⌜ Joined (view slots (now (table .entry))) k (λ p. getD dims p 0) d (now (store .entry)) (now (store .exit)) r ⌝ }

@@ -1,7 +1,7 @@
 -- The laws of `links`, save `rewrite`: what its loops read and write in a turn.
 -- Assumes nothing.
 use Prim.Native.Nat.{ℕ, _+_, _*_, _-_, _≤_, _<_}
-use mathlib.Core.Path.{_≡_, refl, ap, ap₂, _∙_}
+use mathlib.Core.Path.{_≡_, refl, sym, ap, ap₂, _∙_}
 use mathlib.Core.Logic.{⊎-elim}
 use mathlib.Core.List.{List}
 use native.Mathlib.Omega.{arith}
@@ -11,18 +11,22 @@ use lib.Dec.{ltb}
 use borrow.Author.Count.{below-more}
 use borrow.Author.Tests.{lt-ltb, le-ltb, ltb-false, eq-eqb, ne-eqb}
 use Rattle.base.proofs.TestLaws.{true-or-false}
-use Rattle.model.specs.Map.{Link, put}
+use Rattle.model.specs.Map.{Map, Link}
+use Rattle.table.specs.Writes.{setAt, withField}
+use Rattle.table.proofs.WriteLaws.{links-own}
 use Rattle.orbit.specs.Store.{next, dartAt}
 use Rattle.rewriting.specs.Darts.{HoldsSlots}
 use Rattle.rewriting.specs.Links.{placeBy, overwritten, followed, changed, Turnable}
 
 -- a link put by other names of its slot and its value
-pub put-at : (t t′ : List ℕ) (i v w x y : ℕ) → t′ ≡ put t (Link i) x v → x ≡ y → v ≡ w → t′ ≡ put t (Link i) y w
-put-at t t′ i v w x y e p q = e ∙ ap₂ (put t (Link i)) p q
+pub put-at : (m m′ : Map) (i v w x y : ℕ) → m′ ≡ withField m (Link i) (setAt (m .link i) x v) → x ≡ y → v ≡ w
+    → m′ ≡ withField m (Link i) (setAt (m .link i) y w)
+put-at m m′ i v w x y e p q = e ∙ ap₂ (λ (z u : ℕ). withField m (Link i) (setAt (m .link i) z u)) p q
 
-pub followed-at : (N : ℕ) (store : List ℕ) (size : ℕ) (cols : List ℕ) (i base x y : ℕ) (t t′ : List ℕ)
-    → t′ ≡ followed N store size cols i base x t → x ≡ y → t′ ≡ followed N store size cols i base y t
-followed-at N store size cols i base x y t t′ e p = e ∙ ap (λ (z : ℕ). followed N store size cols i base z t) p
+pub followed-at : (N : ℕ) (store : List ℕ) (size : ℕ) (cols : List ℕ) (i base x y : ℕ) (m m′ : Map)
+    → m′ ≡ withField m (Link i) (followed N store size cols base x (m .link i)) → x ≡ y
+    → m′ ≡ withField m (Link i) (followed N store size cols base y (m .link i))
+followed-at N store size cols i base x y m m′ e p = e ∙ ap (λ (z : ℕ). withField m (Link i) (followed N store size cols base z (m .link i))) p
 
 -- ---- what is read from the store
 
@@ -45,30 +49,37 @@ module _ (N : ℕ) (store : List ℕ) (code r : ℕ) where
 
 -- ---- an arc by its code
 
-module _ (N : ℕ) (store : List ℕ) (size i base to code : ℕ) (t t′ : List ℕ)
-    (e : t′ ≡ overwritten i (dartAt store base) (λ r. dartAt store to (placeBy N store code r)) size t) where
-  pub straight : code < 16 → t′ ≡ overwritten i (dartAt store base) (dartAt store to) size t
-  unfolding placeBy
-  straight h = e ∙ rw (lt-ltb code 16 h) refl
+module _ (N : ℕ) (store : List ℕ) (size : ℕ) (cols : List ℕ) (base code : ℕ) where
+  module _ (l : ℕ → ℕ) where
+    pub by-node : code < 16 → followed N store size cols base code l ≡ overwritten (dartAt store base) (dartAt store (getD cols code 0)) size l
+    unfolding followed
+    by-node h = rw (lt-ltb code 16 h) refl
 
-  pub turned : 16 ≤ code → t′ ≡ overwritten i (dartAt store base) (λ r. dartAt store to (next N store r (code - 16))) size t
-  unfolding placeBy
-  turned h = e ∙ rw (le-ltb code 16 h) refl
+    pub by-position : 16 ≤ code → code < 255
+        → followed N store size cols base code l ≡ overwritten (dartAt store base) (λ r. dartAt store base (next N store r (code - 16))) size l
+    unfolding followed
+    by-position h k = rw (le-ltb code 16 h, lt-ltb code 255 k) refl
 
-module _ (N : ℕ) (store : List ℕ) (size : ℕ) (cols : List ℕ) (i base code : ℕ) (t t′ : List ℕ) where
-  pub by-node : code < 16 → t′ ≡ overwritten i (dartAt store base) (dartAt store (getD cols code 0)) size t
-      → t′ ≡ followed N store size cols i base code t
-  unfolding followed
-  by-node h e = rw (lt-ltb code 16 h) e
+    pub by-none : 255 ≤ code → followed N store size cols base code l ≡ l
+    unfolding followed
+    by-none h = rw (le-ltb code 16 (omega arith), le-ltb code 255 h) refl
 
-  pub by-position : 16 ≤ code → code < 255 → t′ ≡ overwritten i (dartAt store base) (λ r. dartAt store base (next N store r (code - 16))) size t
-      → t′ ≡ followed N store size cols i base code t
-  unfolding followed
-  by-position h l e = rw (le-ltb code 16 h, lt-ltb code 255 l) e
+  -- the same of a map, as `join` writes it
+  module _ (i : ℕ) (m m′ : Map) where
+    pub joined-node : code < 16
+        → m′ ≡ withField m (Link i) (overwritten (dartAt store base) (λ r. dartAt store (getD cols code 0) (placeBy N store code r)) size (m .link i))
+        → m′ ≡ withField m (Link i) (followed N store size cols base code (m .link i))
+    unfolding placeBy
+    joined-node h e = e ∙ ap (withField m (Link i)) (rw (lt-ltb code 16 h) (sym (by-node (m .link i) h)))
 
-  pub by-none : 255 ≤ code → t′ ≡ t → t′ ≡ followed N store size cols i base code t
-  unfolding followed
-  by-none h e = rw (le-ltb code 16 (omega arith), le-ltb code 255 h) e
+    pub joined-position : 16 ≤ code → code < 255
+        → m′ ≡ withField m (Link i) (overwritten (dartAt store base) (λ r. dartAt store base (placeBy N store code r)) size (m .link i))
+        → m′ ≡ withField m (Link i) (followed N store size cols base code (m .link i))
+    unfolding placeBy
+    joined-position h k e = e ∙ ap (withField m (Link i)) (rw (le-ltb code 16 h) (sym (by-position (m .link i) h k)))
+
+    pub joined-none : 255 ≤ code → m′ ≡ m → m′ ≡ withField m (Link i) (followed N store size cols base code (m .link i))
+    joined-none h e = e ∙ sym (links-own m i) ∙ ap (withField m (Link i)) (sym (by-none (m .link i) h))
 
 -- ---- what is left of the codes
 

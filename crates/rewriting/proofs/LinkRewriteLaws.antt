@@ -1,4 +1,4 @@
--- The laws of `links::rewrite`: after the loops the table is that of the edited map: slot by slot and field by field, the word that stands
+-- The laws of `links::rewrite`: after the loops the map is the edited one: slot by slot and field by field, the word that stands
 -- there is the model's. The darts of all pairs are different slots, so each word is written once.
 -- Assumes nothing.
 use Prim.Native.Nat.{ℕ, _+_, _*_, _-_, _/_, _%_, _≤_, _<_}
@@ -9,17 +9,17 @@ use mathlib.Core.Option.{Option, none, some}
 use mathlib.Core.List.{List}
 use native.Mathlib.Decide.{ℕ-discrete}
 use native.Mathlib.Omega.{arith}
-use lib.ListN.{length, getD}
+use lib.ListN.{getD}
 use lib.Dec.{leb}
 use borrow.Author.Tests.{leb-true, leb-false}
 use Rattle.base.proofs.TestLaws.{true-or-false}
 use Rattle.base.proofs.FirstLaws.{some-not-none}
-use Rattle.model.specs.Map.{Map, Field, State, Link, Tag, fieldOf, dimension, tableSize, fieldAt, tableOf}
+use Rattle.model.specs.Map.{Map, Field, State, Link, Tag, fieldOf, dimension}
 use Rattle.model.specs.Scheme.{left, right, has, added}
 use Rattle.model.specs.Conditions.{Arc, absent, explicit, implicit, arcAt}
 use Rattle.model.specs.Site.{Site, Sound}
 use Rattle.model.specs.Edit.{Pair, dartOf, pairOf, afterDeletion, edited}
-use Rattle.model.proofs.MapLaws.{state-not-link, tag-not-link, words-are}
+use Rattle.model.proofs.MapLaws.{state-not-link, tag-not-link}
 use Rattle.model.proofs.AcceptedLaws.{small}
 use Rattle.model.proofs.ArcLaws.{explicit-end, implicit-from, absent-from, off-side}
 use Rattle.model.proofs.CodeLaws.{small-arc, one-arc}
@@ -34,10 +34,10 @@ use Rattle.model.specs.Codes.{arcCode}
 use Rattle.orbit.proofs.PlaceLaws.{place-in, place-of, place-once}
 use Rattle.rewriting.specs.Links.{relinked, changed, Changed, Turnable, Legible, Columns, Codes, BeforeRewriting}
 use Rattle.rewriting.proofs.LinkLaws.{changed-same, changed-other}
-use Rattle.rewriting.proofs.LinkWriteLaws.{pairDart, Different, relinked-long, relinked-leaves, relinked-node, relinked-position, relinked-none}
+use Rattle.rewriting.proofs.LinkWriteLaws.{pairDart, Different, relinked-leaves, relinked-node, relinked-position, relinked-none}
 
-module _ {slots : ℕ} {table store : List ℕ} {size : ℕ} {lefts rights : List ℕ} {c : ℕ} {cols : List ℕ}
-    (R : BeforeRewriting slots table store size lefts rights c cols) {codes : List ℕ} (C : Changed lefts rights codes) where
+module _ {slots : ℕ} {M : Map} {store : List ℕ} {size : ℕ} {lefts rights : List ℕ} {c : ℕ} {cols : List ℕ}
+    (R : BeforeRewriting slots M store size lefts rights c cols) {codes : List ℕ} (C : Changed lefts rights codes) where
   abbrev E : Site
   E = site (R .at)
 
@@ -145,13 +145,10 @@ module _ {slots : ℕ} {table store : List ℕ} {size : ℕ} {lefts rights : Lis
         (code-cases (k / 4) (k % 4) v (omega arith)));
   }
 
-  -- ---- the table after the loops
+  -- ---- the map after the loops
 
-  abbrev linked : List ℕ
-  linked = relinked slots store size cols codes (4 * c) table
-
-  linked-long : length linked ≡ tableSize slots
-  linked-long = relinked-long slots store size cols codes (4 * c) table (R .sized .long)
+  abbrev linked : Map
+  linked = relinked slots store size cols codes (4 * c) M
 
   -- a link is written where the node is on the right
   named : (k : ℕ) → k < 4 * c → getD codes k 0 < 255 → has S right (k / 4) ≡ true
@@ -172,9 +169,9 @@ module _ {slots : ℕ} {table store : List ℕ} {size : ℕ} {lefts rights : Lis
   not-none u v e h k n = some-not-none (L.pair-of ready u v e h k) n
 
   -- a slot that is no preserved or added pair's dart
-  untouched : (x : ℕ) → pairOf E x ≡ none → (f : Field) → fieldAt linked f x ≡ fieldOf (afterDeletion E) f x
+  untouched : (x : ℕ) → pairOf E x ≡ none → (f : Field) → fieldOf linked f x ≡ fieldOf (afterDeletion E) f x
   untouched x e f =
-      relinked-leaves slots store size cols codes (4 * c) x f (λ k r hk l hr w z. off (k / 4) r (omega arith) (named k hk l) hr w) table (R .sized .long)
+      relinked-leaves slots store size cols codes (4 * c) x f (λ k r hk l hr w z. off (k / 4) r (omega arith) (named k hk l) hr w) M
       ∙ R .given .other x f (λ a. not-none (a .dart) (a .node) (a .inOrbit) (a .below) (added-right S (a .node) (a .isAdded)) (ap (pairOf E) (a .same) ∙ e))
     where
       off : (v r : ℕ) → v < c → has S right v ≡ true → r < size → dart v r ≡ x → ⊥
@@ -185,7 +182,7 @@ module _ {slots : ℕ} {table store : List ℕ} {size : ℕ} {lefts rights : Lis
   module _ (v r : ℕ) (hv : v < S .nodes) (hr : r < size) where
     module _ (k : has S right v ≡ true) where
       -- the words of a preserved one before the links are written
-      old : has S left v ≡ true → (f : Field) → fieldAt table f (D (P r) v) ≡ fieldOf m f (D (P r) v)
+      old : has S left v ≡ true → (f : Field) → fieldOf M f (D (P r) v) ≡ fieldOf m f (D (P r) v)
       old l f = R .given .other (D (P r) v) f (λ a.
           let q = L.right-injective ready (a .dart) (a .node) (P r) v (a .inOrbit) (place-in (R .walked) r hr) (a .below) hv
           (added-right S (a .node) (a .isAdded)) k (a .same) in
@@ -193,13 +190,13 @@ module _ {slots : ℕ} {table store : List ℕ} {size : ℕ} {lefts rights : Lis
           ∙ L.field-stays ready f (D (P r) v) (L.kept-stays ready (P r) v (place-in (R .walked) r hr) hv (both-preserved S v l k))
 
       -- a field that is no link
-      unlinked : (f : Field) → ((i : ℕ) → f ≡ Link i → ⊥) → fieldAt linked f (D (P r) v) ≡ fieldAt table f (D (P r) v)
+      unlinked : (f : Field) → ((i : ℕ) → f ≡ Link i → ⊥) → fieldOf linked f (D (P r) v) ≡ fieldOf M f (D (P r) v)
       unlinked f no-link =
-          ap (fieldAt linked f) (sym (dart-is v r hv hr))
-          ∙ relinked-leaves slots store size cols codes (4 * c) (dart v r) f (λ j q hj l hq w. no-link (j % 4)) table (R .sized .long)
-          ∙ ap (fieldAt table f) (dart-is v r hv hr)
+          ap (fieldOf linked f) (sym (dart-is v r hv hr))
+          ∙ relinked-leaves slots store size cols codes (4 * c) (dart v r) f (λ j q hj l hq w. no-link (j % 4)) M
+          ∙ ap (fieldOf M f) (dart-is v r hv hr)
 
-      state-stays : fieldAt linked State (D (P r) v) ≡ new .state (D (P r) v)
+      state-stays : linked .state (D (P r) v) ≡ new .state (D (P r) v)
       state-stays =
           unlinked State (λ i. state-not-link)
           ∙ ⊎-elim
@@ -208,7 +205,7 @@ module _ {slots : ℕ} {table store : List ℕ} {size : ℕ} {lefts rights : Lis
           (L.kinds ready v hv)
           ∙ sym (L.state-pair ready (P r) v (place-in (R .walked) r hr) hv k)
 
-      tag-stays : fieldAt linked Tag (D (P r) v) ≡ new .tag (D (P r) v)
+      tag-stays : linked .tag (D (P r) v) ≡ new .tag (D (P r) v)
       tag-stays =
           unlinked Tag (λ i. tag-not-link)
           ∙ ⊎-elim
@@ -218,7 +215,7 @@ module _ {slots : ℕ} {table store : List ℕ} {size : ℕ} {lefts rights : Lis
           (L.kinds ready v hv)
 
       -- where the right side names no i-arc: a preserved dart keeps the link, and of an added one it is α3 with n = 2, which is the dart itself
-      link-absent : (i : ℕ) → i ≤ 3 → arcAt S right v i ≡ absent → fieldAt table (Link i) (D (P r) v) ≡ new .link i (D (P r) v)
+      link-absent : (i : ℕ) → i ≤ 3 → arcAt S right v i ≡ absent → M .link i (D (P r) v) ≡ new .link i (D (P r) v)
       link-absent i l a = ⊎-elim
           (λ z. old z (Link i)
           ∙ sym (L.link-kept ready (P r) v (place-in (R .walked) r hr) hv k i (left-not-added S v z) a))
@@ -229,7 +226,7 @@ module _ {slots : ℕ} {table store : List ℕ} {size : ℕ} {lefts rights : Lis
           absurd (omega arith))
           (λ w.
           let third : i ≡ 3 = third-is i l (leb-false i (S .n) w) in
-          ap (λ (j : ℕ). fieldAt table (Link j) (D (P r) v)) third ∙ R .given .fresh (P r) v (Link 3) (place-in (R .walked) r hr) hv z
+          ap (λ (j : ℕ). M .link j (D (P r) v)) third ∙ R .given .fresh (P r) v (Link 3) (place-in (R .walked) r hr) hv z
           ∙ sym (L.link-own ready (P r) v (place-in (R .walked) r hr) hv k i z a))
           (true-or-false (leb i (S .n))))
           (L.kinds ready v hv)
@@ -238,25 +235,25 @@ module _ {slots : ℕ} {table store : List ℕ} {size : ℕ} {lefts rights : Lis
           third-is i l g = ⊎-elim (λ e. omega arith) (λ e. omega arith) (accepted .shaped .dimension)
 
       -- where both sides have the same i-arc: a preserved dart has the link by the match
-      link-stands : (i : ℕ) → i ≤ 3 → arcAt S left v i ≡ arcAt S right v i → fieldAt table (Link i) (D (P r) v) ≡ new .link i (D (P r) v)
+      link-stands : (i : ℕ) → i ≤ 3 → arcAt S left v i ≡ arcAt S right v i → M .link i (D (P r) v) ≡ new .link i (D (P r) v)
       link-stands i l same = ⊎-elim
           (λ z. old z (Link i) ∙ sym (L.link-same ready (P r) v (place-in (R .walked) r hr) hv k i l z same))
           (λ z. link-absent i l (sym same ∙ off-side S left (accepted .sides left) v i hv (omega arith) (added-not-left S v z)))
           (L.kinds ready v hv)
 
       -- a link that is not written
-      link-left : (i : ℕ) → i ≤ 3 → getD codes (4 * v + i) 0 ≡ 255 → fieldAt linked (Link i) (dart v r) ≡ fieldAt table (Link i) (D (P r) v)
+      link-left : (i : ℕ) → i ≤ 3 → getD codes (4 * v + i) 0 ≡ 255 → linked .link i (dart v r) ≡ M .link i (D (P r) v)
       link-left i l e =
-          relinked-none slots store size cols codes c different named v i r (counted hv) k (omega arith) hr 255 e table (R .sized .long) (omega arith)
-          ∙ ap (fieldAt table (Link i)) (dart-is v r hv hr)
+          relinked-none slots store size cols codes c different named v i r (counted hv) k (omega arith) hr 255 e M (omega arith)
+          ∙ ap (M .link i) (dart-is v r hv hr)
 
       link-written : (i : ℕ) → i ≤ 3 → (a : Arc) → arcAt S right v i ≡ a → getD codes (4 * v + i) 0 ≡ arcCode a
-          → fieldAt linked (Link i) (dart v r) ≡ new .link i (D (P r) v)
+          → linked .link i (dart v r) ≡ new .link i (D (P r) v)
       link-written i l absent a is = link-left i l is ∙ link-absent i l a
       link-written i l (explicit t) a is =
           let b = explicit-end S right (accepted .sides right) v i t a .0 in
           let few = accepted .shaped .nodesFew in
-          relinked-node slots store size cols codes c different named v i r (counted hv) k (omega arith) hr t is table (R .sized .long) (omega arith)
+          relinked-node slots store size cols codes c different named v i r (counted hv) k (omega arith) hr t is M (omega arith)
           ∙ dart-is t r b hr ∙ sym (L.link-explicit ready (P r) v (place-in (R .walked) r hr) hv k i t a)
       link-written i l (implicit p) a is =
           let b = implicit-from S right v i p a .0 in
@@ -265,19 +262,19 @@ module _ {slots : ℕ} {table store : List ℕ} {size : ℕ} {lefts rights : Lis
           let same : 16 + p - 16 ≡ p = omega arith in
           let w = R .walked .links r p hr b in
           relinked-position slots store size cols codes c different named v i r (counted hv) k (omega arith) hr (16 + p) is
-          table (R .sized .long) (omega arith) (omega arith)
+          M (omega arith) (omega arith)
           ∙ ap (λ (q : ℕ). dart v (next slots store r q)) same ∙ dart-is v (next slots store r p) hv (w .0) ∙ ap (λ (u : ℕ). D u v) (w .1)
           ∙ sym (L.link-implicit ready (P r) v (place-in (R .walked) r hr) hv k i p a)
 
-      link-linked : (i : ℕ) → i ≤ 3 → fieldAt linked (Link i) (dart v r) ≡ new .link i (D (P r) v)
+      link-linked : (i : ℕ) → i ≤ 3 → linked .link i (dart v r) ≡ new .link i (D (P r) v)
       link-linked i l = ⊎-elim
           (λ e. link-left i l (e .0) ∙ link-stands i l (e .1))
           (λ e. link-written i l (arcAt S right v i) refl e)
           (code-cases v i hv (omega arith))
 
-      field-stays : (f : Field) → dimension f ≤ 3 → fieldAt linked f (D (P r) v) ≡ fieldOf new f (D (P r) v)
+      field-stays : (f : Field) → dimension f ≤ 3 → fieldOf linked f (D (P r) v) ≡ fieldOf new f (D (P r) v)
       field-stays State l = state-stays
-      field-stays (Link i) l = ap (fieldAt linked (Link i)) (sym (dart-is v r hv hr)) ∙ link-linked i l
+      field-stays (Link i) l = ap (linked .link i) (sym (dart-is v r hv hr)) ∙ link-linked i l
       field-stays Tag l = tag-stays
 
   -- ---- every slot
@@ -297,13 +294,9 @@ module _ {slots : ℕ} {table store : List ℕ} {size : ℕ} {lefts rights : Lis
           let w = place-of (R .walked) (p .dart) (q .0) in
           rightPair (p .node) (w .0) (q .1) (w .1) (q .2) (ap (λ (u : ℕ). D u (p .node)) (w .2) ∙ q .3)
 
-  field-is : (f : Field) (x : ℕ) → dimension f ≤ 3 → Role x → fieldAt linked f x ≡ fieldOf new f x
+  field-is : (f : Field) (x : ℕ) → dimension f ≤ 3 → Role x → fieldOf linked f x ≡ fieldOf new f x
   field-is f x l (noPair e) = untouched x e f ∙ sym (L.field-other ready f x e)
-  field-is f x l (rightPair v r hv hr k e) = subst (λ (y : ℕ). fieldAt linked f y ≡ fieldOf new f y) e (field-stays v r hv hr k f l)
+  field-is f x l (rightPair v r hv hr k e) = subst (λ (y : ℕ). fieldOf linked f y ≡ fieldOf new f y) e (field-stays v r hv hr k f l)
 
-  edited-words : linked ≡ tableOf new
-  unfolding edited
-  edited-words = words-are new linked linked-long (λ f x l h. field-is f x l (role x))
-
-  pub rewritten : (t : List ℕ) → t ≡ relinked slots store size cols codes (4 * c) table → t ≡ tableOf new
-  rewritten t e = e ∙ edited-words
+  pub rewritten : (f : Field) (x : ℕ) → dimension f ≤ 3 → fieldOf linked f x ≡ fieldOf new f x
+  rewritten f x l = field-is f x l (role x)

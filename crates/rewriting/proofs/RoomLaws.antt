@@ -14,13 +14,12 @@ use lib.Seq.{getD-set-same, getD-set-other}
 use borrow.Author.Tests.{eqb-true, eq-eqb}
 use Rattle.base.specs.Below.{countBelow}
 use Rattle.base.proofs.TestLaws.{true-or-false}
-use Rattle.model.specs.Map.{Field, fieldOf, fieldAt, view}
+use Rattle.model.specs.Map.{Map, Field, fieldOf}
 use Rattle.model.specs.Scheme.{left, donor, has, deleted, added}
 use Rattle.model.specs.Site.{Site}
 use Rattle.model.specs.Match.{image, Assignment}
 use Rattle.model.specs.Edit.{freed}
 use Rattle.model.specs.Edit as M
-use Rattle.model.proofs.MapLaws.{field-view}
 use Rattle.model.proofs.AcceptedLaws.{donor-left}
 use Rattle.model.proofs.KindLaws.{deleted-left}
 use Rattle.model.proofs.RoomLaws.{freed-at, freed-of}
@@ -32,46 +31,46 @@ use Rattle.orbit.proofs.PlaceLaws.{place-in, place-of, place-once, marked-in}
 use Rattle.rewriting.specs.Darts.{HoldsSlots, columnStart, Bare, Tagged}
 use Rattle.rewriting.specs.Room.{Noted, Donating, Gathered, cleared, DeletedColumns, BeforeRoom, Roomy}
 use Rattle.rewriting.proofs.LinkWriteLaws.{pairDart, Different}
-use Rattle.rewriting.proofs.ClearLaws.{cleared-long, cleared-leaves, cleared-sets}
+use Rattle.rewriting.proofs.ClearLaws.{cleared-leaves, cleared-sets}
 use Rattle.rewriting.proofs.SlotRowLaws.{good, ready, many-few, cells, column-within, listed-at, listed-is}
 
 -- ---- the tags of one node's darts
 
-pub noted-none : (N : ℕ) (t s : List ℕ) (from to : ℕ) → Noted N t s from to 0 s
-noted-none N t s from to = record { long = refl; at = λ r h. absurd (omega arith); kept = λ i w. refl }
+pub noted-none : (tag : ℕ → ℕ) (s : List ℕ) (from to : ℕ) → Noted tag s from to 0 s
+noted-none tag s from to = record { long = refl; at = λ r h. absurd (omega arith); kept = λ i w. refl }
 
-pub noted-more : {N : ℕ} {t s : List ℕ} {from to r : ℕ} {s′ : List ℕ} → Noted N t s from to r s′ → from + r < to → to + r < length s′
-    → (x v : ℕ) → x ≡ getD s′ (from + r) 0 → v ≡ view N t .tag x → Noted N t s from to (r + 1) (set s′ (to + r) v)
+pub noted-more : {tag : ℕ → ℕ} {s : List ℕ} {from to r : ℕ} {s′ : List ℕ} → Noted tag s from to r s′ → from + r < to → to + r < length s′
+    → (x v : ℕ) → x ≡ getD s′ (from + r) 0 → v ≡ tag x → Noted tag s from to (r + 1) (set s′ (to + r) v)
 unfolding dartAt
-noted-more {N} {t} {s} {from} {to} {r} {s′} n low in-store x v read is = record {
+noted-more {tag} {s} {from} {to} {r} {s′} n low in-store x v read is = record {
   long = length-set s′ (to + r) v ∙ n .long;
   at = λ q h. by-cases (ℕ-discrete q r)
-      (λ (e : q ≡ r). rw e (getD-set-same s′ (to + r) v 0 in-store ∙ is ∙ ap (view N t .tag) (read ∙ n .kept (from + r) (inl low))))
+      (λ (e : q ≡ r). rw e (getD-set-same s′ (to + r) v 0 in-store ∙ is ∙ ap tag (read ∙ n .kept (from + r) (inl low))))
       (λ (ne : q ≡ r → ⊥). getD-set-other s′ (to + r) (to + q) v 0 (λ e. ne (omega arith)) ∙ n .at q (omega arith));
   kept = λ i w. getD-set-other s′ (to + r) i v 0 (λ e. ⊎-elim (λ (l : i < to). omega arith) (λ (l : to + (r + 1) ≤ i). omega arith) w)
       ∙ n .kept i (⊎-elim (λ (l : i < to). inl l) (λ (l : to + (r + 1) ≤ i). inr (omega arith)) w);
 }
 
-pub noted-all : {N : ℕ} {t s : List ℕ} {from to r size : ℕ} {s′ : List ℕ} → r ≤ size → size ≤ r → Noted N t s from to r s′ → Noted N t s from to size s′
-noted-all {N} {t} {s} {from} {to} {r} {size} {s′} h l n = let e : r ≡ size = omega arith in subst (λ (k : ℕ). Noted N t s from to k s′) e n
+pub noted-all : {tag : ℕ → ℕ} {s : List ℕ} {from to r size : ℕ} {s′ : List ℕ} → r ≤ size → size ≤ r → Noted tag s from to r s′ → Noted tag s from to size s′
+noted-all {tag} {s} {from} {to} {r} {size} {s′} h l n = let e : r ≡ size = omega arith in subst (λ (k : ℕ). Noted tag s from to k s′) e n
 
 -- the dart that is read is a slot
-pub noted-slot : {N : ℕ} {t s : List ℕ} {from to r size : ℕ} {s′ : List ℕ} → HoldsSlots N s from size → from + size ≤ to → r < size
-    → Noted N t s from to r s′ → (x : ℕ) → x ≡ getD s′ (from + r) 0 → x < N
+pub noted-slot : {N : ℕ} {tag : ℕ → ℕ} {s : List ℕ} {from to r size : ℕ} {s′ : List ℕ} → HoldsSlots N s from size → from + size ≤ to → r < size
+    → Noted tag s from to r s′ → (x : ℕ) → x ≡ getD s′ (from + r) 0 → x < N
 unfolding dartAt
 noted-slot {from = from} {r = r} H low h n x e = rw (e, n .kept (from + r) (inl (omega arith))) (H .slot r h)
 
 -- ---- the tags of the donors of all added nodes
 
-module _ {N : ℕ} {s : List ℕ} {size : ℕ} {nodes : List ℕ} {many : ℕ} {donors cols : List ℕ} (D : Donating N s size nodes many donors cols) (t : List ℕ) where
-  pub gathered-none : Gathered N t s size nodes 0 donors cols s
+module _ {N : ℕ} {s : List ℕ} {size : ℕ} {nodes : List ℕ} {many : ℕ} {donors cols : List ℕ} (D : Donating N s size nodes many donors cols) (tag : ℕ → ℕ) where
+  pub gathered-none : Gathered N tag s size nodes 0 donors cols s
   gathered-none = record { long = refl; at = λ a r h. absurd (omega arith); kept = λ i w. refl }
 
   -- where the column of the donor of the a-th added node begins
   abbrev giver : ℕ → ℕ
   giver a = getD cols (getD donors (getD nodes a 0) 0) 0
 
-  module _ {a : ℕ} (h : a < many) {s′ : List ℕ} (g : Gathered N t s size nodes a donors cols s′) where
+  module _ {a : ℕ} (h : a < many) {s′ : List ℕ} (g : Gathered N tag s size nodes a donors cols s′) where
     pub next-fits : a * size + size ≤ N
     next-fits = let c = mul-le-mul-right size h in omega (arith, D .room)
 
@@ -88,11 +87,11 @@ module _ {N : ℕ} {s : List ℕ} {size : ℕ} {nodes : List ℕ} {many : ℕ} {
     pub giver-before : (giver a + size ≤ 2 * N + a * size) × (2 * N + a * size + size ≤ length s′)
     giver-before = (omega (arith, D .inside a h), omega (arith, next-fits, g .long, D .stored))
 
-    pub gathered-more : {s″ : List ℕ} → Noted N t s′ (giver a) (2 * N + a * size) size s″ → Gathered N t s size nodes (a + 1) donors cols s″
+    pub gathered-more : {s″ : List ℕ} → Noted tag s′ (giver a) (2 * N + a * size) size s″ → Gathered N tag s size nodes (a + 1) donors cols s″
     gathered-more {s″} n = record {
       long = n .long ∙ g .long;
       at = λ b r l k. by-cases (ℕ-discrete b a)
-          (λ (e : b ≡ a). rw e (n .at r k ∙ ap (view N t .tag) (giver-kept r k)))
+          (λ (e : b ≡ a). rw e (n .at r k ∙ ap tag (giver-kept r k)))
           (λ (ne : b ≡ a → ⊥).
           let less : b < a = omega arith in
           let c = mul-le-mul-right size less in
@@ -105,20 +104,24 @@ module _ {N : ℕ} {s : List ℕ} {size : ℕ} {nodes : List ℕ} {many : ℕ} {
           w;
     }
 
-pub gathered-all : {N : ℕ} {t s : List ℕ} {size : ℕ} {nodes : List ℕ} {a many : ℕ} {donors cols s′ : List ℕ} → a ≤ many → many ≤ a
-    → Gathered N t s size nodes a donors cols s′ → Gathered N t s size nodes many donors cols s′
-gathered-all {N} {t} {s} {size} {nodes} {a} {many} {donors} {cols} {s′} h l g =
+pub gathered-all : {N : ℕ} {tag : ℕ → ℕ} {s : List ℕ} {size : ℕ} {nodes : List ℕ} {a many : ℕ} {donors cols s′ : List ℕ} → a ≤ many → many ≤ a
+    → Gathered N tag s size nodes a donors cols s′ → Gathered N tag s size nodes many donors cols s′
+gathered-all {N} {tag} {s} {size} {nodes} {a} {many} {donors} {cols} {s′} h l g =
     let e : a ≡ many = omega arith in
-    subst (λ (k : ℕ). Gathered N t s size nodes k donors cols s′) e g
+    subst (λ (k : ℕ). Gathered N tag s size nodes k donors cols s′) e g
 
 -- ---- the phase
 
-module _ {N : ℕ} {t s : List ℕ} {size : ℕ} {nodes : List ℕ} {many : ℕ} {donors kinds : List ℕ} {c : ℕ} {cols : List ℕ}
-    (R : BeforeRoom N t s size nodes many donors kinds c cols) where
+module _ {before : Map} {s : List ℕ} {size : ℕ} {nodes : List ℕ} {many : ℕ} {donors kinds : List ℕ} {c : ℕ} {cols : List ℕ}
+    (R : BeforeRoom before s size nodes many donors kinds c cols) where
   abbrev E : Site
   E = site (R .at)
 
   open Site E using (map as m, scheme as S, orbit as O)
+
+  abbrev N : ℕ
+  N = m .slots
+
   open BeforeRoom R using (grant as G, assigned as B)
 
   match : Assignment E (image E)
@@ -141,7 +144,7 @@ module _ {N : ℕ} {t s : List ℕ} {size : ℕ} {nodes : List ℕ} {many : ℕ}
   pub donating-of : Donating N s size nodes many donors cols
   donating-of = record {
     few = many-few G;
-    slots = R .at .sized .few;
+    slots = R .at .few;
     stored = G .long;
     room = cells G;
     node = λ a h. omega (arith, listed-at G nodes (R .node) a h .0, R .at .sound .accepted .shaped .nodesFew);
@@ -162,7 +165,7 @@ module _ {N : ℕ} {t s : List ℕ} {size : ℕ} {nodes : List ℕ} {many : ℕ}
   deleted-kind : (v : ℕ) → deleted S v ≡ true → getD kinds v 0 ≡ 1
   deleted-kind v e = ap (λ (l : List ℕ). getD l v 0) (R .kinded) ∙ eqb-true _ _ e
 
-  module _ {s′ : List ℕ} (g : Gathered N t s size nodes many donors cols s′) where
+  module _ {s′ : List ℕ} (g : Gathered N (m .tag) s size nodes many donors cols s′) where
     -- the words outside the columns of the added nodes
     kept-low : (i : ℕ) → i < 2 * N → getD s′ i 0 ≡ getD s i 0
     kept-low i h = g .kept i (inl h)
@@ -238,33 +241,31 @@ module _ {N : ℕ} {t s : List ℕ} {size : ℕ} {nodes : List ℕ} {many : ℕ}
           (z .1, place-once (G .walked) q r b l (z .0));
     }
 
-    module _ (t′ : List ℕ) (is : t′ ≡ cleared s′ size cols kinds c t) where
-      bare-of : Bare E t t′
+    module _ (m′ : Map) (is : m′ ≡ cleared s′ size cols kinds c m) where
+      bare-of : Bare E m′
       bare-of = record {
-        long = ap length is ∙ cleared-long N s′ size cols kinds c t (R .at .sized .long) ∙ sym (R .at .sized .long);
-        at = λ f y. ap (λ (l : List ℕ). fieldAt l f y) is ∙ ⊎-elim (gone f y) (stays f y) (true-or-false (freed E (image E) y));
+        at = λ f y. ap (λ (a : Map). fieldOf a f y) is ∙ ⊎-elim (gone f y) (stays f y) (true-or-false (freed E (image E) y));
       }
         where
-          gone : (f : Field) (y : ℕ) → freed E (image E) y ≡ true → fieldAt (cleared s′ size cols kinds c t) f y ≡ fieldOf (M.afterDeletion E) f y
+          gone : (f : Field) (y : ℕ) → freed E (image E) y ≡ true → fieldOf (cleared s′ size cols kinds c m) f y ≡ fieldOf (M.afterDeletion E) f y
           gone f y e =
               let p = freed-at E (image E) y e in
               let q = place-of (G .walked) (p .0) (p .3) in
               let d : pairDart N s′ size cols (p .1) (q .0) ≡ y =
               gone-is (p .1) (q .0) (p .4) (p .5) (q .1) ∙ ap (λ (u : ℕ). image E u (p .1)) (q .2) ∙ p .6 in
-              ap (fieldAt (cleared s′ size cols kinds c t) f) (sym d)
+              ap (fieldOf (cleared s′ size cols kinds c m) f) (sym d)
               ∙ cleared-sets N s′ size cols kinds c different (p .1) (q .0) f (subst (λ (n : ℕ). p .1 < n) (sym (R .nodesAre)) (p .4)) (q .1)
-              (deleted-kind (p .1) (p .5)) t (R .at .sized .long)
+              (deleted-kind (p .1) (p .5)) m
               ∙ sym (L.field-freed (ready G) f y e)
 
-          stays : (f : Field) (y : ℕ) → freed E (image E) y ≡ false → fieldAt (cleared s′ size cols kinds c t) f y ≡ fieldOf (M.afterDeletion E) f y
+          stays : (f : Field) (y : ℕ) → freed E (image E) y ≡ false → fieldOf (cleared s′ size cols kinds c m) f y ≡ fieldOf (M.afterDeletion E) f y
           stays f y e =
               cleared-leaves N s′ size cols kinds c y f
               (λ v r h k b w.
               let d = is-deleted v k in
               let x = place-in (G .walked) r b in
               true≢false (sym (freed-of E (image E) y _ v (good G .slot _ x) x (node-of h) d (sym (gone-is v r (node-of h) d b) ∙ w)) ∙ e))
-              t (R .at .sized .long)
-              ∙ field-view N t f y ∙ sym (L.field-stays (ready G) f y e)
+              m ∙ sym (L.field-stays (ready G) f y e)
 
-      pub roomy : Roomy (R .at) s size cols t′ s′
+      pub roomy : Roomy (R .at) s size cols m′ s′
       roomy = record { bare = bare-of; tagged = tagged-of; kept = kept-of; assigned = assigned-of }

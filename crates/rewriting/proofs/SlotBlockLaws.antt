@@ -19,9 +19,10 @@ use Rattle.base.specs.Binary.{binary}
 use Rattle.base.proofs.TestLaws.{and-left, and-right, and-of, impossible, same-test}
 use Rattle.base.proofs.BelowLaws.{count-step, count-gap}
 use Rattle.base.proofs.BinaryLaws.{binary-same, binary-below, binary-more, binary-none, binary-zero, binary-lowest, shifted}
+use Rattle.model.specs.Map.{Map}
 use Rattle.model.specs.Site.{Site}
 use Rattle.orbit.specs.Store.{mark, place}
-use Rattle.orbit.specs.At.{At, site}
+use Rattle.orbit.specs.At.{At, site, ofSlots}
 use Rattle.rewriting.specs.Darts.{Grant}
 use Rattle.rewriting.specs.Slots.{Granting, Turn, early, Placed, NoDigits, digitWords, Digits, Block}
 use Rattle.orbit.proofs.StoreLaws.{among-at, among-of}
@@ -117,43 +118,43 @@ module _ (N : ℕ) (s : List ℕ) (size : ℕ) (P : Placed N s size) (r : ℕ) (
       mark-more = digits-more _ _ word-is sum-is
 
 -- in the end every orbit dart has its digit
-pub early-orbit : {N : ℕ} {t s : List ℕ} {A : At N t} {size many : ℕ} → Grant A s size many → (x : ℕ) → early N s size x ≡ site A .orbit x
-early-orbit {N} {t} {s} {A} {size} G x = same-test _ _
+pub early-orbit : {m : Map} {s : List ℕ} {A : At m} {size many : ℕ} → Grant A s size many → (x : ℕ) → early (m .slots) s size x ≡ site A .orbit x
+early-orbit {m} {s} {A} {size} G x = let N = m .slots in same-test _ _
     (λ e. let m = early-at N s size x e in sym (G .walked .is x (m .0)) ∙ among-of s size x (m .1) (m .2))
     (λ e. let m = marked-in (G .walked) x e in early-of N s size x (good G .slot x e) (m .0) (m .1))
 
 -- ---- the darts of one word of digits
 
 -- the orbit darts of the word below 64 × w + passed have their pairs; `rest` has a digit for each of the others
-pub record Passed {N : ℕ} {t₀ : List ℕ} (A : At N t₀) (s₀ : List ℕ) (size many w rest from : ℕ) (t s : List ℕ) : Type 0 where
+pub record Passed {m₀ : Map} (A : At m₀) (s₀ : List ℕ) (size many w rest from : ℕ) (m : Map) (s : List ℕ) : Type 0 where
   pub passed : ℕ
   pub few : passed ≤ 64
   pub digits : rest ≡ binary 64 (λ k. leb passed k and site A .orbit (64 * w + k))
-  pub granting : Granting A s₀ size (countBelow (64 * w + passed) (site A .orbit) * many) from t s
+  pub granting : Granting A s₀ size (countBelow (64 * w + passed) (site A .orbit) * many) from m s
 
-pub passed-none : {N : ℕ} {t s : List ℕ} {size many w number free : ℕ} (B : Block N t s size many w number free)
-    → Passed (B .at) (B .store) size many w number free t s
-passed-none {N} {t} {s} {size} {many} {w} {number} {free} B =
+pub passed-none : {N : ℕ} {m : Map} {s : List ℕ} {size many w number free : ℕ} (B : Block N m s size many w number free)
+    → Passed (B .at) (B .store) size many w number free m s
+passed-none {N} {m} {s} {size} {many} {w} {number} {free} B =
     let z : 64 * w ≡ 64 * w + 0 = omega arith in
     record {
       passed = 0;
       few = omega arith;
       digits = B .digits ∙ binary-same 64 _ _ (λ k l. same-test _ _ (λ e. and-of (le-leb 0 k (omega arith)) e) (λ e. and-right _ _ e));
-      granting = subst (λ (x : ℕ). Granting (B .at) (B .store) size (countBelow x (site (B .at) .orbit) * many) free t s) z (B .granting);
+      granting = subst (λ (x : ℕ). Granting (B .at) (B .store) size (countBelow x (site (B .at) .orbit) * many) free m s) z (B .granting);
     }
 
-module _ {N : ℕ} {t₀ s₀ : List ℕ} {A : At N t₀} {size many w rest from : ℕ} {t s : List ℕ} (G : Grant A s₀ size many)
-    (p : Passed A s₀ size many w rest from t s) where
+module _ (before : Map) {N : ℕ} {m : Map} {s₀ s : List ℕ} {A : At (ofSlots N before)} {size many w rest from : ℕ} (G : Grant A s₀ size many)
+    (p : Passed A s₀ size many w rest from m s) where
   open Site (site A) using (orbit as O)
 
   same-count : (j : ℕ) → p .passed ≤ j → ((k : ℕ) → p .passed ≤ k → k < j → O (64 * w + k) ≡ false)
-      → Granting A s₀ size (countBelow (64 * w + j) O * many) from t s
+      → Granting A s₀ size (countBelow (64 * w + j) O * many) from m s
   same-count j h f =
       let c : countBelow (64 * w + j) O ≡ countBelow (64 * w + p .passed) O = count-gap O (64 * w + p .passed) (64 * w + j) (omega arith)
       (λ z l g. let k : 64 * w + (z - 64 * w) ≡ z = omega arith in ap O (sym k) ∙ f (z - 64 * w) (omega arith) (omega arith)) in
       rw c (p .granting)
 
-  pub passed-all : rest ≡ 0 → Granting A s₀ size (countBelow (64 * w + 64) O * many) from t s
+  pub passed-all : rest ≡ 0 → Granting A s₀ size (countBelow (64 * w + 64) O * many) from m s
   passed-all e = same-count 64 (p .few)
       (λ k l h. impossible _ (λ q. true≢false (sym (and-of (le-leb (p .passed) k l) q) ∙ binary-none 64 _ (sym (p .digits) ∙ e) k h)))
 
@@ -195,7 +196,7 @@ module _ {N : ℕ} {t₀ s₀ : List ℕ} {A : At N t₀} {size many w rest from
     pub dart-fits : 64 * w + j < N
     dart-fits = good G .slot (64 * w + j) in-orbit
 
-    next : Granting A s₀ size (countBelow (64 * w + j) O * many) from t s
+    next : Granting A s₀ size (countBelow (64 * w + j) O * many) from m s
     next = same-count j late skipped
 
     same-mark : mark s (64 * w + j) ≡ mark s₀ (64 * w + j)
@@ -206,10 +207,10 @@ module _ {N : ℕ} {t₀ s₀ : List ℕ} {A : At N t₀} {size many w rest from
     unfolding mark
     mark-some k q = omega (arith, same-mark, marked-in (G .walked) (64 * w + j) in-orbit)
 
-    pub turn-of : (k : ℕ) → k ≡ getD s (64 * w + j) 0 → Turn N t s size many (k - 1) from
+    pub turn-of : (k : ℕ) → k ≡ getD s (64 * w + j) 0 → Turn N m s size many (k - 1) from
     unfolding mark
     turn-of k q = record {
-      table = t₀;
+      before = before;
       at = A;
       store = s₀;
       grant = G;
@@ -220,13 +221,13 @@ module _ {N : ℕ} {t₀ s₀ : List ℕ} {A : At N t₀} {size many w rest from
     }
 
     -- after the pairs of the lowest dart that is left
-    pub passed-more : (k rest′ from′ : ℕ) (t′ s′ : List ℕ) → k ≡ getD s (64 * w + j) 0
+    pub passed-more : (k rest′ from′ : ℕ) (m′ : Map) (s′ : List ℕ) → k ≡ getD s (64 * w + j) 0
         → rest′ ≡ rest - (1 * 2 ^ j) % 2 ^ 64
-        → ((T : Turn N t s size many (k - 1) from)
-        → Granting (T .at) (T .store) size (countBelow (T .dart) (site (T .at) .orbit) * many + many) from′ t′ s′)
-        → Passed A s₀ size many w rest′ from′ t′ s′
+        → ((T : Turn N m s size many (k - 1) from)
+        → Granting (T .at) (T .store) size (countBelow (T .dart) (site (T .at) .orbit) * many + many) from′ m′ s′)
+        → Passed A s₀ size many w rest′ from′ m′ s′
     unfolding turn-of
-    passed-more k rest′ from′ t′ s′ q e f =
+    passed-more k rest′ from′ m′ s′ q e f =
         let c : countBelow (64 * w + j + 1) O ≡ countBelow (64 * w + j) O + 1 =
         count-step (64 * w + j) O ∙ ap (λ (b : Bool). countBelow (64 * w + j) O + bit b) in-orbit in
         let a : 64 * w + (j + 1) ≡ 64 * w + j + 1 = omega arith in

@@ -12,6 +12,7 @@ use Rattle.base.specs.Below.{countBelow}
 use Rattle.base.proofs.TestLaws.{or-left, or-right, true-or-false, impossible}
 use Rattle.base.proofs.BelowLaws.{count-gap}
 use Rattle.base.proofs.BinaryLaws.{binary-same}
+use Rattle.model.specs.Map.{Map}
 use Rattle.model.specs.Scheme.{left, has, added}
 use Rattle.model.specs.Shaped.{Shaped}
 use Rattle.model.specs.Site.{Site}
@@ -19,7 +20,7 @@ use Rattle.model.specs.Edit.{orbitSize, addedDarts, dartOf}
 use Rattle.model.proofs.AcceptedLaws.{kind-cases}
 use Rattle.model.proofs.RankLaws.{rank-low, dart-left}
 use Rattle.orbit.specs.Store.{mark, place, next, dartAt, Kept}
-use Rattle.orbit.specs.At.{At, site}
+use Rattle.orbit.specs.At.{At, site, ofSlots}
 use Rattle.rewriting.specs.Darts.{Darts, Given, columnStart, Grant, Bare, Tagged}
 use Rattle.rewriting.specs.Slots.{Apart, ColumnsBegin, Due, Granting}
 use Rattle.rewriting.specs.Slots.{early, Placed, Digits, Block, BeforeGiving, Granted}
@@ -31,48 +32,49 @@ use Rattle.rewriting.proofs.SlotBlockLaws.{early-orbit}
 
 -- ---- the words of digits one after the other
 
-module _ {N : ℕ} {t₀ s₀ : List ℕ} {A : At N t₀} {size many : ℕ} (G : Grant A s₀ size many) where
+module _ {m₀ : Map} {s₀ : List ℕ} {A : At m₀} {size many : ℕ} (G : Grant A s₀ size many) where
   open Site (site A) using (orbit as O)
 
-  pub granting-start : {t : List ℕ} → Bare (site A) t₀ t → Tagged (site A) s₀ size → Granting A s₀ size (countBelow 0 O * many) 0 t s₀
+  pub granting-start : {m : Map} → Bare (site A) m → Tagged (site A) s₀ size → Granting A s₀ size (countBelow 0 O * many) 0 m s₀
   unfolding countBelow
   granting-start b g = let z : 0 * many ≡ 0 = omega arith in rw z (granting-none G b g)
 
   -- where no node is added, there is nothing to give
-  granting-idle : {t : List ℕ} → Bare (site A) t₀ t → Tagged (site A) s₀ size → many ≡ 0 → Granting A s₀ size (countBelow N O * many) 0 t s₀
-  granting-idle b g e = let z : countBelow N O * many ≡ 0 = rw e (omega arith) in rw z (granting-none G b g)
+  granting-idle : {m : Map} → Bare (site A) m → Tagged (site A) s₀ size → many ≡ 0 → Granting A s₀ size (countBelow (m₀ .slots) O * many) 0 m s₀
+  granting-idle b g e = let z : countBelow (m₀ .slots) O * many ≡ 0 = rw e (omega arith) in rw z (granting-none G b g)
 
   -- a digit for each orbit dart
-  orbit-digits : {bits : List ℕ} → Digits (early N s₀ size) bits → Digits O bits
+  orbit-digits : {bits : List ℕ} → Digits (early (m₀ .slots) s₀ size) bits → Digits O bits
   orbit-digits d = record { long = d .long; at = λ w h. d .at w h ∙ binary-same 64 _ _ (λ k l. early-orbit G (64 * w + k)) }
 
-  module _ {bits : List ℕ} (d : Digits (early N s₀ size) bits) {w free : ℕ} {t s : List ℕ}
-      (g : Granting A s₀ size (countBelow (64 * w) O * many) free t s) (h : w < 16) where
-    pub block-of : (number : ℕ) → number ≡ getD bits w 0 → Block N t s size many w number free
-    block-of number e = record {
-      table = t₀;
-      at = A;
-      store = s₀;
-      grant = G;
-      digits = e ∙ orbit-digits d .at w h;
-      granting = g;
-    }
+-- `before` is the map before the edit, and m the one in which slots are given
+module _ (before : Map) {N : ℕ} {m : Map} {s₀ s bits : List ℕ} {A : At (ofSlots N before)} {size many w free : ℕ} (G : Grant A s₀ size many)
+    (d : Digits (early N s₀ size) bits) (g : Granting A s₀ size (countBelow (64 * w) (site A .orbit) * many) free m s) (h : w < 16) where
+  pub block-of : (number : ℕ) → number ≡ getD bits w 0 → Block N m s size many w number free
+  block-of number e = record {
+    before = before;
+    at = A;
+    store = s₀;
+    grant = G;
+    digits = e ∙ orbit-digits G d .at w h;
+    granting = g;
+  }
 
-    -- after the pairs of one word of digits, those of the next
-    pub next-block : (number free′ : ℕ) (t′ s′ : List ℕ) → number ≡ getD bits w 0
-        → ((B : Block N t s size many w number free)
-        → Granting (B .at) (B .store) size (countBelow (64 * w + 64) (site (B .at) .orbit) * many) free′ t′ s′)
-        → Granting A s₀ size (countBelow (64 * (w + 1)) O * many) free′ t′ s′
-    unfolding block-of
-    next-block number free′ t′ s′ e f = let a : 64 * (w + 1) ≡ 64 * w + 64 = omega arith in rw a (f (block-of number e))
+  -- after the pairs of one word of digits, those of the next
+  pub next-block : (number free′ : ℕ) (m′ : Map) (s′ : List ℕ) → number ≡ getD bits w 0
+      → ((B : Block N m s size many w number free)
+      → Granting (B .at) (B .store) size (countBelow (64 * w + 64) (site (B .at) .orbit) * many) free′ m′ s′)
+      → Granting A s₀ size (countBelow (64 * (w + 1)) (site A .orbit) * many) free′ m′ s′
+  unfolding block-of
+  next-block number free′ m′ s′ e f = let a : 64 * (w + 1) ≡ 64 * w + 64 = omega arith in rw a (f (block-of number e))
 
 -- ---- from the phases before
 
-module _ {N : ℕ} {t s : List ℕ} {size : ℕ} {nodes : List ℕ} {many : ℕ} {cols : List ℕ} (R : BeforeGiving N t s size nodes many cols) where
+module _ {N : ℕ} {M : Map} {s : List ℕ} {size : ℕ} {nodes : List ℕ} {many : ℕ} {cols : List ℕ} (R : BeforeGiving N M s size nodes many cols) where
   abbrev E : Site
   E = site (R .at)
 
-  open Site E using (map as m, scheme as S, orbit as O)
+  open Site E using (scheme as S, orbit as O)
   open BeforeGiving R using (grant as G)
 
   shaped : Shaped S
@@ -80,7 +82,7 @@ module _ {N : ℕ} {t s : List ℕ} {size : ℕ} {nodes : List ℕ} {many : ℕ}
 
   pub placed-of : Placed N s size
   placed-of = record {
-    few = R .at .sized .few;
+    few = R .at .few;
     long = G .long;
     fits = G .walked .fits;
     slot = G .walked .slot;
@@ -91,7 +93,7 @@ module _ {N : ℕ} {t s : List ℕ} {size : ℕ} {nodes : List ℕ} {many : ℕ}
   pub apart-of : Apart N size nodes many
   apart-of = record {
     few = many-few G;
-    slots = R .at .sized .few;
+    slots = R .at .few;
     room = cells G;
     below = λ a h. omega (arith, listed-at G nodes (R .node) a h .0, shaped .nodesFew);
     once = λ a b l h e.
@@ -100,8 +102,8 @@ module _ {N : ℕ} {t s : List ℕ} {size : ℕ} {nodes : List ℕ} {many : ℕ}
 
   -- ---- to the phases after
 
-  module _ {free : ℕ} {t′ s′ cols′ : List ℕ} (C : ColumnsBegin N size nodes many cols cols′)
-      (g : Granting (R .at) s size (countBelow N O * many) free t′ s′) where
+  module _ {free : ℕ} {m′ : Map} {s′ cols′ : List ℕ} (C : ColumnsBegin N size nodes many cols cols′)
+      (g : Granting (R .at) s size (countBelow N O * many) free m′ s′) where
     -- every added pair has its slot
     all-due : (u v : ℕ) → O u ≡ true → v < S .nodes → added S v ≡ true
         → Due (R .at) (countBelow N O * many) u v
@@ -113,9 +115,8 @@ module _ {N : ℕ} {t s : List ℕ} {size : ℕ} {nodes : List ℕ} {many : ℕ}
       early = rw (G .every) (rank-low E (good G .slot) u v e h a);
     }
 
-    given-of : Given E (R .before) t′
+    given-of : Given E m′
     given-of = record {
-      long = g .tableLong;
       fresh = λ u v f e h a. g .fresh u v f (all-due u v e h a);
       other = λ y f no. g .other y f
           (λ u v d e. no (record { dart = u; node = v; inOrbit = d .inOrbit; below = d .below; isAdded = d .isAdded; same = e }));
@@ -163,19 +164,19 @@ module _ {N : ℕ} {t s : List ℕ} {size : ℕ} {nodes : List ℕ} {many : ℕ}
           ∙ ap (λ (u : ℕ). dartOf E u v) (sym (kept-of .places r l));
     }
 
-    granted-all : Granted E (R .before) s t′ s′ cols′ size
+    granted-all : Granted E s m′ s′ cols′ size
     granted-all = record { given = given-of; darts = darts-of; kept = kept-of; wide = C .long ∙ R .wide }
 
   -- where no node is added, nothing was done
-  pub granted-none : many ≡ 0 → Granted E (R .before) s t s cols size
+  pub granted-none : many ≡ 0 → Granted E s M s cols size
   granted-none e = granted-all (subst (λ (k : ℕ). ColumnsBegin N size nodes k cols cols) (sym e) (columned-none N size nodes cols))
       (granting-idle G (R .bare) (R .tagged) e)
 
   -- once x is past the last slot
-  pub granted : {x free : ℕ} {t′ s′ cols′ : List ℕ} → ColumnsBegin N size nodes many cols cols′ → N ≤ x
-      → Granting (R .at) s size (countBelow x O * many) free t′ s′
-      → Granted E (R .before) s t′ s′ cols′ size
-  granted {x} {free} {t′} {s′} {cols′} C h g =
+  pub granted : {x free : ℕ} {m′ : Map} {s′ cols′ : List ℕ} → ColumnsBegin N size nodes many cols cols′ → N ≤ x
+      → Granting (R .at) s size (countBelow x O * many) free m′ s′
+      → Granted E s m′ s′ cols′ size
+  granted {x} {free} {m′} {s′} {cols′} C h g =
       let e : countBelow x O ≡ countBelow N O = count-gap O N x h
       (λ z l k. impossible _ (λ q. let b = good G .slot z q in omega arith)) in
       granted-all C (rw e at g)

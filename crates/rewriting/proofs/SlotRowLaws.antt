@@ -13,7 +13,7 @@ use native.Mathlib.Omega.{arith}
 use lib.ListN.{length, getD, set, length-set}
 use lib.Dec.{eqb}
 use lib.Seq.{getD-set-same, getD-set-other}
-use borrow.Author.Tests.{ne-eqb}
+use borrow.Author.Tests.{eq-eqb, ne-eqb}
 use Rattle.base.specs.Test.{bit}
 use Rattle.base.specs.Below.{countBelow}
 use Rattle.base.specs.First.{nthLowest}
@@ -21,7 +21,7 @@ use Rattle.base.proofs.TestLaws.{impossible}
 use Rattle.base.proofs.BelowLaws.{count-le, count-lt, count-injective, count-reaches, count-step, count-gap}
 use Rattle.base.proofs.FirstLaws.{nth-at, nth-is}
 use Rattle.base.proofs.RowLaws.{digits}
-use Rattle.model.specs.Map.{Map, Field, State, Link, Tag, dimension, tableSize, fieldAt, put, view}
+use Rattle.model.specs.Map.{Map, Field, State, Link, Tag, fieldOf}
 use Rattle.model.specs.Scheme.{donor, added}
 use Rattle.model.specs.Site.{Site}
 use Rattle.model.specs.Match.{image}
@@ -31,8 +31,8 @@ use Rattle.model.proofs.MatchIff.{good-orbit, match-ready}
 use Rattle.model.proofs.EditLaws as K
 use Rattle.model.proofs.EditLaws.{Ready}
 use Rattle.model.proofs.RankLaws.{rank-low, rank-once, dart-added}
-use Rattle.model.proofs.MapLaws.{state-not-tag, state-not-link, tag-not-link, length-put, put-same, put-other}
-use Rattle.table.specs.Words.{Sized}
+use Rattle.table.specs.Writes.{setAt, withField}
+use Rattle.table.proofs.WriteLaws.{set-same, set-other, links-leave}
 use Rattle.orbit.specs.Store.{mark, dartAt}
 use Rattle.orbit.specs.At.{At, site}
 use Rattle.orbit.proofs.PlaceLaws.{marked-in, mark-once}
@@ -42,64 +42,60 @@ use Rattle.rewriting.specs.Slots.{Room, Lowest, revived, Due, Granting, 
 -- ---- the scan for an unused slot
 
 -- no slot from `from` to before y is unused
-pub record Scanned (N : ℕ) (t : List ℕ) (from y : ℕ) : Type 0 where
+pub record Scanned (state : ℕ → ℕ) (from y : ℕ) : Type 0 where
   pub late : from ≤ y
-  pub none : (z : ℕ) → from ≤ z → z < y → view N t .state z ≡ 0 → ⊥
+  pub none : (z : ℕ) → from ≤ z → z < y → state z ≡ 0 → ⊥
 
-pub scan-start : (N : ℕ) (t : List ℕ) (from : ℕ) → Scanned N t from from
-scan-start N t from = record { late = omega arith; none = λ z g h. absurd (omega arith) }
+pub scan-start : (state : ℕ → ℕ) (from : ℕ) → Scanned state from from
+scan-start state from = record { late = omega arith; none = λ z g h. absurd (omega arith) }
 
-module _ {N : ℕ} {t : List ℕ} {from y : ℕ} (p : Scanned N t from y) where
+module _ {state : ℕ → ℕ} {from y : ℕ} (p : Scanned state from y) where
   -- the scan does not pass the unused slot that there is
-  pub scan-inside : Room N t from → y < N
+  pub scan-inside : {N : ℕ} → Room N state from → y < N
   scan-inside R = by-cases (decLt (R .slot) y) (λ h. absurd (p .none (R .slot) (R .late) h (R .is))) (λ h. omega (arith, R .fits))
 
-  pub scan-more : (k y′ : ℕ) → k ≡ view N t .state y → (k ≡ 0 → ⊥) → y′ ≡ y + 1 → Scanned N t from y′
+  pub scan-more : (k y′ : ℕ) → k ≡ state y → (k ≡ 0 → ⊥) → y′ ≡ y + 1 → Scanned state from y′
   scan-more k y′ e n q = record {
     late = omega (arith, p .late);
-    none = λ z g h f. by-cases (ℕ-discrete z y) (λ w. n (e ∙ ap (view N t .state) (sym w) ∙ f)) (λ w. p .none z g (omega arith) f);
+    none = λ z g h f. by-cases (ℕ-discrete z y) (λ w. n (e ∙ ap state (sym w) ∙ f)) (λ w. p .none z g (omega arith) f);
   }
 
-  pub scan-found : (k : ℕ) → Room N t from → k ≡ view N t .state y → k ≡ 0 → Lowest N t from y
+  pub scan-found : {N : ℕ} (k : ℕ) → Room N state from → k ≡ state y → k ≡ 0 → Lowest N state from y
   scan-found k R e z = record { fits = scan-inside R; late = p .late; is = sym e ∙ z; first = p .none }
 
 -- ---- one slot
 
-pub revived-of : (t t₁ t₂ t₃ : List ℕ) (y v : ℕ) → t₁ ≡ put t State y 1 → t₂ ≡ put t₁ (Link 3) y y → t₃ ≡ put t₂ Tag y v → t₃ ≡ revived t y v
-unfolding revived
-revived-of t t₁ t₂ t₃ y v e f g =
-    g ∙ ap (λ (l : List ℕ). put l Tag y v) (f ∙ ap (λ (l : List ℕ). put l (Link 3) y y) e)
+pub revived-of : (m m₁ m₂ m₃ : Map) (y v : ℕ) → m₁ ≡ withField m State (setAt (m .state) y 1) → m₂ ≡ withField m₁ (Link 3) (setAt (m₁ .link 3) y y)
+    → m₃ ≡ withField m₂ Tag (setAt (m₂ .tag) y v) → m₃ ≡ revived m y v
+unfolding revived withField
+revived-of m m₁ m₂ m₃ y v e f g =
+    g ∙ ap (λ (a : Map). withField a Tag (setAt (a .tag) y v)) (f ∙ ap (λ (a : Map). withField a (Link 3) (setAt (a .link 3) y y)) e)
 
-module _ (t : List ℕ) (y v : ℕ) where
-  pub length-revived : length (revived t y v) ≡ length t
-  unfolding revived
-  length-revived = length-put _ Tag y v ∙ length-put _ (Link 3) y y ∙ length-put t State y 1
+module _ (m : Map) (y v : ℕ) where
+  revived-other : (x : ℕ) (f : Field) → (x ≡ y → ⊥) → fieldOf (revived m y v) f x ≡ fieldOf m f x
+  unfolding revived withField
+  revived-other x State ne = set-other (m .state) y 1 x ne
+  revived-other x (Link i) ne = links-leave m 3 (setAt (m .link 3) y y) (Link i) x (λ e. set-other (m .link 3) y y x ne)
+  revived-other x Tag ne = set-other (m .tag) y v x ne
 
-  revived-other : (x : ℕ) (f : Field) → (x ≡ y → ⊥) → fieldAt (revived t y v) f x ≡ fieldAt t f x
-  unfolding revived
-  revived-other x f ne = put-other _ Tag y v (omega arith) f x (λ e q. ne e)
-      ∙ put-other _ (Link 3) y y (omega arith) f x (λ e q. ne e)
-      ∙ put-other t State y 1 (omega arith) f x (λ e q. ne e)
-
-  revived-same : (N : ℕ) → length t ≡ tableSize N → y < N → (f : Field) → fieldAt (revived t y v) f y ≡ newField (view N t) v y f
-  unfolding revived
-  revived-same N e h State = put-other _ Tag y v (omega arith) State y (λ p. state-not-tag)
-      ∙ put-other _ (Link 3) y y (omega arith) State y (λ p. state-not-link)
-      ∙ put-same t State y 1 (omega arith) N e h
-  revived-same N e h (Link i) = put-other _ Tag y v (omega arith) (Link i) y (λ p q. tag-not-link (sym q)) ∙ by-cases (ℕ-discrete i 3)
-      (λ (same : i ≡ 3). rw same (put-same (put t State y 1) (Link 3) y y (omega arith) N (length-put t State y 1 ∙ e) h))
-      (λ (ne : i ≡ 3 → ⊥). put-other _ (Link 3) y y (omega arith) (Link i) y (λ p q. ne (ap dimension q))
-      ∙ put-other t State y 1 (omega arith) (Link i) y (λ p q. state-not-link (sym q)) ∙ rw (ne-eqb i 3 ne) refl)
-  revived-same N e h Tag = put-same (put (put t State y 1) (Link 3) y y) Tag y v (omega arith) N
-      (length-put _ (Link 3) y y ∙ length-put t State y 1 ∙ e) h
+  revived-same : (f : Field) → fieldOf (revived m y v) f y ≡ newField m v y f
+  unfolding revived withField
+  revived-same State = set-same (m .state) y 1
+  revived-same (Link i) = by-cases (ℕ-discrete i 3)
+      (λ (e : i ≡ 3). rw (eq-eqb i 3 e) (set-same (m .link 3) y y))
+      (λ (ne : i ≡ 3 → ⊥). rw (ne-eqb i 3 ne) refl)
+  revived-same Tag = set-same (m .tag) y v
 
 -- ---- one pair
 
-module _ {N : ℕ} {t₀ s₀ : List ℕ} {A : At N t₀} {size many : ℕ} (G : Grant A s₀ size many) where
+module _ {m₀ : Map} {s₀ : List ℕ} {A : At m₀} {size many : ℕ} (G : Grant A s₀ size many) where
   abbrev E : Site
   E = site A
 
   open Site E using (map as m, scheme as S, orbit as O)
+
+  abbrev N : ℕ
+  N = m .slots
 
   pub good : GoodOrbit E
   good = good-orbit m S (A .dart) (A .other) (A .sound)
@@ -114,10 +110,9 @@ module _ {N : ℕ} {t₀ s₀ : List ℕ} {A : At N t₀} {size many : ℕ} (G :
   abbrev bare : Map
   bare = afterDeletion E
 
-  pub granting-none : {t : List ℕ} → Bare E t₀ t → Tagged E s₀ size → Granting A s₀ size 0 0 t s₀
+  pub granting-none : {m′ : Map} → Bare E m′ → Tagged E s₀ size → Granting A s₀ size 0 0 m′ s₀
   unfolding countBelow
   granting-none b g = record {
-    tableLong = b .long;
     storeLong = refl;
     taken = refl;
     low = λ u v d. absurd (omega (arith, d .early));
@@ -169,16 +164,13 @@ module _ {N : ℕ} {t₀ s₀ : List ℕ} {A : At N t₀} {size many : ℕ} (G :
       let d = digits size (countBelow v (added S)) (mark s₀ u - 1) (countBelow w (added S)) (mark s₀ x - 1) (omega arith) (omega arith) (omega arith) in
       (mark-once (G .walked) u x e f (omega (arith, d .1)), count-injective (added S) v w a b (d .0))
 
-  module _ {done free : ℕ} {t s : List ℕ} (g : Granting A s₀ size done free t s) where
+  module _ {done free : ℕ} {m′ : Map} {s : List ℕ} (g : Granting A s₀ size done free m′ s) where
     -- a slot from `free` on is as it was, without the deleted darts
-    ahead : (y : ℕ) → free ≤ y → view N t .state y ≡ bare .state y
+    ahead : (y : ℕ) → free ≤ y → m′ .state y ≡ bare .state y
     ahead y h = g .other y State (λ u v d e. omega (arith, g .low u v d))
 
-    pub granting-sized : Sized N t
-    granting-sized = record { few = A .sized .few; long = g .tableLong ∙ A .sized .long }
-
     -- while there is room, a slot from `free` on is unused
-    pub room-ahead : done < countBelow N can → Room N t free
+    pub room-ahead : done < countBelow N can → Room N (m′ .state) free
     room-ahead h =
         let r = count-reaches can N done h in
         let late : free ≤ r .0 = by-cases (decLt (r .0) free)
@@ -186,7 +178,7 @@ module _ {N : ℕ} {t₀ s₀ : List ℕ} {A : At N t₀} {size many : ℕ} (G :
         (λ l. omega arith) in
         record { slot = r .0; fits = r .1; late = late; is = ahead (r .0) late ∙ K.bare-free ready (r .0) (r .2) }
 
-    module _ {y : ℕ} (L : Lowest N t free y) where
+    module _ {y : ℕ} (L : Lowest N (m′ .state) free y) where
       was-free : can y ≡ true
       was-free = K.free-bare ready y (sym (ahead y (L .late)) ∙ L .is)
 
@@ -200,7 +192,7 @@ module _ {N : ℕ} {t₀ s₀ : List ℕ} {A : At N t₀} {size many : ℕ} (G :
       slot-next = ap (λ (o : Option ℕ). Option·getD o 0) (nth-is N can done y (L .fits) was-free count-below)
 
   -- the next pair takes the lowest slot that is left
-  module _ {done free : ℕ} {t s : List ℕ} (g : Granting A s₀ size done free t s) {y : ℕ} (L : Lowest N t free y)
+  module _ {done free : ℕ} {m′ : Map} {s : List ℕ} (g : Granting A s₀ size done free m′ s) {y : ℕ} (L : Lowest N (m′ .state) free y)
       (u v : ℕ) (e : O u ≡ true) (h : v < S .nodes) (a : added S v ≡ true) (next : rank E u v ≡ done) where
     here : dartOf E u v ≡ y
     here = dart-added E u v a ∙ ap (freeSlot E) next ∙ slot-next g L
@@ -239,24 +231,23 @@ module _ {N : ℕ} {t₀ s₀ : List ℕ} {A : At N t₀} {size many : ℕ} (G :
 
     -- the words of a slot that a pair has
     fresh-more : (w : ℕ) → w ≡ m .tag (image E u (donor S v)) → (x z : ℕ) (f : Field) → Due A (done + 1) x z
-        → fieldAt (revived t y w) f (dartOf E x z) ≡ newField bare (m .tag (image E x (donor S z))) (dartOf E x z) f
+        → fieldOf (revived m′ y w) f (dartOf E x z) ≡ newField bare (m .tag (image E x (donor S z))) (dartOf E x z) f
     fresh-more w tag-is x z f d = ⊎-elim
-        (λ (b : Due A done x z). revived-other t y w _ f (other-slot x z b) ∙ g .fresh x z f b)
+        (λ (b : Due A done x z). revived-other m′ y w _ f (other-slot x z b) ∙ g .fresh x z f b)
         (λ (b : (x ≡ u) × (z ≡ v)). let q = same x z (b .0) (b .1) in
-        ap (fieldAt (revived t y w) f) q ∙ revived-same t y w N (g .tableLong ∙ A .sized .long) (L .fits) f ∙ was f
+        ap (fieldOf (revived m′ y w) f) q ∙ revived-same m′ y w f ∙ was f
         ∙ sym (ap₂ (λ (a k : ℕ). newField bare (m .tag a) k f) (ap₂ (λ (i k : ℕ). image E i (donor S k)) (b .0) (b .1)) q))
         (old-or-new x z d)
       where
-        was : (f : Field) → newField (view N t) w y f ≡ newField bare (m .tag (image E u (donor S v))) y f
+        was : (f : Field) → newField m′ w y f ≡ newField bare (m .tag (image E u (donor S v))) y f
         was State = refl
         was (Link i) = ap (cond (eqb i 3) y) (g .other y (Link i) other-slot)
         was Tag = tag-is
 
     pub granting-more : (w i : ℕ) → w ≡ m .tag (image E u (donor S v)) → i ≡ cell u v
-        → Granting A s₀ size (done + 1) (y + 1) (revived t y w) (set s i y)
+        → Granting A s₀ size (done + 1) (y + 1) (revived m′ y w) (set s i y)
     unfolding dartAt
     granting-more w i tag-is cell-is = record {
-      tableLong = length-revived t y w ∙ g .tableLong;
       storeLong = length-set s i y ∙ g .storeLong;
       taken = count-step y can ∙ ap₂ (λ (k : ℕ) (b : Bool). k + bit b) (count-below g L) (was-free g L);
       low = λ x z d. ⊎-elim
@@ -264,7 +255,7 @@ module _ {N : ℕ} {t₀ s₀ : List ℕ} {A : At N t₀} {size many : ℕ} (G :
           (λ (b : (x ≡ u) × (z ≡ v)). omega (arith, same x z (b .0) (b .1)))
           (old-or-new x z d);
       fresh = fresh-more w tag-is;
-      other = λ x f no. revived-other t y w x f (λ q. no u v due (here ∙ sym q)) ∙ g .other x f (λ a z d. no a z (later a z d));
+      other = λ x f no. revived-other m′ y w x f (λ q. no u v due (here ∙ sym q)) ∙ g .other x f (λ a z d. no a z (later a z d));
       tag = λ x z k b c l. getD-set-other s i (cell x z) y 0 (λ q.
           let w = cell-once x z u v k e c a (q ∙ cell-is) in
           let r : rank E x z ≡ done = ap₂ (rank E) (w .0) (w .1) ∙ next in
@@ -280,23 +271,23 @@ module _ {N : ℕ} {t₀ s₀ : List ℕ} {A : At N t₀} {size many : ℕ} (G :
 
 -- ---- the pairs of one orbit dart
 
-module _ {N : ℕ} {t s : List ℕ} {size many r free : ℕ} (T : Turn N t s size many r free) where
-  open Site (site (T .at)) using (map as m, scheme as S, orbit as O)
+module _ {N₁ : ℕ} {M : Map} {s : List ℕ} {size many r free : ℕ} (T : Turn N₁ M s size many r free) where
+  open Site (site (T .at)) using (scheme as S, orbit as O)
   open Turn T using (dart as u)
 
   -- r is a place, at which u stands
   pub turn-place : r < size
   turn-place = omega (arith, marked-in (T .grant .walked) u (T .inOrbit), T .place)
 
-  pub turn-size : size ≤ N
-  turn-size = omega (arith, T .grant .walked .counted, count-le N O)
+  pub turn-size : size ≤ N₁
+  turn-size = omega (arith, T .grant .walked .counted, count-le N₁ O)
 
   -- after the last of its pairs
-  pub turn-done : {a from : ℕ} {t′ s′ : List ℕ} → a ≡ many
-      → Granting (T .at) (T .store) size (countBelow u O * many + a) from t′ s′
-      → Granting (T .at) (T .store) size (countBelow u O * many + many) from t′ s′
-  turn-done {a} {from} {t′} {s′} e g =
-      subst (λ (k : ℕ). Granting (T .at) (T .store) size (countBelow u O * many + k) from t′ s′) e g
+  pub turn-done : {a from : ℕ} {m′ : Map} {s′ : List ℕ} → a ≡ many
+      → Granting (T .at) (T .store) size (countBelow u O * many + a) from m′ s′
+      → Granting (T .at) (T .store) size (countBelow u O * many + many) from m′ s′
+  turn-done {a} {from} {m′} {s′} e g =
+      subst (λ (k : ℕ). Granting (T .at) (T .store) size (countBelow u O * many + k) from m′ s′) e g
 
   module _ (a : ℕ) (l : a < many) where
     -- the a-th added node
@@ -307,28 +298,28 @@ module _ {N : ℕ} {t s : List ℕ} {size many r free : ℕ} (T : Turn N t s siz
     unfolding rank
     node-rank = ap₂ (λ (k c : ℕ). countBelow u O * k + c) (sym (T .grant .every)) (node .3)
 
-    pub turn-cell : a * size + r < N
+    pub turn-cell : a * size + r < N₁
     turn-cell =
         let c = mul-le-mul-right size l in
         omega (arith, cells (T .grant), turn-place)
 
     -- where its dart will stand
-    cell-is : 2 * N + a * size + r ≡ columnStart N size (countBelow (node .0) (added S)) + (mark (T .store) u - 1)
-    cell-is = ap₂ (λ (k c : ℕ). 2 * N + k * size + c) (sym (node .3)) (omega (arith, T .place))
+    cell-is : 2 * N₁ + a * size + r ≡ columnStart N₁ size (countBelow (node .0) (added S)) + (mark (T .store) u - 1)
+    cell-is = ap₂ (λ (k c : ℕ). 2 * N₁ + k * size + c) (sym (node .3)) (omega (arith, T .place))
 
-    module _ {from : ℕ} {t′ s′ : List ℕ}
-        (g : Granting (T .at) (T .store) size (countBelow u O * many + a) from t′ s′) where
-      pub turn-room : Room N t′ from
+    module _ {from : ℕ} {m′ : Map} {s′ : List ℕ}
+        (g : Granting (T .at) (T .store) size (countBelow u O * many + a) from m′ s′) where
+      pub turn-room : Room N₁ (m′ .state) from
       turn-room =
           let n = node in
           let b = rank-low (site (T .at)) (good (T .grant) .slot) u (n .0) (T .inOrbit) (n .1) (n .2) in
-          room-ahead (T .grant) g (subst (λ (k : ℕ). k < countBelow N (can (T .grant))) node-rank (lt-of-lt-of-le b (K.enough (ready (T .grant)))))
+          room-ahead (T .grant) g (subst (λ (k : ℕ). k < countBelow N₁ (can (T .grant))) node-rank (lt-of-lt-of-le b (K.enough (ready (T .grant)))))
 
       -- i is the word of the store for it, which holds the tag and then the dart
-      pub turn-more : (i y w : ℕ) (t″ s″ : List ℕ) → i ≡ 2 * N + a * size + r → Lowest N t′ from y → w ≡ getD s′ i 0
-          → t″ ≡ revived t′ y w → s″ ≡ set s′ i y
-          → Granting (T .at) (T .store) size (countBelow u O * many + (a + 1)) (y + 1) t″ s″
-      turn-more i y w t″ s″ e low d p q =
+      pub turn-more : (i y w : ℕ) (m″ : Map) (s″ : List ℕ) → i ≡ 2 * N₁ + a * size + r → Lowest N₁ (m′ .state) from y → w ≡ getD s′ i 0
+          → m″ ≡ revived m′ y w → s″ ≡ set s′ i y
+          → Granting (T .at) (T .store) size (countBelow u O * many + (a + 1)) (y + 1) m″ s″
+      turn-more i y w m″ s″ e low d p q =
           let n = node in
           let j : countBelow u O * many + a + 1 ≡ countBelow u O * many + (a + 1) = omega arith in
           rw (p, q, ← j) (granting-more (T .grant) g low u (n .0) (T .inOrbit) (n .1) (n .2) node-rank w i

@@ -1,4 +1,4 @@
--- The darts of all pairs: in the columns of the store, and those of the added pairs in the table. `slots` leaves them so, and `links`
+-- The darts of all pairs: in the columns of the store, and those of the added pairs in the map. `slots` leaves them so, and `links`
 -- starts from it. At the site E, m is the map before the edit, S the scheme, O the orbit.
 -- Assumes nothing.
 use Prim.Native.Nat.{ℕ, _+_, _*_, _-_, _≤_, _<_}
@@ -8,7 +8,7 @@ use mathlib.Core.List.{List}
 use lib.ListN.{length, getD}
 use lib.Dec.{eqb}
 use Rattle.base.specs.Below.{countBelow}
-use Rattle.model.specs.Map.{Map, Field, State, Link, Tag, fieldOf, fieldAt}
+use Rattle.model.specs.Map.{Map, Field, State, Link, Tag, fieldOf}
 use Rattle.model.specs.Scheme.{donor, added}
 use Rattle.model.specs.Site.{Site}
 use Rattle.model.specs.Match.{image, matches}
@@ -32,8 +32,8 @@ pub record HoldsSlots (N : ℕ) (store : List ℕ) (base size : ℕ) : Type 0 wh
   pub slot : (r : ℕ) → r < size → dartAt store base r < N
 
 -- what is known before the first slot is given: the orbit stands in the store, the scheme matches, and there is room
-pub record Grant {N : ℕ} {t₀ : List ℕ} (A : At N t₀) (s₀ : List ℕ) (size many : ℕ) : Type 0 where
-  pub long : length s₀ ≡ 16 * N
+pub record Grant {m : Map} (A : At m) (s₀ : List ℕ) (size many : ℕ) : Type 0 where
+  pub long : length s₀ ≡ 16 * m .slots
   pub walked : WalkedAt (site A) s₀ size
   pub every : many ≡ countBelow (A .scheme .nodes) (added (A .scheme))
   pub match : matches (site A) ≡ true
@@ -42,10 +42,9 @@ pub record Grant {N : ℕ} {t₀ : List ℕ} (A : At N t₀) (s₀ : List ℕ) (
 module _ (E : Site) where
   open Site E using (map as m, scheme as S, orbit as O)
 
-  -- the table t′ is t without the deleted darts
-  pub record Bare (t t′ : List ℕ) : Type 0 where
-    pub long : length t′ ≡ length t
-    pub at : (f : Field) (y : ℕ) → fieldAt t′ f y ≡ fieldOf (afterDeletion E) f y
+  -- m′ has the words of the map without the deleted darts
+  pub record Bare (m′ : Map) : Type 0 where
+    pub at : (f : Field) (y : ℕ) → fieldOf m′ f y ≡ fieldOf (afterDeletion E) f y
 
   -- where the darts of the added pairs will stand, the store has the tags for them
   pub record Tagged (s : List ℕ) (size : ℕ) : Type 0 where
@@ -66,9 +65,8 @@ module _ (E : Site) where
     pub isAdded : added S node ≡ true
     pub same : dartOf E dart node ≡ y
 
-  -- the table t′ is t without the deleted darts and with those of the added pairs live, each with the tag of the dart of its donor
-  pub record Given (t t′ : List ℕ) : Type 0 where
-    pub long : length t′ ≡ length t
+  -- m′ is without the deleted darts and has those of the added pairs live, each with the tag of the dart of its donor
+  pub record Given (m′ : Map) : Type 0 where
     pub fresh : (u s : ℕ) (f : Field) → O u ≡ true → s < S .nodes → added S s ≡ true
-        → fieldAt t′ f (dartOf E u s) ≡ newField (afterDeletion E) (m .tag (image E u (donor S s))) (dartOf E u s) f
-    pub other : (y : ℕ) (f : Field) → (AddedDart y → ⊥) → fieldAt t′ f y ≡ fieldOf (afterDeletion E) f y
+        → fieldOf m′ f (dartOf E u s) ≡ newField (afterDeletion E) (m .tag (image E u (donor S s))) (dartOf E u s) f
+    pub other : (y : ℕ) (f : Field) → (AddedDart y → ⊥) → fieldOf m′ f y ≡ fieldOf (afterDeletion E) f y

@@ -7,13 +7,13 @@ use mathlib.Core.List.{List}
 use lib.ListN.{length, getD}
 use lib.Dec.{eqb, ltb}
 use Rattle.base.specs.Steps.{steps}
-use Rattle.model.specs.Map.{Link, put}
+use Rattle.model.specs.Map.{Map, Link}
 use Rattle.model.specs.Scheme.{left, right}
 use Rattle.model.specs.Match.{matches}
 use Rattle.model.specs.Edit.{addedDarts, roomOf}
-use Rattle.table.specs.Words.{Sized}
+use Rattle.table.specs.Writes.{setAt, withField}
 use Rattle.orbit.specs.Store.{next, dartAt}
-use Rattle.orbit.specs.At.{At, site, WalkedAt}
+use Rattle.orbit.specs.At.{At, site, ofSlots, WalkedAt}
 use Rattle.model.specs.Shaped.{Coded}
 use Rattle.rewriting.specs.Darts.{HoldsSlots, Darts, Given}
 
@@ -23,20 +23,20 @@ use Rattle.rewriting.specs.Darts.{HoldsSlots, Darts, Given}
 unfoldable pub placeBy : ℕ → List ℕ → ℕ → ℕ → ℕ
 placeBy N store code r = cond (ltb code 16) r (next N store r (code - 16))
 
--- the i-links of the slots `at 0` .. `at (n - 1)` become `v 0` .. `v (n - 1)`
-unfoldable pub overwritten : ℕ → (ℕ → ℕ) → (ℕ → ℕ) → ℕ → List ℕ → List ℕ
-overwritten i at v n = steps n (λ r t. put t (Link i) (at r) (v r))
+-- the links of the slots `at 0` .. `at (n - 1)` become `v 0` .. `v (n - 1)`
+unfoldable pub overwritten : (ℕ → ℕ) → (ℕ → ℕ) → ℕ → (ℕ → ℕ) → ℕ → ℕ
+overwritten at v n = steps n (λ r l. setAt l (at r) (v r))
 
 module _ (N : ℕ) (store : List ℕ) (size : ℕ) (cols : List ℕ) where
-  -- the i-links of the darts of the node whose column of the store begins at `base`, by the code of an arc
-  unfoldable pub followed : ℕ → ℕ → ℕ → List ℕ → List ℕ
-  followed i base code t =
-      cond (ltb code 16) (overwritten i (dartAt store base) (dartAt store (getD cols code 0)) size t)
-      (cond (ltb code 255) (overwritten i (dartAt store base) (λ r. dartAt store base (next N store r (code - 16))) size t) t)
+  -- the links of one dimension, where those of the darts of the node whose column of the store begins at `base` are written by the code of an arc
+  unfoldable pub followed : ℕ → ℕ → (ℕ → ℕ) → ℕ → ℕ
+  followed base code l =
+      cond (ltb code 16) (overwritten (dartAt store base) (dartAt store (getD cols code 0)) size l)
+      (cond (ltb code 255) (overwritten (dartAt store base) (λ r. dartAt store base (next N store r (code - 16))) size l) l)
 
   -- the links of the darts of all nodes, by the first n codes of their arcs
-  unfoldable pub relinked : List ℕ → ℕ → List ℕ → List ℕ
-  relinked codes n = steps n (λ k. followed (k % 4) (getD cols (k / 4) 0) (getD codes k 0))
+  unfoldable pub relinked : List ℕ → ℕ → Map → Map
+  relinked codes n = steps n (λ k m. withField m (Link (k % 4)) (followed (getD cols (k / 4) 0) (getD codes k 0) (m .link (k % 4))))
 
 -- the code of an arc of the right side, and that of no arc where the left side has the same: its links stand already
 unfoldable pub changed : ℕ → ℕ → ℕ
@@ -71,17 +71,16 @@ pub record Codes (N : ℕ) (store : List ℕ) (size : ℕ) (codes : List ℕ) (c
 
 -- ---- what the phase is handed
 
--- the site of the edit in the table before it, with what the earlier phases found and left
-pub record BeforeRewriting (slots : ℕ) (table store : List ℕ) (size : ℕ) (lefts rights : List ℕ) (c : ℕ) (cols : List ℕ) : Type 0 where
-  pub before : List ℕ
-  pub at : At slots before
-  pub sized : Sized slots table
-  pub stored : length store ≡ 16 * slots
+-- the site of the edit in the map before it, with what the earlier phases found and left in m and the store
+pub record BeforeRewriting (N : ℕ) (m : Map) (store : List ℕ) (size : ℕ) (lefts rights : List ℕ) (c : ℕ) (cols : List ℕ) : Type 0 where
+  pub before : Map
+  pub at : At (ofSlots N before)
+  pub stored : length store ≡ 16 * N
   pub walked : WalkedAt (site at) store size
   pub darts : Darts (site at) store cols size
   pub match : matches (site at) ≡ true
   pub room : addedDarts (site at) ≤ roomOf (site at)
-  pub given : Given (site at) before table
+  pub given : Given (site at) m
   pub nodes : c ≡ at .scheme .nodes
   pub leftCoded : Coded (at .scheme) left lefts
   pub rightCoded : Coded (at .scheme) right rights

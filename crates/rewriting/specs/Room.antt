@@ -1,4 +1,4 @@
--- The phase `room`: the tags that the new darts get, noted before any slot is taken, and the table without the deleted darts.
+-- The phase `room`: the tags that the new darts get, noted before any slot is taken, and the map without the deleted darts.
 -- Assumes nothing.
 use Prim.Native.Nat.{ℕ, _+_, _*_, _≤_, _<_}
 use mathlib.Core.Path.{_≡_}
@@ -10,9 +10,9 @@ use lib.ListN.{length, getD}
 use lib.Dec.{eqb}
 use Rattle.base.specs.First.{nthLowest}
 use Rattle.base.specs.Steps.{steps}
-use Rattle.model.specs.Map.{view, maxSlots}
+use Rattle.model.specs.Map.{Map, maxSlots}
 use Rattle.model.specs.Scheme.{added}
-use Rattle.table.specs.Words.{blanked}
+use Rattle.table.specs.Writes.{zeroed}
 use Rattle.orbit.specs.Store.{dartAt, Kept, Assigned}
 use Rattle.orbit.specs.At.{At, site}
 use Rattle.rewriting.specs.Darts.{HoldsSlots, columnStart, Bare, Tagged, Grant}
@@ -20,9 +20,9 @@ use Rattle.rewriting.specs.Darts.{HoldsSlots, columnStart, Bare, Tagged,
 -- ---- the tags
 
 -- from `to` on, s′ has the tags of the first n darts of s from `from` on, and is s elsewhere
-pub record Noted (N : ℕ) (t s : List ℕ) (from to n : ℕ) (s′ : List ℕ) : Type 0 where
+pub record Noted (tag : ℕ → ℕ) (s : List ℕ) (from to n : ℕ) (s′ : List ℕ) : Type 0 where
   pub long : length s′ ≡ length s
-  pub at : (r : ℕ) → r < n → getD s′ (to + r) 0 ≡ view N t .tag (dartAt s from r)
+  pub at : (r : ℕ) → r < n → getD s′ (to + r) 0 ≡ tag (dartAt s from r)
   pub kept : (i : ℕ) → (i < to) ⊎ (to + n ≤ i) → getD s′ i 0 ≡ getD s i 0
 
 -- the first `many` of `nodes` have donors whose darts stand in columns, before the words where their own darts will stand
@@ -37,25 +37,25 @@ pub record Donating (N : ℕ) (s : List ℕ) (size : ℕ) (nodes : List ℕ) (ma
   pub slot : (a r : ℕ) → a < many → r < size → dartAt s (getD cols (getD donors (getD nodes a 0) 0) 0) r < N
 
 -- s′ has the tags of the darts of the donors of the first `many` of `nodes`
-pub record Gathered (N : ℕ) (t s : List ℕ) (size : ℕ) (nodes : List ℕ) (many : ℕ) (donors cols s′ : List ℕ) : Type 0 where
+pub record Gathered (N : ℕ) (tag : ℕ → ℕ) (s : List ℕ) (size : ℕ) (nodes : List ℕ) (many : ℕ) (donors cols s′ : List ℕ) : Type 0 where
   pub long : length s′ ≡ length s
   pub at : (a r : ℕ) → a < many → r < size
-      → getD s′ (columnStart N size a + r) 0 ≡ view N t .tag (dartAt s (getD cols (getD donors (getD nodes a 0) 0) 0) r)
+      → getD s′ (columnStart N size a + r) 0 ≡ tag (dartAt s (getD cols (getD donors (getD nodes a 0) 0) 0) r)
   pub kept : (i : ℕ) → (i < 2 * N) ⊎ (2 * N + many * size ≤ i) → getD s′ i 0 ≡ getD s i 0
 
 -- ---- zeros
 
--- the records of the slots `at 0` .. `at (n - 1)` become zeros
-unfoldable pub erased : (ℕ → ℕ) → ℕ → List ℕ → List ℕ
-erased at n = steps n (λ r. blanked (at r))
+-- the words of the slots `at 0` .. `at (n - 1)` become zeros
+unfoldable pub erased : (ℕ → ℕ) → ℕ → Map → Map
+erased at n = steps n (λ r. zeroed (at r))
 
--- the records of the darts of the node whose column of the store begins at `base`, where its kind is deleted
-unfoldable pub clearedBy : List ℕ → ℕ → ℕ → ℕ → List ℕ → List ℕ
-clearedBy store size base kind t = cond (eqb kind 1) (erased (dartAt store base) size t) t
+-- the words of the darts of the node whose column of the store begins at `base`, where its kind is deleted
+unfoldable pub clearedBy : List ℕ → ℕ → ℕ → ℕ → Map → Map
+clearedBy store size base kind m = cond (eqb kind 1) (erased (dartAt store base) size m) m
 
 module _ (store : List ℕ) (size : ℕ) (cols : List ℕ) where
-  -- the records of the darts of those of the first n nodes that are deleted
-  unfoldable pub cleared : List ℕ → ℕ → List ℕ → List ℕ
+  -- the words of the darts of those of the first n nodes that are deleted
+  unfoldable pub cleared : List ℕ → ℕ → Map → Map
   cleared kinds n = steps n (λ v. clearedBy store size (getD cols v 0) (getD kinds v 0))
 
 -- the deleted ones of c nodes have columns
@@ -65,8 +65,8 @@ pub record DeletedColumns (N : ℕ) (store : List ℕ) (size : ℕ) (kinds : Lis
 
 -- ---- what the phase is handed, and what it hands on
 
-pub record BeforeRoom (N : ℕ) (t s : List ℕ) (size : ℕ) (nodes : List ℕ) (many : ℕ) (donors kinds : List ℕ) (c : ℕ) (cols : List ℕ) : Type 0 where
-  pub at : At N t
+pub record BeforeRoom (m : Map) (s : List ℕ) (size : ℕ) (nodes : List ℕ) (many : ℕ) (donors kinds : List ℕ) (c : ℕ) (cols : List ℕ) : Type 0 where
+  pub at : At m
   pub grant : Grant at s size many
   pub node : (a : ℕ) → a < many → nthLowest (at .scheme .nodes) (added (at .scheme)) a ≡ some (getD nodes a 0)
   pub donorsAre : donors ≡ at .scheme .donors
@@ -74,8 +74,8 @@ pub record BeforeRoom (N : ℕ) (t s : List ℕ) (size : ℕ) (nodes : List ℕ)
   pub kinded : kinds ≡ at .scheme .kinds
   pub assigned : Assigned (site at) s cols size
 
-pub record Roomy {N : ℕ} {t : List ℕ} (A : At N t) (s : List ℕ) (size : ℕ) (cols t′ s′ : List ℕ) : Type 0 where
-  pub bare : Bare (site A) t t′
+pub record Roomy {m : Map} (A : At m) (s : List ℕ) (size : ℕ) (cols : List ℕ) (m′ : Map) (s′ : List ℕ) : Type 0 where
+  pub bare : Bare (site A) m′
   pub tagged : Tagged (site A) s′ size
-  pub kept : Kept N s s′ size
+  pub kept : Kept (m .slots) s s′ size
   pub assigned : Assigned (site A) s′ cols size

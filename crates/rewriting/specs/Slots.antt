@@ -12,34 +12,35 @@ use Rattle.base.specs.Test.{_and_}
 use Rattle.base.specs.Below.{countBelow}
 use Rattle.base.specs.First.{nthLowest}
 use Rattle.base.specs.Binary.{binary}
-use Rattle.model.specs.Map.{Field, State, Link, Tag, fieldOf, fieldAt, put, view, maxSlots}
+use Rattle.model.specs.Map.{Map, Field, State, Link, Tag, fieldOf, maxSlots}
 use Rattle.model.specs.Scheme.{donor, added}
 use Rattle.model.specs.Site.{Site}
 use Rattle.model.specs.Match.{image}
 use Rattle.model.specs.Edit.{isFree, rank, dartOf, afterDeletion}
+use Rattle.table.specs.Writes.{setAt, withField}
 use Rattle.orbit.specs.Store.{mark, place, dartAt, among, Kept, Assigned}
-use Rattle.orbit.specs.At.{At, site}
+use Rattle.orbit.specs.At.{At, site, ofSlots}
 use Rattle.rewriting.specs.Darts.{Darts, newField, Given, columnStart, Grant, Bare, Tagged}
 
 -- ---- one slot
 
--- some slot from `from` on is unused in the table t
-pub record Room (N : ℕ) (t : List ℕ) (from : ℕ) : Type 0 where
+-- some slot from `from` on is unused
+pub record Room (N : ℕ) (state : ℕ → ℕ) (from : ℕ) : Type 0 where
   pub slot : ℕ
   pub fits : slot < N
   pub late : from ≤ slot
-  pub is : view N t .state slot ≡ 0
+  pub is : state slot ≡ 0
 
 -- y is the lowest unused slot from `from` on
-pub record Lowest (N : ℕ) (t : List ℕ) (from y : ℕ) : Type 0 where
+pub record Lowest (N : ℕ) (state : ℕ → ℕ) (from y : ℕ) : Type 0 where
   pub fits : y < N
   pub late : from ≤ y
-  pub is : view N t .state y ≡ 0
-  pub first : (z : ℕ) → from ≤ z → z < y → view N t .state z ≡ 0 → ⊥
+  pub is : state y ≡ 0
+  pub first : (z : ℕ) → from ≤ z → z < y → state z ≡ 0 → ⊥
 
--- t with the slot y live, with a 3-link to itself and the tag v
-unfoldable pub revived : List ℕ → ℕ → ℕ → List ℕ
-revived t y v = put (put (put t State y 1) (Link 3) y y) Tag y v
+-- m with the slot y live, with a 3-link to itself and the tag v
+unfoldable pub revived : Map → ℕ → ℕ → Map
+revived m y v = withField (withField (withField m State (setAt (m .state) y 1)) (Link 3) (setAt (m .link 3) y y)) Tag (setAt (m .tag) y v)
 
 -- ---- the columns of the added nodes
 
@@ -59,7 +60,7 @@ pub record ColumnsBegin (N size : ℕ) (nodes : List ℕ) (many : ℕ) (cols col
 
 -- ---- the pairs one after the other, in the order of their ranks
 
-module _ {N : ℕ} {t₀ : List ℕ} (A : At N t₀) where
+module _ {m₀ : Map} (A : At m₀) where
   abbrev E : Site
   E = site A
 
@@ -72,30 +73,30 @@ module _ {N : ℕ} {t₀ : List ℕ} (A : At N t₀) where
     pub isAdded : added S v ≡ true
     pub early : rank E u v < done
 
-  -- the first `done` added pairs have their slots, all below `free`, and the store has the tags for the others: the table is t and the store s. Before
-  -- the first pair these were the table without the deleted darts and s₀
-  pub record Granting (s₀ : List ℕ) (size done free : ℕ) (t s : List ℕ) : Type 0 where
-    pub tableLong : length t ≡ length t₀
+  -- the first `done` added pairs have their slots, all below `free`, and the store has the tags for the others: the map is m′ and the store s. Before
+  -- the first pair these were the map without the deleted darts and s₀
+  pub record Granting (s₀ : List ℕ) (size done free : ℕ) (m′ : Map) (s : List ℕ) : Type 0 where
     pub storeLong : length s ≡ length s₀
     pub taken : countBelow free (isFree E (image E)) ≡ done
     pub low : (u v : ℕ) → Due done u v → dartOf E u v < free
-    pub fresh : (u v : ℕ) (f : Field) → Due done u v → fieldAt t f (dartOf E u v) ≡ newField (afterDeletion E) (m .tag (image E u (donor S v))) (dartOf E u v) f
-    pub other : (y : ℕ) (f : Field) → ((u v : ℕ) → Due done u v → dartOf E u v ≡ y → ⊥) → fieldAt t f y ≡ fieldOf (afterDeletion E) f y
+    pub fresh : (u v : ℕ) (f : Field) → Due done u v
+        → fieldOf m′ f (dartOf E u v) ≡ newField (afterDeletion E) (m .tag (image E u (donor S v))) (dartOf E u v) f
+    pub other : (y : ℕ) (f : Field) → ((u v : ℕ) → Due done u v → dartOf E u v ≡ y → ⊥) → fieldOf m′ f y ≡ fieldOf (afterDeletion E) f y
     pub tag : (u v : ℕ) → O u ≡ true → v < S .nodes → added S v ≡ true → done ≤ rank E u v
-        → dartAt s (columnStart N size (countBelow v (added S))) (mark s₀ u - 1) ≡ m .tag (image E u (donor S v))
-    pub dart : (u v : ℕ) → Due done u v → dartAt s (columnStart N size (countBelow v (added S))) (mark s₀ u - 1) ≡ dartOf E u v
-    pub kept : (i : ℕ) → (i < 2 * N) ⊎ (3 * N ≤ i) → getD s i 0 ≡ getD s₀ i 0
+        → dartAt s (columnStart (m .slots) size (countBelow v (added S))) (mark s₀ u - 1) ≡ m .tag (image E u (donor S v))
+    pub dart : (u v : ℕ) → Due done u v → dartAt s (columnStart (m .slots) size (countBelow v (added S))) (mark s₀ u - 1) ≡ dartOf E u v
+    pub kept : (i : ℕ) → (i < 2 * m .slots) ⊎ (3 * m .slots ≤ i) → getD s i 0 ≡ getD s₀ i 0
 
--- the pairs of the orbit dart at place r, which is `dart`, come next; how it all stood before the first slot was given is in the fields
-pub record Turn (N : ℕ) (t s : List ℕ) (size many r free : ℕ) : Type 0 where
-  pub table : List ℕ
-  pub at : At N table
+-- the pairs of the orbit dart at place r, which is `dart`, come next; how it all stood before the edit, and before the first slot was given, is in the fields
+pub record Turn (N : ℕ) (m : Map) (s : List ℕ) (size many r free : ℕ) : Type 0 where
+  pub before : Map
+  pub at : At (ofSlots N before)
   pub store : List ℕ
   pub grant : Grant at store size many
   pub dart : ℕ
   pub inOrbit : site at .orbit dart ≡ true
   pub place : mark store dart ≡ r + 1
-  pub granting : Granting at store size (countBelow dart (site at .orbit) * many) free t s
+  pub granting : Granting at store size (countBelow dart (site at .orbit) * many) free m s
 
 -- ---- the orbit ascending
 
@@ -127,30 +128,30 @@ pub record Digits (p : ℕ → Bool) (bits : List ℕ) : Type 0 where
   pub at : (w : ℕ) → w < digitWords → getD bits w 0 ≡ binary 64 (λ k. p (64 * w + k))
 
 -- the pairs of the orbit darts from 64 × w to 64 × w + 63 come next, with a digit for each; the other fields are as in `Turn`
-pub record Block (N : ℕ) (t s : List ℕ) (size many w number free : ℕ) : Type 0 where
-  pub table : List ℕ
-  pub at : At N table
+pub record Block (N : ℕ) (m : Map) (s : List ℕ) (size many w number free : ℕ) : Type 0 where
+  pub before : Map
+  pub at : At (ofSlots N before)
   pub store : List ℕ
   pub grant : Grant at store size many
   pub digits : number ≡ binary 64 (λ k. site at .orbit (64 * w + k))
-  pub granting : Granting at store size (countBelow (64 * w) (site at .orbit) * many) free t s
+  pub granting : Granting at store size (countBelow (64 * w) (site at .orbit) * many) free m s
 
 -- ---- all pairs
 
 -- what the giving of slots is handed by the phases before it: `nodes` lists the added nodes of the scheme, ascending
-pub record BeforeGiving (N : ℕ) (t s : List ℕ) (size : ℕ) (nodes : List ℕ) (many : ℕ) (cols : List ℕ) : Type 0 where
-  pub before : List ℕ
-  pub at : At N before
+pub record BeforeGiving (N : ℕ) (m : Map) (s : List ℕ) (size : ℕ) (nodes : List ℕ) (many : ℕ) (cols : List ℕ) : Type 0 where
+  pub before : Map
+  pub at : At (ofSlots N before)
   pub grant : Grant at s size many
-  pub bare : Bare (site at) before t
+  pub bare : Bare (site at) m
   pub tagged : Tagged (site at) s size
   pub node : (a : ℕ) → a < many → nthLowest (at .scheme .nodes) (added (at .scheme)) a ≡ some (getD nodes a 0)
   pub assigned : Assigned (site at) s cols size
   pub wide : length cols ≡ 16
 
--- what it hands on: t′, s′ and cols′ from t and s
-pub record Granted (E : Site) (t s t′ s′ cols′ : List ℕ) (size : ℕ) : Type 0 where
-  pub given : Given E t t′
+-- what it hands on: the map m′, and s′ and cols′ from s
+pub record Granted (E : Site) (s : List ℕ) (m′ : Map) (s′ cols′ : List ℕ) (size : ℕ) : Type 0 where
+  pub given : Given E m′
   pub darts : Darts E s′ cols′ size
   pub kept : Kept (E .map .slots) s s′ size
   pub wide : length cols′ ≡ 16

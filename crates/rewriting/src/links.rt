@@ -6,9 +6,10 @@ use table::words::put_link;
 ghost use mathlib.Core.Path.{_≡_};
 ghost use Prim.Native.Nat.{_+_, _*_, _-_, _≤_, _<_};
 ghost use lib.ListN.{length};
-ghost use Rattle.model.specs.Map.{tableOf};
+ghost use Rattle.model.specs.Map.{Link, view, tableOf};
 ghost use Rattle.model.specs.Edit.{edited};
 ghost use Rattle.table.specs.Words.{Sized};
+ghost use Rattle.table.specs.Writes.{withField};
 ghost use Rattle.orbit.specs.Store.{dartAt};
 ghost use Rattle.orbit.specs.At.{site};
 ghost use Rattle.rewriting.specs.Links.{placeBy, overwritten, followed, relinked, changed, Changed};
@@ -41,8 +42,8 @@ fn join(
     requires { ⌜ HoldsSlots slots (now store) from size ⌝ }
     requires { ⌜ (to + size ≤ length (now store)) × (i ≤ 3) ⌝ }
     requires { ⌜ (16 ≤ code → Turnable slots (now store) size (code - 16)) ⌝ }
-    ensures { λ _. ⌜ now (table .exit) ≡ overwritten i (dartAt (now (store .entry)) from)
-        (λ r. dartAt (now (store .entry)) to (placeBy slots (now (store .entry)) code r)) size (now (table .entry)) ⌝ }
+    ensures { λ _. ⌜ view slots (now (table .exit)) ≡ withField (view slots (now (table .entry))) (Link i) (overwritten (dartAt (now (store .entry)) from)
+        (λ r. dartAt (now (store .entry)) to (placeBy slots (now (store .entry)) code r)) size (view slots (now (table .entry)) .link i)) ⌝ }
 {
     let mut r = 0;
     while r < size {
@@ -68,8 +69,8 @@ fn follow(
     requires { ⌜ HoldsSlots slots (now store) base size ⌝ }
     requires { ⌜ Legible slots (now store) size (now cols) code ⌝ }
     requires { ⌜ i ≤ 3 ⌝ }
-    ensures { λ _. ⌜ now (table .exit) ≡ followed slots (now (store .entry)) size (now (cols .entry))
-        i base code (now (table .entry)) ⌝ }
+    ensures { λ _. ⌜ view slots (now (table .exit)) ≡ withField (view slots (now (table .entry))) (Link i)
+        (followed slots (now (store .entry)) size (now (cols .entry)) base code (view slots (now (table .entry)) .link i)) ⌝ }
 {
     if code < 16 {
         join(slots, table, store, size, i, base, cols[code], code);
@@ -91,8 +92,8 @@ fn relink(
     requires { ⌜ Sized slots (now table) ⌝ }
     requires { ⌜ Columns slots (now store) size c (now cols) ⌝ }
     requires { ⌜ Codes slots (now store) size (now codes) c (now cols) ⌝ }
-    ensures { λ _. ⌜ now (table .exit) ≡ relinked slots (now (store .entry)) size (now (cols .entry))
-        (now (codes .entry)) (4 * c) (now (table .entry)) ⌝ }
+    ensures { λ _. ⌜ view slots (now (table .exit)) ≡ relinked slots (now (store .entry)) size (now (cols .entry))
+        (now (codes .entry)) (4 * c) (view slots (now (table .entry))) ⌝ }
 {
     let mut k = 0;
     while k < 4 * c {
@@ -143,8 +144,9 @@ pub fn rewrite(
     c: usize,
     cols: &[usize; 16],
 )
-    requires { ⌜ BeforeRewriting slots (now table) (now store) size (now lefts) (now rights) c (now cols) ⌝ }
-    ensures { λ _. ⌜ ((R : BeforeRewriting slots (now (table .entry)) (now (store .entry)) size (now (lefts .entry))
+    requires { ⌜ Sized slots (now table) ⌝ }
+    requires { ⌜ BeforeRewriting slots (view slots (now table)) (now store) size (now lefts) (now rights) c (now cols) ⌝ }
+    ensures { λ _. ⌜ ((R : BeforeRewriting slots (view slots (now (table .entry))) (now (store .entry)) size (now (lefts .entry))
         (now (rights .entry)) c (now (cols .entry)))
         → now (table .exit) ≡ tableOf (edited (site (R .at)))) ⌝ }
 {

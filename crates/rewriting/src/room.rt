@@ -5,6 +5,7 @@ use table::words::tag;
 ghost use mathlib.Core.Path.{_≡_};
 ghost use Prim.Native.Nat.{_+_, _*_, _≤_};
 ghost use lib.ListN.{length};
+ghost use Rattle.model.specs.Map.{view};
 ghost use Rattle.table.specs.Words.{Sized};
 ghost use Rattle.orbit.specs.Store.{dartAt};
 ghost use Rattle.rewriting.specs.Darts.{HoldsSlots};
@@ -15,7 +16,7 @@ fn note(slots: usize, table: &[u32], store: &mut [u32], size: usize, from: usize
     requires { ⌜ Sized slots (now table) ⌝ }
     requires { ⌜ HoldsSlots slots (now store) from size ⌝ }
     requires { ⌜ (from + size ≤ to) × (to + size ≤ length (now store)) ⌝ }
-    ensures { λ _. ⌜ Noted slots (now (table .entry)) (now (store .entry)) from to size (now (store .exit)) ⌝ }
+    ensures { λ _. ⌜ Noted (view slots (now (table .entry)) .tag) (now (store .entry)) from to size (now (store .exit)) ⌝ }
 {
     let mut r = 0;
     while r < size {
@@ -38,8 +39,8 @@ fn gather(
 )
     requires { ⌜ Sized slots (now table) ⌝ }
     requires { ⌜ Donating slots (now store) size (now added) many (now donors) (now cols) ⌝ }
-    ensures { λ _. ⌜ Gathered slots (now (table .entry)) (now (store .entry)) size (now (added .entry)) many (now (donors .entry)) (now (cols .entry))
-        (now (store .exit)) ⌝ }
+    ensures { λ _. ⌜ Gathered slots (view slots (now (table .entry)) .tag) (now (store .entry)) size (now (added .entry)) many
+        (now (donors .entry)) (now (cols .entry)) (now (store .exit)) ⌝ }
 {
     let mut a = 0;
     while a < many {
@@ -54,7 +55,7 @@ fn gather(
 fn erase(slots: usize, table: &mut [u32], store: &[u32], size: usize, base: usize)
     requires { ⌜ Sized slots (now table) ⌝ }
     requires { ⌜ HoldsSlots slots (now store) base size ⌝ }
-    ensures { λ _. ⌜ now (table .exit) ≡ erased (dartAt (now (store .entry)) base) size (now (table .entry)) ⌝ }
+    ensures { λ _. ⌜ view slots (now (table .exit)) ≡ erased (dartAt (now (store .entry)) base) size (view slots (now (table .entry))) ⌝ }
 {
     let mut r = 0;
     while r < size {
@@ -76,8 +77,8 @@ fn clear(
 )
     requires { ⌜ Sized slots (now table) ⌝ }
     requires { ⌜ DeletedColumns slots (now store) size (now kinds) c (now cols) ⌝ }
-    ensures { λ _. ⌜ now (table .exit) ≡ cleared (now (store .entry)) size (now (cols .entry))
-        (now (kinds .entry)) c (now (table .entry)) ⌝ }
+    ensures { λ _. ⌜ view slots (now (table .exit)) ≡ cleared (now (store .entry)) size (now (cols .entry))
+        (now (kinds .entry)) c (view slots (now (table .entry))) ⌝ }
 {
     let mut v = 0;
     while v < c {
@@ -101,10 +102,11 @@ pub fn prepare(
     c: usize,
     cols: &[usize; 16],
 )
-    requires { ⌜ BeforeRoom slots (now table) (now store) size (now added) many (now donors) (now kinds) c (now cols) ⌝ }
-    ensures { λ _. ⌜ ((R : BeforeRoom slots (now (table .entry)) (now (store .entry)) size (now (added .entry)) many (now (donors .entry))
+    requires { ⌜ Sized slots (now table) ⌝ }
+    requires { ⌜ BeforeRoom (view slots (now table)) (now store) size (now added) many (now donors) (now kinds) c (now cols) ⌝ }
+    ensures { λ _. ⌜ ((R : BeforeRoom (view slots (now (table .entry))) (now (store .entry)) size (now (added .entry)) many (now (donors .entry))
         (now (kinds .entry)) c (now (cols .entry)))
-        → Roomy (R .at) (now (store .entry)) size (now (cols .entry)) (now (table .exit)) (now (store .exit))) ⌝ }
+        → Roomy (R .at) (now (store .entry)) size (now (cols .entry)) (view slots (now (table .exit))) (now (store .exit))) ⌝ }
 {
     gather(slots, table, store, size, added, many, donors, cols);
     clear(slots, table, store, size, kinds, c, cols);

@@ -11,6 +11,7 @@ ghost use mathlib.Core.Path.{_≡_};
 ghost use Prim.Native.Nat.{_+_, _*_, _<_};
 ghost use lib.ListN.{length};
 ghost use Rattle.base.specs.Below.{countBelow};
+ghost use Rattle.model.specs.Map.{view};
 ghost use Rattle.table.specs.Words.{Sized};
 ghost use Rattle.orbit.specs.At.{site};
 ghost use Rattle.rewriting.specs.Slots.{Room, Lowest, revived, Apart, ColumnsBegin, Turn, Granting};
@@ -22,8 +23,8 @@ const DIGITS: usize = MAX_SLOTS as usize / 64;
 // The lowest unused slot from `from` on. Four slots a turn: in a full table this scan is most of what an added dart costs.
 fn lowest(slots: usize, table: &[u32], from: usize) -> usize
     requires { ⌜ Sized slots (now table) ⌝ }
-    requires { ⌜ Room slots (now table) from ⌝ }
-    ensures { λ r. ⌜ Lowest slots (now (table .entry)) from r ⌝ }
+    requires { ⌜ Room slots (view slots (now table) .state) from ⌝ }
+    ensures { λ r. ⌜ Lowest slots (view slots (now (table .entry)) .state) from r ⌝ }
 {
     let mut y = from;
     while state(slots, table, y) != 0 {
@@ -45,7 +46,7 @@ fn lowest(slots: usize, table: &[u32], from: usize) -> usize
 fn revive(slots: usize, table: &mut [u32], y: usize, v: u32)
     requires { ⌜ Sized slots (now table) ⌝ }
     requires { ⌜ y < slots ⌝ }
-    ensures { λ _. ⌜ now (table .exit) ≡ revived (now (table .entry)) y v ⌝ }
+    ensures { λ _. ⌜ view slots (now (table .exit)) ≡ revived (view slots (now (table .entry))) y v ⌝ }
 {
     put_state(slots, table, y, 1);
     put_link(slots, table, 3, y, y as u32);
@@ -63,9 +64,11 @@ fn row(
     r: usize,
     free: usize,
 ) -> usize
-    requires { ⌜ Turn slots (now table) (now store) size many r free ⌝ }
-    ensures { λ f. ⌜ ((T : Turn slots (now (table .entry)) (now (store .entry)) size many r free)
-        → Granting (T .at) (T .store) size (countBelow (T .dart) (site (T .at) .orbit) * many + many) f (now (table .exit)) (now (store .exit))) ⌝ }
+    requires { ⌜ Sized slots (now table) ⌝ }
+    requires { ⌜ Turn slots (view slots (now table)) (now store) size many r free ⌝ }
+    ensures { λ f. ⌜ ((T : Turn slots (view slots (now (table .entry))) (now (store .entry)) size many r free)
+        → Granting (T .at) (T .store) size (countBelow (T .dart) (site (T .at) .orbit) * many + many) f
+        (view slots (now (table .exit))) (now (store .exit))) ⌝ }
 {
     let mut from = free;
     let mut base = 2 * slots;
@@ -122,9 +125,11 @@ fn block(
     digits: u64,
     free: usize,
 ) -> usize
-    requires { ⌜ Block slots (now table) (now store) size many w digits free ⌝ }
-    ensures { λ f. ⌜ ((B : Block slots (now (table .entry)) (now (store .entry)) size many w digits free)
-        → Granting (B .at) (B .store) size (countBelow (64 * w + 64) (site (B .at) .orbit) * many) f (now (table .exit)) (now (store .exit))) ⌝ }
+    requires { ⌜ Sized slots (now table) ⌝ }
+    requires { ⌜ Block slots (view slots (now table)) (now store) size many w digits free ⌝ }
+    ensures { λ f. ⌜ ((B : Block slots (view slots (now (table .entry))) (now (store .entry)) size many w digits free)
+        → Granting (B .at) (B .store) size (countBelow (64 * w + 64) (site (B .at) .orbit) * many) f
+        (view slots (now (table .exit))) (now (store .exit))) ⌝ }
 {
     let mut rest = digits;
     let mut from = free;
@@ -148,9 +153,10 @@ pub fn give(
     many: usize,
     cols: &mut [usize; 16],
 )
-    requires { ⌜ BeforeGiving slots (now table) (now store) size (now added) many (now cols) ⌝ }
-    ensures { λ _. ⌜ ((R : BeforeGiving slots (now (table .entry)) (now (store .entry)) size (now (added .entry)) many (now (cols .entry)))
-        → Granted (site (R .at)) (R .before) (now (store .entry)) (now (table .exit)) (now (store .exit)) (now (cols .exit)) size) ⌝ }
+    requires { ⌜ Sized slots (now table) ⌝ }
+    requires { ⌜ BeforeGiving slots (view slots (now table)) (now store) size (now added) many (now cols) ⌝ }
+    ensures { λ _. ⌜ ((R : BeforeGiving slots (view slots (now (table .entry))) (now (store .entry)) size (now (added .entry)) many (now (cols .entry)))
+        → Granted (site (R .at)) (now (store .entry)) (view slots (now (table .exit))) (now (store .exit)) (now (cols .exit)) size) ⌝ }
 {
     if many == 0 {
         return;

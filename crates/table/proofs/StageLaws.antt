@@ -1,4 +1,4 @@
--- A loop over a table, step by step: what it has done is what its steps so far make of the table.
+-- A loop over a table, step by step: what it has done is what its steps so far make of what is seen in the table, be it the words or the map.
 -- Assumes nothing.
 use Prim.Native.Nat.{ℕ, _+_, _≤_, _<_}
 use mathlib.Core.Path.{_≡_, refl, sym, ap, _∙_}
@@ -9,29 +9,30 @@ use Rattle.base.specs.Steps.{steps}
 use Rattle.base.proofs.StepLaws.{steps-step}
 use Rattle.table.specs.Words.{Sized}
 
--- the table t after i of `end` steps from t₀
-pub record Stage (N : ℕ) (t₀ : List ℕ) (f : ℕ → List ℕ → List ℕ) (end i : ℕ) (t : List ℕ) : Type 0 where
-  pub fits : i ≤ end
-  pub sized : Sized N t
-  pub made : t ≡ steps i f t₀
+module _ {A : Type 0} where
+  -- the table t after i of `end` steps from t₀
+  pub record Stage (N : ℕ) (see : List ℕ → A) (t₀ : List ℕ) (f : ℕ → A → A) (end i : ℕ) (t : List ℕ) : Type 0 where
+    pub fits : i ≤ end
+    pub sized : Sized N t
+    pub made : see t ≡ steps i f (see t₀)
 
-module _ {N : ℕ} {t₀ : List ℕ} {f : ℕ → List ℕ → List ℕ} {end : ℕ} where
-  pub stage-none : Sized N t₀ → Stage N t₀ f end 0 t₀
-  unfolding steps
-  stage-none s = record { fits = omega arith; sized = s; made = refl }
+  module _ {N : ℕ} {see : List ℕ → A} {t₀ : List ℕ} {f : ℕ → A → A} {end : ℕ} where
+    pub stage-none : Sized N t₀ → Stage N see t₀ f end 0 t₀
+    unfolding steps
+    stage-none s = record { fits = omega arith; sized = s; made = refl }
 
-  module _ {i : ℕ} {t : List ℕ} (g : Stage N t₀ f end i t) where
-    pub stage-more : {t′ : List ℕ} → i < end → length t′ ≡ length t → t′ ≡ f i t → Stage N t₀ f end (i + 1) t′
-    stage-more h l e = record {
-      fits = omega arith;
-      sized = record { few = g .sized .few; long = l ∙ g .sized .long };
-      made = e ∙ ap (f i) (g .made) ∙ sym (steps-step f i t₀);
-    }
+    module _ {i : ℕ} {t : List ℕ} (g : Stage N see t₀ f end i t) where
+      pub stage-more : {t′ : List ℕ} → i < end → length t′ ≡ length t → see t′ ≡ f i (see t) → Stage N see t₀ f end (i + 1) t′
+      stage-more h l e = record {
+        fits = omega arith;
+        sized = record { few = g .sized .few; long = l ∙ g .sized .long };
+        made = e ∙ ap (f i) (g .made) ∙ sym (steps-step f i (see t₀));
+      }
 
-    pub stage-length : Sized N t₀ → length t ≡ length t₀
-    stage-length s = g .sized .long ∙ sym (s .long)
+      pub stage-length : Sized N t₀ → length t ≡ length t₀
+      stage-length s = g .sized .long ∙ sym (s .long)
 
-    pub stage-done : end ≤ i → t ≡ steps end f t₀
-    stage-done h =
-        let same : i ≡ end = omega (arith, g .fits) in
-        g .made ∙ ap (λ (k : ℕ). steps k f t₀) same
+      pub stage-done : end ≤ i → see t ≡ steps end f (see t₀)
+      stage-done h =
+          let same : i ≡ end = omega (arith, g .fits) in
+          g .made ∙ ap (λ (k : ℕ). steps k f (see t₀)) same

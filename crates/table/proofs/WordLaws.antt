@@ -16,6 +16,10 @@ use Rattle.table.specs.Words.{Sized, blanked}
 pub put-sized : (t : List ℕ) (f : Field) (x v N : ℕ) → Sized N t → Sized N (put t f x v)
 put-sized t f x v N s = record { few = s .few; long = length-put t f x v ∙ s .long }
 
+-- a table of the same length
+pub sized-same : {N : ℕ} {t t′ : List ℕ} → Sized N t → length t′ ≡ length t → Sized N t′
+sized-same s e = record { few = s .few; long = e ∙ s .long }
+
 -- ---- a record of zeros
 
 module _ (N x : ℕ) where

@@ -36,19 +36,19 @@ orbits-requires : tie.Need-orbits-requires
 orbits-requires c κs =
     let w = c .before in
     let p = start w .pre in
-    (kind-ready _ _ _ (p .0) (p .1 .0) (p .1 .1 .0) vertexLinks 0 vertices-listed (w .wide .ensures), omega arith)
+    (p .1 .0, (kind-ready _ _ (p .0) (p .1 .1 .0) vertexLinks 0 vertices-listed (w .wide .ensures), omega arith))
 
 orbits-requires-2 : tie.Need-orbits-requires-2
 orbits-requires-2 c κs =
     let w = first (c .before .before .before) in
     let p = start w .pre in
-    (kind-ready _ _ _ (p .0) (p .1 .0) (p .1 .1 .0) edgeLinks 1 edges-listed (w .wide .ensures), omega arith)
+    (p .1 .0, (kind-ready _ _ (p .0) (p .1 .1 .0) edgeLinks 1 edges-listed (w .wide .ensures), omega arith))
 
 orbits-requires-3 : tie.Need-orbits-requires-3
 orbits-requires-3 c κs =
     let w = first (second (c .before .before .before)) in
     let p = start w .pre in
-    (kind-ready _ _ _ (p .0) (p .1 .0) (p .1 .1 .0) faceLinks 2 faces-listed (w .wide .ensures), omega arith)
+    (p .1 .0, (kind-ready _ _ (p .0) (p .1 .1 .0) faceLinks 2 faces-listed (w .wide .ensures), omega arith))
 
 add-orbits : tie.Need-add-orbits
 add-orbits c = search needs
@@ -57,7 +57,7 @@ orbits-requires-4 : tie.Need-orbits-requires-4
 orbits-requires-4 c κs =
     let w = first (second (third (c .before .before .before))) in
     let p = start w .pre in
-    (pieces-ready _ _ _ (p .0) (p .1 .0) (p .1 .1 .0) (w .wide .ensures), omega arith)
+    (p .1 .0, (pieces-ready _ _ (p .0) (p .1 .1 .0) (w .wide .ensures), omega arith))
 
 volumes-requires : tie.Need-volumes-requires
 volumes-requires c κs =
@@ -83,7 +83,7 @@ returns c =
     let o1 = second o2 in
     let w = first o1 in
     let p = start w .pre in
-    counts-are _ _ _ (p .0) (p .1 .0) (p .1 .1 .0) (w .wide .ensures) (p .1 .1 .1 .0) (o1 .orbits .ensures) (o2 .orbits2 .ensures) (o3 .orbits3 .ensures)
+    counts-are _ _ (p .0) (p .1 .1 .0) (w .wide .ensures) (p .1 .1 .1 .0) (o1 .orbits .ensures) (o2 .orbits2 .ensures) (o3 .orbits3 .ensures)
     (o4 .orbits4 .ensures) (o5 .volumes .ensures)
 
 pub count-spec : {M : Type 1} → statement M

@@ -15,7 +15,7 @@ walks-requires : tie.Need-walks-requires
 walks-requires c κs =
     let t = c .before in
     let s = t .before .before .before in
-    (subst (BeforeWalking (s .args .slots) (now (s .args .table)) (s .args .dims)) (t .if1 .taken) (s .pre .0), s .pre .1)
+    (s .pre .0, (subst (BeforeWalking (view (s .args .slots) (now (s .args .table))) (s .args .dims)) (t .if1 .taken) (s .pre .1 .0), s .pre .1 .1))
 
 returns : tie.Need-returns
 returns c =
@@ -28,7 +28,7 @@ walks-requires-2 : tie.Need-walks-requires-2
 walks-requires-2 c κs =
     let t = c .before in
     let s = t .before .before .before .before in
-    (subst (BeforeWalking (s .args .slots) (now (s .args .table)) (s .args .dims)) (t .if2 .taken) (s .pre .0), s .pre .1)
+    (s .pre .0, (subst (BeforeWalking (view (s .args .slots) (now (s .args .table))) (s .args .dims)) (t .if2 .taken) (s .pre .1 .0), s .pre .1 .1))
 
 returns-2 : tie.Need-returns-2
 returns-2 c =

@@ -21,7 +21,7 @@ orbits-requires : tie.Need-orbits-requires
 orbits-requires c κs =
     let w = c .before in
     let p = w .before .before .before .before .pre in
-    (kind-ready _ _ _ (p .0) (p .1 .0) (p .1 .1 .0) allLinks 3 volumes-listed (w .wide .ensures), p .1 .1 .1)
+    (p .1 .0, (kind-ready _ _ (p .0) (p .1 .1 .0) allLinks 3 volumes-listed (w .wide .ensures), p .1 .1 .1))
 
 same-length : tie.Need-same-length
 same-length c = search needs
@@ -31,7 +31,7 @@ returns-2 c =
     let o = c .before .before in
     let w = o .before .before in
     let p = w .before .before .before .before .pre in
-    volumes-some _ _ (three (w .before)) (kind-cells _ _ _ (p .0) (p .1 .0) (p .1 .1 .0) allLinks 3 volumes-listed (w .wide .ensures) (o .orbits .ensures))
+    volumes-some _ _ (three (w .before)) (kind-cells _ _ (p .0) (p .1 .1 .0) allLinks 3 volumes-listed (w .wide .ensures) (o .orbits .ensures))
 
 pub volumes-spec : {M : Type 1} → statement M
 volumes-spec = tie.close (tie.spec returns wide-requires orbits-requires same-length returns-2)

@@ -25,23 +25,24 @@ unmark-requires c κs = omega arith
 loop-holds : tie.Need-loop-holds Inv-loop μ-loop
 loop-holds c =
     let u = c .before .before in
-    counting-none _ _ _ _ _ (u .before .before .before .before .pre .1) (u .unmark .ensures)
+    counting-none _ _ _ _ _ (u .before .before .before .before .pre .1 .1) (u .unmark .ensures)
 
 fresh-requires : tie.Need-fresh-requires Inv-loop μ-loop
 fresh-requires c κs =
     let l = c .before .before in
-    (start l .pre .0 .sized, (l .loop .inv .taken .long, c .before .loop-test .taken))
+    (start l .pre .0, (l .loop .inv .taken .long, c .before .loop-test .taken))
 
 walk-requires : tie.Need-walk-requires Inv-loop μ-loop
 walk-requires c κs =
     let f = c .before .before in
     let t = f .before .before in
-    let r = start (t .before) .pre .0 in
+    let s = start (t .before) .pre in
+    let r = s .1 .0 in
     let v = t .before .loop .inv in
     let h = t .loop-test .taken in
     let e = sym (f .fresh .ensures) ∙ c .before .if1 .taken in (
-      r,
-      ((h, fresh-live _ _ _ (r .n) (r .well) (r .dim) _ _ _ _ v h e), counting-begun _ _ _ (r .n) (r .well) (r .dim) _ _ _ _ v h e),
+      s .0,
+      (r, ((h, fresh-live _ _ _ (r .n) (r .well) (r .dim) _ _ _ _ v h e), counting-begun _ _ _ (r .n) (r .well) (r .dim) _ _ _ _ v h e)),
     )
 
 add-found : tie.Need-add-found Inv-loop μ-loop
@@ -57,7 +58,7 @@ loop-again : tie.Need-loop-again Inv-loop μ-loop
 loop-again c =
     let f = c .before in
     let t = f .before .before in
-    let r = start (t .before) .pre .0 in
+    let r = start (t .before) .pre .1 .0 in
     let v = t .before .loop .inv in
     let h = t .loop-test .taken in
     ⊎-elim

@@ -4,6 +4,7 @@ use mathlib.Core.Path.{refl, _∙_}
 use borrow.Author.Needs.{needs}
 use borrow.Author.Tests.{not-true, not-false}
 use denote.Ref.{now}
+use Rattle.model.specs.Map.{view}
 use Rattle.orbit.specs.At.{At}
 use Rattle.orbit.proofs.StoreLaws.{unmarked-blank}
 use Rattle.orbit.proofs.WalkLaws.{blank-begun}
@@ -26,8 +27,8 @@ abbrev counted : tie.After-cols2 → tie.After-wide2
 counted e = e .before .before .before .before .before .before .before .before
 
 -- the site
-abbrev here : (b : tie.Start) → At (b .args .slots) (now (b .args .table))
-here b = at-site (b .pre .0) (b .pre .1 .0)
+abbrev here : (b : tie.Start) → At (view (b .args .slots) (now (b .args .table)))
+here b = at-site (b .pre .0 .few) (b .pre .1 .0)
 
 unmark-requires : tie.Need-unmark-requires
 unmark-requires c κs = search needs
@@ -41,8 +42,11 @@ walk-requires c κs =
     let u = w .before .before .before in
     let b = u .before .before .before .before in
     let d = b .pre .1 .0 .dart in (
-      rw (w .wide .ensures .0) (walk-ready (here b)),
-      ((d .slot, d .alive), rw (u .unmark .ensures) (blank-begun _ _ _ _ _ (unmarked-blank _ _ (b .pre .1 .1 .1 .1)) (d .slot))),
+      b .pre .0,
+      (
+        rw (w .wide .ensures .0) (walk-ready (here b)),
+        ((d .slot, d .alive), rw (u .unmark .ensures) (blank-begun _ _ _ _ _ (unmarked-blank _ _ (b .pre .1 .1 .1 .1)) (d .slot))),
+      ),
     )
 
 assign-requires : tie.Need-assign-requires
@@ -50,7 +54,7 @@ assign-requires c κs =
     let l = walk-done c in
     let b = start l in
     let w = walking (here b) (places l .wide .ensures .0) (l .walk .ensures .1 refl) (l .walk .ensures .0 .taken) in
-    match-ready (here b) w (b .pre .1 .1 .0) (places l .wide .ensures .0) _ refl
+    (b .pre .0, match-ready (here b) w (b .pre .1 .1 .0) (places l .wide .ensures .0) _ refl)
 
 returns : tie.Need-returns
 returns c =
@@ -73,8 +77,8 @@ settle-requires c κs =
     let b = start l in
     let p = b .pre .1 .1 in
     let w = walking (here b) (places l .wide .ensures .0) (l .walk .ensures .1 refl) (l .walk .ensures .0 .taken) in
-    settle-ready (here b) w (p .0) (a .assign .ensures .at (match-ready (here b) w (p .0) (places l .wide .ensures .0) _ refl)) (not-false _ (e .if1 .left))
-    (n .wide2 .ensures .0) (p .1 .0)
+    let m = a .assign .ensures .at (match-ready (here b) w (p .0) (places l .wide .ensures .0) _ refl) in
+    (b .pre .0, settle-ready (here b) w (p .0) m (not-false _ (e .if1 .left)) (n .wide2 .ensures .0) (p .1 .0))
 
 same-length-4 : tie.Need-same-length-4
 same-length-4 c =

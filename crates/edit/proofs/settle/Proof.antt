@@ -1,9 +1,11 @@
 -- `edit::settle` meets its contract.
 -- Assumes nothing.
 use Prim.Native.Nat.{_*_, _≤_}
+use mathlib.Core.Path.{_∙_}
 use native.Mathlib.Omega.{arith}
 use borrow.Author.Needs.{needs}
 use Rattle.model.specs.Map.{maxSlots}
+use Rattle.table.proofs.WordLaws.{sized-same}
 use Rattle.edit.proofs.ApplyLaws.{room-few, pairs-few, no-room, room-ready, give-ready, link-ready, done}
 use Rattle.edit.proofs.settle.Statement.{statement}
 use Rattle.edit.proofs.settle.Tie as tie
@@ -13,10 +15,10 @@ abbrev start : tie.After-of-kind2 → tie.Start
 start k = k .before .before .before .before
 
 new-few : (k : tie.After-of-kind2) → (start k .args .size ≤ maxSlots) × (start k .args .size * k .of-kind2 .result .size ≤ 16 * maxSlots)
-new-few k = pairs-few (start k .pre) (k .of-kind2 .ensures .listed)
+new-few k = pairs-few (start k .pre .1) (k .of-kind2 .ensures .listed)
 
 gone-few : (k : tie.After-of-kind2) → (start k .args .size ≤ maxSlots) × (start k .args .size * k .before .of-kind .result .size ≤ 16 * maxSlots)
-gone-few k = pairs-few (start k .pre) (k .before .of-kind .ensures .listed)
+gone-few k = pairs-few (start k .pre .1) (k .before .of-kind .ensures .listed)
 
 -- the places passed on the way to the last call
 abbrev room-left : tie.After-prepare → tie.Else1
@@ -41,7 +43,7 @@ mul-if1 : tie.Need-mul-if1
 mul-if1 c = record { fits = omega (arith, gone-few (c .before)) }
 
 add-if1 : tie.Need-add-if1
-add-if1 c = record { fits = omega (arith, gone-few (c .before), room-few (start (c .before) .pre)) }
+add-if1 c = record { fits = omega (arith, gone-few (c .before), room-few (start (c .before) .pre .1)) }
 
 mul-if1-2 : tie.Need-mul-if1-2
 mul-if1-2 c = record { fits = omega (arith, new-few (c .before)) }
@@ -53,17 +55,17 @@ prepare-requires : tie.Need-prepare-requires
 prepare-requires c κs =
     let e = c .before .before .before .before .before in
     let k = e .before .before in
-    room-ready (start k .pre) (k .of-kind2 .ensures .listed) (k .before .of-kind .ensures .listed) (e .if1 .left)
+    (start k .pre .0, room-ready (start k .pre .1) (k .of-kind2 .ensures .listed) (k .before .of-kind .ensures .listed) (e .if1 .left))
 
 give-requires : tie.Need-give-requires
 give-requires c κs =
     let p = c .before .before .before .before .before .before .before .before .before in
     let e = room-left p in
     let k = e .before .before in
-    let P = start k .pre in
+    let P = start k .pre .1 in
     let n = k .of-kind2 .ensures .listed in
     let o = k .before .of-kind .ensures .listed in
-    give-ready P n o (e .if1 .left) (p .prepare .ensures (room-ready P n o (e .if1 .left)))
+    (sized-same (start k .pre .0) (p .prepare .kept .1 .0), give-ready P n o (e .if1 .left) (p .prepare .ensures (room-ready P n o (e .if1 .left))))
 
 rewrite-requires : tie.Need-rewrite-requires
 rewrite-requires c κs =
@@ -71,11 +73,13 @@ rewrite-requires c κs =
     let p = prepared g in
     let e = room-left p in
     let k = e .before .before in
-    let P = start k .pre in
+    let P = start k .pre .1 in
     let n = k .of-kind2 .ensures .listed in
     let o = k .before .of-kind .ensures .listed in
-    let r = p .prepare .ensures (room-ready P n o (e .if1 .left)) in
-    link-ready P n o (e .if1 .left) r (g .give .ensures (give-ready P n o (e .if1 .left) r))
+    let r = p .prepare .ensures (room-ready P n o (e .if1 .left)) in (
+      sized-same (start k .pre .0) (g .give .kept .1 .0 ∙ p .prepare .kept .1 .0),
+      link-ready P n o (e .if1 .left) r (g .give .ensures (give-ready P n o (e .if1 .left) r)),
+    )
 
 cast-t39 : tie.Need-cast-t39
 cast-t39 c = record { fits = omega (arith, new-few (listed (given (c .before .before)))) }

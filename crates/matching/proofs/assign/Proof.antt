@@ -17,7 +17,7 @@ columns-requires c κs =
     let e = c .before .before in
     let h = e .before .before .before in
     let p = h .before .before .before .before .pre in
-    (p .colsLong, ready p (h .opposite .ensures) (not-false _ (e .if1 .left)))
+    (p .0, (p .1 .colsLong, ready (p .1) (h .opposite .ensures) (not-false _ (e .if1 .left))))
 
 returns-2 : tie.Need-returns-2
 returns-2 c =
@@ -36,7 +36,7 @@ arcs-requires c κs =
     let e = k .before .before .before in
     let h = e .before .before .before in
     let p = h .before .before .before .before .pre in
-    firm (ready p (h .opposite .ensures) (not-false _ (e .if1 .left))) (k .columns .ensures .done (not-false _ (f .if2 .left))) (p .coded)
+    (p .0, firm (ready (p .1) (h .opposite .ensures) (not-false _ (e .if1 .left))) (k .columns .ensures .done (not-false _ (f .if2 .left))) (p .1 .coded))
 
 returns-3 : tie.Need-returns-3
 returns-3 c =

@@ -28,14 +28,14 @@ unfolding place
 x-is c = c .word .ensures
 
 x-slot : (c : tie.After-word Inv-loop μ-loop) → c .word .result < start c .args .slots
-x-slot c = let b = start c in let a = b .args in omega (arith, x-is c, b .pre .1 .0 .slot (a .head) (b .pre .1 .1 .0))
+x-slot c = let b = start c in let a = b .args in omega (arith, x-is c, b .pre .1 .1 .0 .slot (a .head) (b .pre .1 .1 .1 .0))
 
 -- in the loop: the position is one of the orbit type; its dimension, and the dart to which that link leads
 position : (c : tie.Else1 Inv-loop μ-loop) → c .before .before .loop .p < start (c .before .before .before) .args .k
 position c = omega (arith, c .before .before .loop .inv .1, c .if1 .left)
 
 dim-le : (c : tie.Else1 Inv-loop μ-loop) → getD (start (c .before .before .before) .args .t3) (c .before .before .loop .p) 0 ≤ 3
-dim-le c = let r = start (c .before .before .before) .pre .0 in omega (arith, r .dim (c .before .before .loop .p) (position c), r .small)
+dim-le c = let r = start (c .before .before .before) .pre .1 .0 in omega (arith, r .dim (c .before .before .loop .p) (position c), r .small)
 
 y-slot : (c : tie.Else1 Inv-loop μ-loop) → let a = start (c .before .before .before) .args in
     view (a .slots) (now (a .table)) .link (getD (a .t3) (c .before .before .loop .p) 0) (c .before .before .before .word .result) < a .slots
@@ -43,8 +43,8 @@ y-slot c =
     let w = c .before .before .before in
     let b = start w in
     let a = b .args in
-    b .pre .0 .well .below (w .word .result) (x-slot w) (ap (view (a .slots) (now (a .table)) .state) (x-is w) ∙ b .pre .1 .1 .1) _
-    (b .pre .0 .dim (c .before .before .loop .p) (position c))
+    b .pre .1 .0 .well .below (w .word .result) (x-slot w) (ap (view (a .slots) (now (a .table)) .state) (x-is w) ∙ b .pre .1 .1 .1 .1) _
+    (b .pre .1 .0 .dim (c .before .before .loop .p) (position c))
 
 add-word : tie.Need-add-word Inv-loop μ-loop
 add-word c = omega arith
@@ -62,7 +62,7 @@ add-at : tie.Need-add-at Inv-loop μ-loop
 add-at c = omega arith
 
 loop-holds : tie.Need-loop-holds Inv-loop μ-loop
-loop-holds c = (expanded-none _ _ _ _ _ (start c .pre .1 .0), omega arith)
+loop-holds c = (expanded-none _ _ _ _ _ (start c .pre .1 .1 .0), omega arith)
 
 same-length : tie.Need-same-length Inv-loop μ-loop
 same-length c = omega arith
@@ -77,7 +77,7 @@ cast-i : tie.Need-cast-i Inv-loop μ-loop
 cast-i c = omega (arith, dim-le c)
 
 link-requires : tie.Need-link-requires Inv-loop μ-loop
-link-requires c κs = (start (c .before .before .before) .pre .0 .sized, (x-slot (c .before .before .before), dim-le c))
+link-requires c κs = (start (c .before .before .before) .pre .0, (x-slot (c .before .before .before), dim-le c))
 
 add-follow : tie.Need-add-follow Inv-loop μ-loop
 add-follow c = omega arith
@@ -86,7 +86,7 @@ follow-requires : tie.Need-follow-requires Inv-loop μ-loop
 follow-requires c κs =
     let l = c .before .before in
     let b = start (l .before .before .before) in
-    (b .pre .0 .sized .few, (l .before .before .loop .inv .0 .grown .taken, (omega (arith, y-slot l, c .before .link .ensures), omega arith, omega arith)))
+    (b .pre .0 .few, (l .before .before .loop .inv .0 .grown .taken, (omega (arith, y-slot l, c .before .link .ensures), omega arith, omega arith)))
 
 add-p : tie.Need-add-p Inv-loop μ-loop
 add-p c = omega arith
@@ -109,7 +109,7 @@ same-length-2 c = omega arith
 returns-2 : tie.Need-returns-2 Inv-loop μ-loop
 returns-2 c =
     let a = start (c .before .before) in
-    let e : c .before .loop .p ≡ a .args .k = omega (arith, c .before .loop .inv .1, c .loop-test .left, a .pre .0 .few) in
+    let e : c .before .loop .p ≡ a .args .k = omega (arith, c .before .loop .inv .1, c .loop-test .left, a .pre .1 .0 .few) in
     rw (← e) (c .before .loop .inv .0)
 
 pub expand-spec : {M : Type 1} → statement M

@@ -21,25 +21,26 @@ start c = c .before .before .before .before .before .before .before
 push-requires : tie.Need-push-requires Inv-loop μ-loop
 push-requires c κs =
     let p = c .before .before .before .pre in
-    let b = p .1 .1 in
-    (p .0 .sized .few, (b .taken, (p .1 .0 .0, b .free)))
+    let b = p .1 .1 .1 in
+    (p .0 .few, (b .taken, (p .1 .1 .0 .0, b .free)))
 
 add-tail : tie.Need-add-tail Inv-loop μ-loop
 add-tail c = omega arith
 
 loop-holds : tie.Need-loop-holds Inv-loop μ-loop
 loop-holds c =
-    let p = c .before .before .before .before .before .before .pre .1 in
+    let p = c .before .before .before .before .before .before .pre .1 .1 in
     walking-first _ _ _ _ _ _ _ (p .1 .taken) (p .0 .0) (c .before .before .push .ensures)
 
 expand-requires : tie.Need-expand-requires Inv-loop μ-loop
 expand-requires c κs =
     let l = c .before in
     let v = l .before .loop .inv in
-    let p = start (l .before) .pre in
+    let s = start (l .before) .pre in
+    let p = s .1 in
     let r = p .0 in
     let live = walking-live _ _ _ _ _ _ (r .n) (r .well) (r .dim) (p .1 .0 .0) (p .1 .0 .1) _ _ _ _ v (v .begun) (l .loop-test .taken) in
-    (r, (v .taken, (l .loop-test .taken, live)))
+    (s .0, (r, (v .taken, (l .loop-test .taken, live))))
 
 add-head : tie.Need-add-head Inv-loop μ-loop
 add-head c = omega arith
@@ -50,7 +51,7 @@ loop-less c = omega arith
 loop-again : tie.Need-loop-again Inv-loop μ-loop
 loop-again c =
     let l = c .before .before .before .before in
-    walking-more _ _ _ _ _ _ _ _ _ _ _ (start (l .before) .pre .0 .few) (l .loop-test .taken) (l .before .loop .inv) (c .before .before .expand .ensures)
+    walking-more _ _ _ _ _ _ _ _ _ _ _ (start (l .before) .pre .1 .0 .few) (l .loop-test .taken) (l .before .loop .inv) (c .before .before .expand .ensures)
 
 same-length : tie.Need-same-length Inv-loop μ-loop
 same-length c = omega arith
@@ -58,7 +59,7 @@ same-length c = omega arith
 returns : tie.Need-returns Inv-loop μ-loop
 returns c =
     let u = c .before .before .before .before in
-    let p = start (c .before) .pre in
+    let p = start (c .before) .pre .1 in
     let r = p .0 in
     walking-done _ _ _ _ _ _ (r .n) (r .well) (r .dim) (p .1 .0 .0) (p .1 .0 .1) _ (p .1 .1) (u .push .ensures) _ _ _ (c .before .loop .inv)
     (c .loop-test .left)

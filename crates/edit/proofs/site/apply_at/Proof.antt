@@ -32,7 +32,7 @@ lives k = survey-live _ _ _ (k .before .before .before .survey .ensures) _ (k .b
 
 free : (k : tie.After-known-told) → (k .before .found .given .0 .0 ≤ start k .args .slots)
     × (start k .args .slots - k .before .found .given .0 .0 ≡ countBelow (start k .args .slots) (unused (map k)))
-free k = let a = start k .args in unused-left (a .n) (a .slots) (now (a .table)) _ (lives k .0) (lives k .1)
+free k = unused-left (start k .args .n) (map k) _ (lives k .0) (lives k .1)
 
 well : (k : tie.After-known-told) → wellFormed (start k .args .n) (map k) ≡ true
 well k = lives k .0

@@ -12,7 +12,7 @@ use Rattle.matching.proofs.arcs.arc.Tie as tie
 node : (c : tie.After-wide) → c .wide .result < 16
 node c =
     let a = c .before .before .before .before in
-    firm-node _ _ _ _ _ _ _ _ (a .pre .0) _ _ (a .pre .1 .0) (a .pre .1 .1) _ (c .wide .ensures .0)
+    firm-node _ _ _ _ _ _ _ (a .pre .1 .0) _ _ (a .pre .1 .1 .0) (a .pre .1 .1 .1) _ (c .wide .ensures .0)
 
 element-copy-out-wide : tie.Need-element-copy-out-wide
 element-copy-out-wide c = search needs
@@ -48,9 +48,12 @@ explicit-requires c κs =
     let k = c .before .before .before in
     let w = k .before .before in
     let a = w .before .before .before .before in
-    let f = a .pre .0 in (
-      firm-explicit _ _ _ _ _ _ _ _ f _ _ (a .pre .1 .0) (a .pre .1 .1) _ (w .wide .ensures .0) _ (k .wide2 .ensures .0) (c .if2 .taken),
-      (omega (arith, f .entries), c .if2 .taken),
+    let p = a .pre in (
+      p .0,
+      (
+        firm-explicit _ _ _ _ _ _ _ (p .1 .0) _ _ (p .1 .1 .0) (p .1 .1 .1) _ (w .wide .ensures .0) _ (k .wide2 .ensures .0) (c .if2 .taken),
+        (omega (arith, p .1 .1 .1), omega (arith, p .1 .0 .entries), c .if2 .taken),
+      ),
     )
 
 returns-2 : tie.Need-returns-2
@@ -75,8 +78,10 @@ turned-requires c κs =
     let k = e .before in
     let w = k .before .before in
     let a = w .before .before .before .before in
-    firm-implicit _ _ _ _ _ _ _ _ (a .pre .0) _ _ (a .pre .1 .0) (a .pre .1 .1) _ (w .wide .ensures .0) _ (k .wide2 .ensures .0)
-    (c .before .if2 .left) (e .if1 .left)
+    let p = a .pre in
+    let f = firm-implicit _ _ _ _ _ _ _ (p .1 .0) _ _ (p .1 .1 .0) (p .1 .1 .1) _ (w .wide .ensures .0) _ (k .wide2 .ensures .0)
+    (c .before .if2 .left) (e .if1 .left) in
+    (p .0, (f .0, (omega (arith, p .1 .1 .1), f .1 .0, f .1 .1)))
 
 returns-4 : tie.Need-returns-4
 returns-4 c =

@@ -26,7 +26,7 @@ mul-loop : tie.Need-mul-loop Inv-loop μ-loop
 mul-loop c = search needs
 
 arc-requires : tie.Need-arc-requires Inv-loop μ-loop
-arc-requires c κs = (c .before .before .before .before .pre, (omega arith, omega arith))
+arc-requires c κs = let p = c .before .before .before .before .pre in (p .0, (p .1, (omega arith, omega arith)))
 
 returns : tie.Need-returns Inv-loop μ-loop
 returns c = arcs-stop _ _ _ _ _ _ _ _ _ _ (c .before .arc .ensures) (not-true _ (c .if1 .taken)) _ (c .before .before .loop-test .taken)

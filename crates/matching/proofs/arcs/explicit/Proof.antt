@@ -25,7 +25,7 @@ returns-2 : tie.Need-returns-2
 returns-2 c = explicit-tree _ _ _ _ _ _ _ _ _ _ refl _ (c .before .wide .ensures .0) (c .if2 .taken)
 
 straight-requires : tie.Need-straight-requires
-straight-requires c κs = c .before .before .before .before .before .before .before .pre .0
+straight-requires c κs = let p = c .before .before .before .before .before .before .before .pre in (p .0, (p .1 .0, p .1 .1 .0))
 
 returns-3 : tie.Need-returns-3
 returns-3 c =

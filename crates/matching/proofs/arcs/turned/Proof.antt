@@ -14,13 +14,13 @@ use Rattle.matching.proofs.arcs.turned.Statement.{statement}
 use Rattle.matching.proofs.arcs.turned.Tie as tie
 
 abbrev Inv-loop : tie.InvT-loop
-Inv-loop slots table store size i from p r₀ r = (r ≤ size) × (follows (view slots table) store r i from from (λ q. next slots store q p) ≡ true)
+Inv-loop slots table store size i from p r₀ r = (r ≤ size) × (follows (view slots table .link i) store r from from (λ q. next slots store q p) ≡ true)
 
 abbrev μ-loop : tie.MeasureT-loop
 μ-loop slots table store size i from p r₀ r = size - r
 
 loop-holds : tie.Need-loop-holds Inv-loop μ-loop
-loop-holds c = (omega arith, follows-none _ _ _ _ _ _)
+loop-holds c = (omega arith, follows-none _ _ _ _ _)
 
 mul-word : tie.Need-mul-word Inv-loop μ-loop
 mul-word c = search needs
@@ -46,17 +46,17 @@ word-requires-2 c κs = search needs
 link-requires : tie.Need-link-requires Inv-loop μ-loop
 link-requires c κs =
     let a = c .before .before .before .before .before .before in
-    (a .pre .0 .sized, (dart-read _ _ _ _ _ _ (a .pre .0 .slots) (c .before .before .loop-test .taken) (c .word2 .ensures), omega arith))
+    (a .pre .0, (dart-read _ _ _ _ _ _ (a .pre .1 .0 .slots) (c .before .before .loop-test .taken) (c .word2 .ensures), omega arith))
 
 add-word-4 : tie.Need-add-word-4 Inv-loop μ-loop
 add-word-4 c =
     let a = c .before .before .before .before .before .before .before in
-    omega (arith, turn-below _ _ _ _ _ _ (c .before .before .word .ensures) (a .pre .1 .1) (c .before .before .before .loop-test .taken))
+    omega (arith, turn-below _ _ _ _ _ _ (c .before .before .word .ensures) (a .pre .1 .1 .2) (c .before .before .before .loop-test .taken))
 
 word-requires-3 : tie.Need-word-requires-3 Inv-loop μ-loop
 word-requires-3 c κs =
     let a = c .before .before .before .before .before .before .before in
-    omega (arith, turn-below _ _ _ _ _ _ (c .before .before .word .ensures) (a .pre .1 .1) (c .before .before .before .loop-test .taken))
+    omega (arith, turn-below _ _ _ _ _ _ (c .before .before .word .ensures) (a .pre .1 .1 .2) (c .before .before .before .loop-test .taken))
 
 returns : tie.Need-returns Inv-loop μ-loop
 returns c =
@@ -83,7 +83,7 @@ loop-again c =
 returns-2 : tie.Need-returns-2 Inv-loop μ-loop
 returns-2 c =
     let inv = c .before .loop .inv in
-    follows-done _ _ _ _ _ _ _ _ (inv .0) (c .loop-test .left) (inv .1)
+    follows-done _ _ _ _ _ _ _ (inv .0) (c .loop-test .left) (inv .1)
 
 pub turned-spec : {M : Type 1} → statement M
 turned-spec =

@@ -10,7 +10,7 @@ use Rattle.matching.proofs.columns.column.Statement.{statement}
 use Rattle.matching.proofs.columns.column.Tie as tie
 
 abbrev Inv-loop : tie.InvT-loop
-Inv-loop slots table store₀ i from end size r₀ store r = (r ≤ size) × Column (view slots table) i from store₀ store end r
+Inv-loop slots table store₀ i from end size r₀ store r = (r ≤ size) × Column slots (view slots table .link i) from store₀ store end r
 
 abbrev μ-loop : tie.MeasureT-loop
 μ-loop slots table store₀ i from end size r₀ store r = size - r

@@ -27,29 +27,29 @@ start c = c .before .before .before .before .before
 parent : (c : tie.After-wide Inv-loop μ-loop) → c .wide .result < 16
 parent c =
     let l = c .before .before in
-    parent-fits (start (l .before) .pre .1) (l .loop-test .taken) (l .before .loop .inv .0) (c .wide .ensures .0)
+    parent-fits (start (l .before) .pre .1 .1) (l .loop-test .taken) (l .before .loop .inv .0) (c .wide .ensures .0)
 
 node : (c : tie.After-wide3 Inv-loop μ-loop) → c .wide3 .result < 16
 node c =
     let l = c .before .before .before .before .before .before .before .before .before .before .before .before in
-    node-fits (start (l .before) .pre .1) (l .loop-test .taken) (c .wide3 .ensures .0)
+    node-fits (start (l .before) .pre .1 .1) (l .loop-test .taken) (c .wide3 .ensures .0)
 
 begin-requires : tie.Need-begin-requires Inv-loop μ-loop
 begin-requires c κs =
-    let p = c .before .before .before .pre .1 in
+    let p = c .before .before .before .pre .1 .1 in
     let some = hooks-some p in
-    (p .at .sized .few, p .walked .fits, some, hooks-few p, node-below p _ (omega (arith, p .rooted .some)))
+    (p .at .few, p .walked .fits, some, hooks-few p, node-below p _ (omega (arith, p .rooted .some)))
 
 mul-end : tie.Need-mul-end Inv-loop μ-loop
 mul-end c =
     let s = c .before .before .before .before in
-    let p = s .pre .1 in
-    omega (arith, mul-le-mul-right (s .args .size) (hooks-few p), p .walked .fits, p .at .sized .few)
+    let p = s .pre .1 .1 in
+    omega (arith, mul-le-mul-right (s .args .size) (hooks-few p), p .walked .fits, p .at .few)
 
 loop-holds : tie.Need-loop-holds Inv-loop μ-loop
 loop-holds c =
     let s = c .before .before .before .before in
-    let p = s .pre in
+    let p = s .pre .1 in
     (omega arith, p .1 .rooted .some, refl, rw (c .begin .ensures) (grown-hooks (p .1) (now (s .args .cols)) (p .0) _ refl))
 
 element-copy-out-wide : tie.Need-element-copy-out-wide Inv-loop μ-loop
@@ -75,7 +75,8 @@ column-requires c κs =
     let w = c .before .before .before .before in
     let l = w .before .before in
     let inv = l .before .loop .inv in
-    column-asks (inv .3) (inv .0) (l .loop-test .taken) (w .wide .ensures .0) (c .wide2 .ensures .0) (inv .2) (start (l .before) .pre .1)
+    let p = start (l .before) .pre in
+    (p .0, column-asks (inv .3) (inv .0) (l .loop-test .taken) (w .wide .ensures .0) (c .wide2 .ensures .0) (inv .2) (p .1 .1))
 
 same-length : tie.Need-same-length Inv-loop μ-loop
 same-length c = search needs
@@ -125,7 +126,7 @@ loop-again c =
       omega arith,
       omega arith,
       omega arith,
-      columns-more (inv .3) (inv .0) (l .loop-test .taken) (w .wide .ensures .0) (d .wide2 .ensures .0) (inv .2) (start (l .before) .pre .1)
+      columns-more (inv .3) (inv .0) (l .loop-test .taken) (w .wide .ensures .0) (d .wide2 .ensures .0) (inv .2) (start (l .before) .pre .1 .1)
           _ _ (c .wide3 .ensures .0) _ (k .column .ensures) (not-false _ (e .if1 .left)),
     )
 

@@ -5,6 +5,7 @@ use mathlib.Core.Path.{_≡_}
 use native.Mathlib.Omega.{arith}
 use lib.ListN.{length}
 use borrow.Author.Needs.{needs}
+use Rattle.model.specs.Map.{view}
 use Rattle.orbit.specs.At.{site}
 use Rattle.matching.specs.Opposite.{Longer, Opposed, Retracing}
 use Rattle.matching.proofs.OppositeLaws.{few-positions, x-slot, dim-low, y-slot, q-next, expand-first, expand-more, expand-none, expand-done}
@@ -14,7 +15,7 @@ use Rattle.matching.proofs.opposite.expand.Tie as tie
 abbrev Inv-loop : tie.InvT-loop
 Inv-loop slots table store₀ size dims k head tail x at end₀ p₀ store end p =
     (p ≤ k) × (tail ≤ end) × (length store ≡ 16 * slots)
-    × ((T : Retracing slots table store₀ size dims k head tail)
+    × ((T : Retracing (view slots table) store₀ size dims k head tail)
     → Opposed (site (T .at)) store size (4 * head + p) end × Longer slots store₀ store (size + tail))
 
 abbrev μ-loop : tie.MeasureT-loop
@@ -31,16 +32,16 @@ position : (c : tie.Else1 Inv-loop μ-loop) → loop c .loop .p < start (loop c 
 position c = omega (arith, loop c .loop .inv .0, c .if1 .left)
 
 add-word : tie.Need-add-word Inv-loop μ-loop
-add-word c = let T = c .before .before .before .pre in omega (arith, T .walked .fits, T .at .sized .few)
+add-word c = let T = c .before .before .before .pre .1 in omega (arith, T .walked .fits, T .at .few)
 
 add-word-2 : tie.Need-add-word-2 Inv-loop μ-loop
-add-word-2 c = let T = c .before .before .before .pre in omega (arith, T .walked .fits, T .at .sized .few, T .low)
+add-word-2 c = let T = c .before .before .before .pre .1 in omega (arith, T .walked .fits, T .at .few, T .low)
 
 word-requires : tie.Need-word-requires Inv-loop μ-loop
-word-requires c κs = let T = c .before .before .before .pre in omega (arith, T .walked .fits, T .low, T .opposed .taken .long)
+word-requires c κs = let T = c .before .before .before .pre .1 in omega (arith, T .walked .fits, T .low, T .opposed .taken .long)
 
 loop-holds : tie.Need-loop-holds Inv-loop μ-loop
-loop-holds c = (omega arith, omega arith, start c .pre .opposed .taken .long, λ T. expand-first T)
+loop-holds c = (omega arith, omega arith, start c .pre .1 .opposed .taken .long, λ T. expand-first T)
 
 returns : tie.Need-returns Inv-loop μ-loop
 returns c = λ T.
@@ -52,13 +53,14 @@ link-requires : tie.Need-link-requires Inv-loop μ-loop
 link-requires c κs =
     let e = c .before .before in
     let w = loop e .before in
-    let T = start w .pre in
-    (T .at .sized, (x-slot T _ (w .word .ensures), dim-low T _ (w .word .ensures) _ _ (position e) (c .wide .ensures .0)))
+    let p = start w .pre in
+    let T = p .1 in
+    (p .0, (x-slot T _ (w .word .ensures), dim-low T _ (w .word .ensures) _ _ (position e) (c .wide .ensures .0)))
 
 word-requires-2 : tie.Need-word-requires-2 Inv-loop μ-loop
 word-requires-2 c κs =
     let e = c .before .before .before .before in
-    let T = start (loop e .before) .pre in
+    let T = start (loop e .before) .pre .1 in
     omega (arith, position e, few-positions T, T .low, T .walked .fits, loop e .loop .inv .2)
 
 meet-requires : tie.Need-meet-requires Inv-loop μ-loop
@@ -68,10 +70,10 @@ meet-requires c κs =
     let i = y .before in
     let e = i .before .before in
     let w = loop e .before in
-    let T = start w .pre in
+    let T = start w .pre .1 in
     let v = loop e .loop .inv in
     let O = v .3 T in (
-      T .at .sized .few,
+      T .at .few,
       (
         O .0 .taken,
         (
@@ -107,11 +109,11 @@ loop-again c =
     let e = i .before .before in
     let w = loop e .before in
     let v = loop e .loop .inv in
-    let more : (T : Retracing _ _ _ _ _ _ _ _) → _ = λ T.
+    let more : (T : Retracing _ _ _ _ _ _ _) → _ = λ T.
     let O = v .3 T in
     expand-more T _ (w .word .ensures) _ _ (position e) (i .wide .ensures .0) (O .0) (O .1) (v .1) _ _ (y .link .ensures) (q .word2 .ensures)
     (a .meet .ensures) (c .if2 .left) in
-    let T₀ = start w .pre in
+    let T₀ = start w .pre .1 in
     (omega (arith, position e), more T₀ .0, more T₀ .1 .0 .taken .long, λ T. more T .1)
 
 returns-3 : tie.Need-returns-3 Inv-loop μ-loop

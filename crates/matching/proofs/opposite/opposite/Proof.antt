@@ -13,9 +13,9 @@ returns c = hung-single (c .if1 .taken)
 
 meet-requires : tie.Need-meet-requires
 meet-requires c κs =
-    let R = c .before .before .before .before .pre in
+    let R = c .before .before .before .before .pre .1 in
     let same : c .before .before .before .before .args .size + 0 ≡ c .before .before .before .before .args .size = omega arith in
-    (R .at .sized .few, (rw same (R .taken), (omega (arith, other-slot R), omega arith)))
+    (R .at .few, (rw same (R .taken), (omega (arith, other-slot R), omega arith)))
 
 returns-2 : tie.Need-returns-2
 returns-2 c =
@@ -27,7 +27,8 @@ retrace-requires c κs =
     let e = c .before in
     let a = e .before .before .before in
     let o = a .before .before in
-    ready (o .before .before .before .pre) (o .if1 .left) (a .meet .ensures) (e .if2 .left)
+    let p = o .before .before .before .pre in
+    (p .0, ready (p .1) (o .if1 .left) (a .meet .ensures) (e .if2 .left))
 
 returns-3 : tie.Need-returns-3
 returns-3 c =

@@ -5,6 +5,7 @@ use mathlib.Core.Path.{_≡_, _∙_}
 use native.Mathlib.Omega.{arith}
 use lib.ListN.{length}
 use borrow.Author.Needs.{needs}
+use Rattle.model.specs.Map.{view}
 use Rattle.orbit.specs.At.{site}
 use Rattle.matching.specs.Opposite.{Retracing, Retraced}
 use Rattle.matching.proofs.OppositeLaws.{retrace-first, retracing, retrace-more, retrace-done, retrace-none}
@@ -14,20 +15,20 @@ use Rattle.matching.proofs.opposite.retrace.Tie as tie
 abbrev Inv-loop : tie.InvT-loop
 Inv-loop slots table store₀ size dims k tail end₀ head₀ store end head =
     (head ≤ size) × (1 ≤ end) × (length store ≡ 16 * slots)
-    × ((T : Retracing slots table store₀ size dims k 0 tail) → Retraced (site (T .at)) store₀ store size tail head end)
+    × ((T : Retracing (view slots table) store₀ size dims k 0 tail) → Retraced (site (T .at)) store₀ store size tail head end)
 
 abbrev μ-loop : tie.MeasureT-loop
 μ-loop slots table store₀ size dims k tail end₀ head₀ store end head = size - head
 
 loop-holds : tie.Need-loop-holds Inv-loop μ-loop
-loop-holds c = let T = c .before .before .pre in (omega arith, T .some, T .opposed .taken .long, λ T. retrace-first T)
+loop-holds c = let T = c .before .before .pre .1 in (omega arith, T .some, T .opposed .taken .long, λ T. retrace-first T)
 
 expand-requires : tie.Need-expand-requires Inv-loop μ-loop
 expand-requires c κs =
     let l = c .before in
     let v = l .before .loop .inv in
-    let T = l .before .before .before .before .pre in
-    retracing T (v .3 T) (v .1) (l .loop-test .taken)
+    let p = l .before .before .before .before .pre in
+    (p .0, retracing (p .1) (v .3 (p .1)) (v .1) (l .loop-test .taken))
 
 returns : tie.Need-returns Inv-loop μ-loop
 returns c =

@@ -3,7 +3,7 @@
 use mathlib.Core.Path.{refl}
 use native.Mathlib.Omega.{arith}
 use borrow.Author.Needs.{needs}
-use Rattle.rewriting.proofs.LinkLaws.{straight, turned, by-node, by-position, by-none}
+use Rattle.rewriting.proofs.LinkLaws.{joined-node, joined-position, joined-none}
 use Rattle.rewriting.proofs.links.follow.Statement.{statement}
 use Rattle.rewriting.proofs.links.follow.Tie as tie
 
@@ -26,17 +26,15 @@ join-requires-2 c κs =
 
 returns : tie.Need-returns
 returns c =
-    let h = c .before .before .before .before .before .if1 .taken in
-    by-node _ _ _ _ _ _ _ _ _ h (straight _ _ _ _ _ _ _ _ _ (c .before .before .join .ensures) h)
+    joined-node _ _ _ _ _ _ _ _ _ (c .before .before .before .before .before .if1 .taken) (c .before .before .join .ensures)
 
 returns-2 : tie.Need-returns-2
 returns-2 c =
     let b = c .before .before .before .before in
-    let h = b .before .if1 .left in
-    by-position _ _ _ _ _ _ _ _ _ h (b .if2 .taken) (turned _ _ _ _ _ _ _ _ _ (c .before .before .join2 .ensures) h)
+    joined-position _ _ _ _ _ _ _ _ _ (b .before .if1 .left) (b .if2 .taken) (c .before .before .join2 .ensures)
 
 returns-3 : tie.Need-returns-3
-returns-3 c = by-none _ _ _ _ _ _ _ _ _ (c .if2 .left) refl
+returns-3 c = joined-none _ _ _ _ _ _ _ _ _ (c .if2 .left) refl
 
 pub follow-spec : {M : Type 1} → statement M
 follow-spec =

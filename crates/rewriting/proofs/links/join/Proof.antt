@@ -1,12 +1,14 @@
 -- `rewriting::links::join` meets its contract. The loop's invariant: the links are written for the first r darts.
 -- Assumes nothing.
 use Prim.Native.Nat.{_-_, _<_}
-use mathlib.Core.Path.{ap}
+use mathlib.Core.Path.{ap, _∙_}
 use native.Mathlib.Omega.{arith}
 use borrow.Author.Needs.{needs}
 use denote.Ref.{now}
-use Rattle.model.specs.Map.{Link, put}
+use Rattle.model.specs.Map.{Link, view}
+use Rattle.table.specs.Writes.{setAt, withField}
 use Rattle.table.proofs.StageLaws.{Stage, stage-none, stage-more, stage-length, stage-done}
+use Rattle.table.proofs.WriteLaws.{put-view, links-steps}
 use Rattle.orbit.specs.Store.{dartAt}
 use Rattle.rewriting.specs.Links.{placeBy, overwritten}
 use Rattle.rewriting.proofs.LinkLaws.{put-at, slot-at, place-below}
@@ -15,7 +17,8 @@ use Rattle.rewriting.proofs.links.join.Tie as tie
 
 abbrev Inv-loop : tie.InvT-loop
 Inv-loop slots table₀ store size i from to code r₀ table r =
-    Stage slots table₀ (λ k t. put t (Link i) (dartAt store from k) (dartAt store to (placeBy slots store code k))) size r table
+    Stage slots (view slots) table₀
+    (λ k m. withField m (Link i) (setAt (m .link i) (dartAt store from k) (dartAt store to (placeBy slots store code k)))) size r table
 
 abbrev μ-loop : tie.MeasureT-loop
 μ-loop slots table₀ store size i from to code r₀ table r = size - r
@@ -49,12 +52,15 @@ mul-put-link c = omega (arith, below (c .before))
 shared-slice-read-put-link : tie.Need-shared-slice-read-put-link Inv-loop μ-loop
 shared-slice-read-put-link c = omega (arith, below (c .before .before))
 
+-- the dart whose link is written
+slot : (w : tie.After-word Inv-loop μ-loop) → w .word .result < w .before .before .before .before .before .args .slots
+slot w = slot-at (w .before .before .before .before .before .pre .1 .0) _ _ (w .before .loop-test .taken) (w .word .ensures)
+
 put-link-requires : tie.Need-put-link-requires Inv-loop μ-loop
 put-link-requires c κs =
     let w = c .before .before .before in
     let l = w .before .before in
-    let pre = l .before .before .before .pre in
-    (l .loop .inv .sized, (slot-at (pre .1 .0) _ _ (w .before .loop-test .taken) (w .word .ensures), pre .1 .1 .0 .1))
+    (l .loop .inv .sized, (slot w, l .before .before .before .pre .1 .1 .0 .1))
 
 add-r : tie.Need-add-r Inv-loop μ-loop
 add-r c = search needs
@@ -68,16 +74,18 @@ loop-again c =
     let p = c .before .before .before .before .before in
     let w = p .before in
     let l = w .before .before in
-    let a = l .before .before .before .args in
+    let s = l .before .before .before in
+    let a = s .args in
     stage-more (l .loop .inv) (w .before .loop-test .taken) (c .before .before .put-link .kept .1 .0)
-    (put-at _ _ _ _ _ _ _ (c .before .before .put-link .ensures) (w .word .ensures) (ap (dartAt (now (a .store)) (a .to)) (p .place .ensures)))
+    (put-at _ _ _ _ _ _ _ (put-view (l .loop .inv .sized) (Link (a .i)) (s .pre .1 .1 .0 .1) _ _ (slot w) (c .before .before .put-link .ensures))
+    (w .word .ensures) (ap (dartAt (now (a .store)) (a .to)) (p .place .ensures)))
 
 same-length : tie.Need-same-length Inv-loop μ-loop
 same-length c = stage-length (c .before .loop .inv) (c .before .before .before .before .pre .0)
 
 returns : tie.Need-returns Inv-loop μ-loop
 unfolding overwritten
-returns c = stage-done (c .before .loop .inv) (c .loop-test .left)
+returns c = stage-done (c .before .loop .inv) (c .loop-test .left) ∙ links-steps _ _ _ _
 
 pub join-spec : {M : Type 1} → statement M
 join-spec =

@@ -4,6 +4,8 @@ use Prim.Native.Nat.{_*_, _-_, _/_, _%_}
 use native.Mathlib.Omega.{arith}
 use lib.ListN.{getD}
 use borrow.Author.Needs.{needs}
+use Rattle.model.specs.Map.{Link, view}
+use Rattle.table.specs.Writes.{withField}
 use Rattle.rewriting.specs.Links.{followed, relinked}
 use Rattle.table.proofs.StageLaws.{Stage, stage-none, stage-more, stage-length, stage-done}
 use Rattle.rewriting.proofs.LinkLaws.{followed-at}
@@ -12,7 +14,8 @@ use Rattle.rewriting.proofs.links.relink.Tie as tie
 
 abbrev Inv-loop : tie.InvT-loop
 Inv-loop slots table₀ store size codes c cols k₀ table k =
-    Stage slots table₀ (λ j. followed slots store size cols (j % 4) (getD cols (j / 4) 0) (getD codes j 0)) (4 * c) k table
+    Stage slots (view slots) table₀
+    (λ j m. withField m (Link (j % 4)) (followed slots store size cols (getD cols (j / 4) 0) (getD codes j 0) (m .link (j % 4)))) (4 * c) k table
 
 abbrev μ-loop : tie.MeasureT-loop
 μ-loop slots table₀ store size codes c cols k₀ table k = 4 * c - k

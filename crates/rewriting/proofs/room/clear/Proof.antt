@@ -5,6 +5,7 @@ use mathlib.Core.Path.{ap, _∙_}
 use mathlib.Core.Logic.{⊎-elim}
 use lib.ListN.{length, getD}
 use borrow.Author.Needs.{needs}
+use Rattle.model.specs.Map.{view}
 use Rattle.rewriting.specs.Room.{clearedBy, cleared}
 use Rattle.table.proofs.StageLaws.{Stage, stage-none, stage-more, stage-length, stage-done}
 use Rattle.rewriting.proofs.ClearLaws.{by-deleted, by-other}
@@ -13,7 +14,7 @@ use Rattle.rewriting.proofs.room.clear.Tie as tie
 
 abbrev Inv-loop : tie.InvT-loop
 Inv-loop slots table₀ store size kinds c cols v₀ table v =
-    Stage slots table₀ (λ k. clearedBy store size (getD cols k 0) (getD kinds k 0)) c v table
+    Stage slots (view slots) table₀ (λ k. clearedBy store size (getD cols k 0) (getD kinds k 0)) c v table
 
 abbrev μ-loop : tie.MeasureT-loop
 μ-loop slots table₀ store size kinds c cols v₀ table v = c - v
@@ -45,10 +46,11 @@ loop-again : tie.Need-loop-again Inv-loop μ-loop
 loop-again c =
     let l = c .before .before .before in
     let h = c .before .before .loop-test .taken in
+    let shown = view (l .before .before .before .args .slots) in
     ⊎-elim
     (λ w. stage-more (l .loop .inv) h (ap length (w .6) ∙ w .3 .kept .1 .0)
-    (by-deleted _ _ _ _ _ _ (w .0 .taken) (w .6 ∙ w .3 .ensures)))
-    (λ w. stage-more (l .loop .inv) h (ap length (w .1)) (by-other _ _ _ _ _ _ (w .0 .left) (w .1)))
+    (by-deleted _ _ _ _ _ _ (w .0 .taken) (ap shown (w .6) ∙ w .3 .ensures)))
+    (λ w. stage-more (l .loop .inv) h (ap length (w .1)) (by-other _ _ _ _ _ _ (w .0 .left) (ap shown (w .1))))
     (c .if1 .came)
 
 same-length : tie.Need-same-length Inv-loop μ-loop

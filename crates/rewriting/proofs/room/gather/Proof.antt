@@ -5,14 +5,14 @@ use native.Mathlib.Omega.{arith}
 use lib.ListN.{getD}
 use borrow.Author.Needs.{needs}
 use denote.Ref.{now}
-use Rattle.model.specs.Map.{maxSlots}
+use Rattle.model.specs.Map.{view, maxSlots}
 use Rattle.rewriting.specs.Room.{Gathered}
 use Rattle.rewriting.proofs.RoomLaws.{gathered-none, gathered-more, gathered-all, giver-slots, giver-before, next-fits}
 use Rattle.rewriting.proofs.room.gather.Statement.{statement}
 use Rattle.rewriting.proofs.room.gather.Tie as tie
 
 abbrev Inv-loop : tie.InvT-loop
-Inv-loop slots table store₀ size added many donors cols a₀ store a = (a ≤ many) × Gathered slots table store₀ size added a donors cols store
+Inv-loop slots table store₀ size added many donors cols a₀ store a = (a ≤ many) × Gathered slots (view slots table .tag) store₀ size added a donors cols store
 
 abbrev μ-loop : tie.MeasureT-loop
 μ-loop slots table store₀ size added many donors cols a₀ store a = many - a

@@ -4,13 +4,14 @@ use Prim.Native.Nat.{_+_, _-_, _≤_, _<_}
 use native.Mathlib.Omega.{arith}
 use lib.ListN.{length}
 use borrow.Author.Needs.{needs}
+use Rattle.model.specs.Map.{view}
 use Rattle.rewriting.specs.Room.{Noted}
 use Rattle.rewriting.proofs.RoomLaws.{noted-none, noted-more, noted-all, noted-slot}
 use Rattle.rewriting.proofs.room.note.Statement.{statement}
 use Rattle.rewriting.proofs.room.note.Tie as tie
 
 abbrev Inv-loop : tie.InvT-loop
-Inv-loop slots table store₀ size from to r₀ store r = (r ≤ size) × Noted slots table store₀ from to r store
+Inv-loop slots table store₀ size from to r₀ store r = (r ≤ size) × Noted (view slots table .tag) store₀ from to r store
 
 abbrev μ-loop : tie.MeasureT-loop
 μ-loop slots table store₀ size from to r₀ store r = size - r
@@ -28,7 +29,7 @@ inside c =
     (omega (arith, p .1 .1 .0, c .loop-test .taken), omega (arith, p .1 .1 .1, c .loop-test .taken))
 
 loop-holds : tie.Need-loop-holds Inv-loop μ-loop
-loop-holds c = (omega arith, noted-none _ _ _ _ _)
+loop-holds c = (omega arith, noted-none _ _ _ _)
 
 add-word : tie.Need-add-word Inv-loop μ-loop
 add-word c = omega (arith, inside (c .before))

@@ -6,13 +6,13 @@ use Rattle.rewriting.proofs.room.prepare.Statement.{statement}
 use Rattle.rewriting.proofs.room.prepare.Tie as tie
 
 gather-requires : tie.Need-gather-requires
-gather-requires c κs = let R = c .before .before .before .before .pre in (R .at .sized, donating-of R)
+gather-requires c κs = let p = c .before .before .before .before .pre in (p .0, donating-of (p .1))
 
 clear-requires : tie.Need-clear-requires
 clear-requires c κs =
     let g = c .before .before .before .before in
-    let R = g .before .before .before .before .before .pre in
-    (R .at .sized, doomed R (g .gather .ensures))
+    let p = g .before .before .before .before .before .pre in
+    (p .0, doomed (p .1) (g .gather .ensures))
 
 returns : tie.Need-returns
 returns c =

@@ -5,14 +5,14 @@ use Prim.Native.Nat.{ℕ, _+_, _-_, _≤_, _<_}
 use mathlib.Core.Path.{refl}
 use native.Mathlib.Omega.{arith}
 use denote.Ref.{now}
-use Rattle.model.specs.Map.{maxSlots}
+use Rattle.model.specs.Map.{view, maxSlots}
 use Rattle.table.specs.Words.{Sized}
 use Rattle.rewriting.proofs.SlotRowLaws.{Scanned, scan-start, scan-inside, scan-more, scan-found}
 use Rattle.rewriting.proofs.slots.lowest.Statement.{statement}
 use Rattle.rewriting.proofs.slots.lowest.Tie as tie
 
 abbrev Inv-loop : tie.InvT-loop
-Inv-loop slots table from y₀ y = Scanned slots table from y
+Inv-loop slots table from y₀ y = Scanned (view slots table .state) from y
 
 abbrev μ-loop : tie.MeasureT-loop
 μ-loop slots table from y₀ y = slots - y
@@ -22,7 +22,7 @@ start l = l .before .before
 
 -- no slot to before y + k is unused
 abbrev Past : tie.At-loop Inv-loop μ-loop → ℕ → Type 0
-Past l k = Scanned (start l .args .slots) (now (start l .args .table)) (start l .args .from) (l .loop .y + k)
+Past l k = Scanned (view (start l .args .slots) (now (start l .args .table)) .state) (start l .args .from) (l .loop .y + k)
 
 past-1 : (c : tie.Then1 Inv-loop μ-loop) → Past (c .before .before) 1
 past-1 c = scan-more (c .before .before .loop .inv) _ _ (c .before .state .ensures) (c .if1 .taken) refl
@@ -45,7 +45,7 @@ fits : (l : tie.At-loop Inv-loop μ-loop) (k : ℕ) → Past l k → (l .loop .y
 fits l k p = (scan-inside p (start l .pre .1), start l .pre .0 .few)
 
 loop-holds : tie.Need-loop-holds Inv-loop μ-loop
-loop-holds c = scan-start _ _ _
+loop-holds c = scan-start _ _
 
 state-requires : tie.Need-state-requires Inv-loop μ-loop
 state-requires c κs = (start c .pre .0, scan-inside (c .loop .inv) (start c .pre .1))

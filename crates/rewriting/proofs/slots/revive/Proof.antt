@@ -1,6 +1,10 @@
 -- `rewriting::slots::revive` meets its contract.
 -- Assumes nothing.
+use native.Mathlib.Omega.{arith}
 use borrow.Author.Needs.{needs}
+use Rattle.model.specs.Map.{State, Link, Tag}
+use Rattle.table.proofs.WordLaws.{sized-same}
+use Rattle.table.proofs.WriteLaws.{put-view}
 use Rattle.rewriting.proofs.SlotRowLaws.{revived-of}
 use Rattle.rewriting.proofs.slots.revive.Statement.{statement}
 use Rattle.rewriting.proofs.slots.revive.Tie as tie
@@ -22,7 +26,11 @@ returns c =
     let b = c .before .before in
     let a = b .before .before .before .before in
     let p = a .before .before .before .before in
-    revived-of _ _ _ _ _ _ (p .put-state .ensures) (a .put-link .ensures) (b .put-tag .ensures)
+    let s = p .before .before .before .pre in
+    let s₁ = sized-same (s .0) (p .put-state .kept .1 .0) in
+    let s₂ = sized-same s₁ (a .put-link .kept .1 .0) in
+    revived-of _ _ _ _ _ _ (put-view (s .0) State (omega arith) _ _ (s .1) (p .put-state .ensures))
+    (put-view s₁ (Link 3) (omega arith) _ _ (s .1) (a .put-link .ensures)) (put-view s₂ Tag (omega arith) _ _ (s .1) (b .put-tag .ensures))
 
 pub revive-spec : {M : Type 1} → statement M
 revive-spec =

@@ -8,18 +8,19 @@ use native.Mathlib.Omega.{arith}
 use lib.ListN.{length}
 use borrow.Author.Needs.{needs}
 use Rattle.base.specs.Below.{countBelow}
-use Rattle.model.specs.Map.{maxSlots}
+use Rattle.model.specs.Map.{view, maxSlots}
 use Rattle.table.specs.Words.{Sized}
+use Rattle.table.proofs.WordLaws.{sized-same}
 use Rattle.orbit.specs.At.{site}
 use Rattle.rewriting.specs.Slots.{Turn, Granting}
-use Rattle.rewriting.proofs.SlotRowLaws.{granting-sized, turn-size, turn-done, turn-cell, turn-room, turn-more}
+use Rattle.rewriting.proofs.SlotRowLaws.{turn-size, turn-done, turn-cell, turn-room, turn-more}
 use Rattle.rewriting.proofs.slots.row.Statement.{statement}
 use Rattle.rewriting.proofs.slots.row.Tie as tie
 
 abbrev Inv-loop : tie.InvT-loop
 Inv-loop slots table₀ store₀ size many r free from₀ base₀ rest₀ table store from base rest = (a : ℕ) × (a + rest ≡ many) × (base ≡ 2 * slots + a * size)
-    × ((T : Turn slots table₀ store₀ size many r free)
-    → Granting (T .at) (T .store) size (countBelow (T .dart) (site (T .at) .orbit) * many + a) from table store)
+    × Sized slots table × ((T : Turn slots (view slots table₀) store₀ size many r free)
+    → Granting (T .at) (T .store) size (countBelow (T .dart) (site (T .at) .orbit) * many + a) from (view slots table) store)
 
 abbrev μ-loop : tie.MeasureT-loop
 μ-loop slots table₀ store₀ size many r free from₀ base₀ rest₀ table store from base rest = rest
@@ -31,12 +32,10 @@ start l = l .before .before .before
 abbrev done : tie.At-loop Inv-loop μ-loop → ℕ
 done l = l .loop .inv .0
 
-so-far : (l : tie.At-loop Inv-loop μ-loop) → let b = start l .args in let T = start l .pre in
-    Granting (T .at) (T .store) (b .size) (countBelow (T .dart) (site (T .at) .orbit) * b .many + done l) (l .loop .from) (l .loop .table) (l .loop .store)
-so-far l = l .loop .inv .3 (start l .pre)
-
-sized : (l : tie.At-loop Inv-loop μ-loop) → Sized (start l .args .slots) (l .loop .table)
-sized l = granting-sized (start l .pre .grant) (so-far l)
+so-far : (l : tie.At-loop Inv-loop μ-loop) → let b = start l .args in let T = start l .pre .1 in
+    Granting (T .at) (T .store) (b .size) (countBelow (T .dart) (site (T .at) .orbit) * b .many + done l) (l .loop .from)
+    (view (b .slots) (l .loop .table)) (l .loop .store)
+so-far l = l .loop .inv .4 (start l .pre .1)
 
 -- in a turn there is a pair without a slot
 more : (c : tie.In-loop Inv-loop μ-loop) → done (c .before) < start (c .before) .args .many
@@ -47,8 +46,8 @@ inside : (c : tie.In-loop Inv-loop μ-loop) → let l = c .before in let b = sta
     (l .loop .base + b .r < 3 * b .slots) × (b .size ≤ b .slots) × (b .slots ≤ maxSlots) × (length (l .loop .store) ≡ 16 * b .slots)
 inside c =
     let l = c .before in
-    let T = start l .pre in
-    (omega (arith, l .loop .inv .2, turn-cell T (done l) (more c)), turn-size T, T .at .sized .few, so-far l .storeLong ∙ T .grant .long)
+    let T = start l .pre .1 in
+    (omega (arith, l .loop .inv .2, turn-cell T (done l) (more c)), turn-size T, T .at .few, so-far l .storeLong ∙ T .grant .long)
 
 -- a turn, at the places after its first call
 abbrev turn : tie.After-lowest Inv-loop μ-loop → tie.In-loop Inv-loop μ-loop
@@ -58,13 +57,13 @@ abbrev taken : tie.After-revive Inv-loop μ-loop → tie.After-lowest Inv-loop �
 taken v = v .before .before .before
 
 mul-base : tie.Need-mul-base Inv-loop μ-loop
-mul-base c = omega (arith, c .before .before .pre .at .sized .few)
+mul-base c = omega (arith, c .before .before .pre .0 .few)
 
 loop-holds : tie.Need-loop-holds Inv-loop μ-loop
-loop-holds c = (0, omega arith, omega arith, λ T. rw add-zero (T .granting))
+loop-holds c = (0, omega arith, omega arith, c .before .before .pre .0, λ T. rw add-zero (T .granting))
 
 lowest-requires : tie.Need-lowest-requires Inv-loop μ-loop
-lowest-requires c κs = let l = c .before .before in (sized l, turn-room (start l .pre) (done l) (more (c .before)) (so-far l))
+lowest-requires c κs = let l = c .before .before in (l .loop .inv .3, turn-room (start l .pre .1) (done l) (more (c .before)) (so-far l))
 
 add-i : tie.Need-add-i Inv-loop μ-loop
 add-i c = omega (arith, inside (turn c))
@@ -76,7 +75,7 @@ slice-read-revive : tie.Need-slice-read-revive Inv-loop μ-loop
 slice-read-revive c = omega (arith, inside (turn (c .before .before)))
 
 revive-requires : tie.Need-revive-requires Inv-loop μ-loop
-revive-requires c κs = let y = c .before .before in (sized (turn y .before), y .lowest .ensures .fits)
+revive-requires c κs = let y = c .before .before in (turn y .before .loop .inv .3, y .lowest .ensures .fits)
 
 keep-requires : tie.Need-keep-requires Inv-loop μ-loop
 keep-requires c κs =
@@ -106,18 +105,19 @@ loop-again c =
       done l + 1,
       omega (arith, l .loop .inv .1, i .loop-test .taken),
       omega (arith, l .loop .inv .2),
-      λ T. turn-more T (done l) (more i) (l .loop .inv .3 T) _ _ _ _ _ (omega (arith, l .loop .inv .2)) (y .lowest .ensures) refl (v .revive .ensures)
+      sized-same (l .loop .inv .3) (v .revive .kept .1 .0),
+      λ T. turn-more T (done l) (more i) (l .loop .inv .4 T) _ _ _ _ _ (omega (arith, l .loop .inv .2)) (y .lowest .ensures) refl (v .revive .ensures)
           (k .keep .ensures),
     )
 
 same-length : tie.Need-same-length Inv-loop μ-loop
-same-length c = so-far (c .before) .tableLong ∙ sym (start (c .before) .pre .granting .tableLong)
+same-length c = c .before .loop .inv .3 .long ∙ sym (start (c .before) .pre .0 .long)
 
 same-length-2 : tie.Need-same-length-2 Inv-loop μ-loop
-same-length-2 c = so-far (c .before) .storeLong ∙ sym (start (c .before) .pre .granting .storeLong)
+same-length-2 c = so-far (c .before) .storeLong ∙ sym (start (c .before) .pre .1 .granting .storeLong)
 
 returns : tie.Need-returns Inv-loop μ-loop
-returns c = let l = c .before in λ T. turn-done T (omega (arith, l .loop .inv .1, c .loop-test .left)) (l .loop .inv .3 T)
+returns c = let l = c .before in λ T. turn-done T (omega (arith, l .loop .inv .1, c .loop-test .left)) (l .loop .inv .4 T)
 
 pub row-spec : {M : Type 1} → statement M
 row-spec =

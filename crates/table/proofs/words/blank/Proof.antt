@@ -11,7 +11,7 @@ use Rattle.table.proofs.words.blank.Statement.{statement}
 use Rattle.table.proofs.words.blank.Tie as tie
 
 abbrev Inv-loop : tie.InvT-loop
-Inv-loop slots table₀ x c₀ table c = Stage slots table₀ (λ k t. set t (recordSize * x + k) 0) recordSize c table
+Inv-loop slots table₀ x c₀ table c = Stage slots (λ t. t) table₀ (λ k t. set t (recordSize * x + k) 0) recordSize c table
 
 abbrev μ-loop : tie.MeasureT-loop
 μ-loop slots table₀ x c₀ table c = recordSize - c
