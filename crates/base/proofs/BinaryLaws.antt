@@ -1,9 +1,9 @@
--- Laws of `binary`: a digit set, the lowest set digit, and no digit set; a digit as the machine makes it.
+-- Laws of `binary`: two numbers as one, a digit set, the lowest set digit, and no digit set; a digit as the machine makes it.
 -- Assumes nothing.
 use Prim.Native.Nat.{ℕ, zero, suc, _+_, _*_, _/_, _%_, _^_, _≤_, _<_}
-use mathlib.Core.Path.{_≡_, refl, ap₂}
+use mathlib.Core.Path.{_≡_, refl, sym, ap, ap₂, _∙_}
 use mathlib.Core.Bool.{Bool, true, false}
-use native.Mathlib.Nat.{not-suc-le-zero, le-of-suc-le-suc, pow-suc, one-mul, mod-eq-of-lt}
+use native.Mathlib.Nat.{not-suc-le-zero, le-of-suc-le-suc, pow-suc, one-mul, mul-assoc, mod-eq-of-lt}
 use native.Mathlib.Omega.{arith}
 use lib.Count.{trailingZeros, under}
 use lib.Pow.{pow-lt}
@@ -24,6 +24,21 @@ binary-below (suc n) p = step (p 0) (binary-below n (λ k. p (suc k)))
     step : (b : Bool) → binary n (λ k. p (suc k)) < 2 ^ n → bit b + 2 * binary n (λ k. p (suc k)) < 2 ^ suc n
     step true h = rw (pow-suc 2 n) (omega arith)
     step false h = rw (pow-suc 2 n) (omega arith)
+
+-- the first a digits, and the b behind them
+pub binary-join : (a b : ℕ) (p : ℕ → Bool) → binary (a + b) p ≡ binary a p + binary b (λ k. p (a + k)) * 2 ^ a
+unfolding binary
+binary-join zero b p =
+    let s : binary b (λ k. p (zero + k)) ≡ binary b p = binary-same b _ _ (λ k h. ap p (omega arith)) in
+    let n : zero + b ≡ b = omega arith in
+    ap (λ (k : ℕ). binary k p) n ∙ omega (arith, s)
+binary-join (suc a) b p =
+    let e = binary-join a b (λ k. p (suc k)) in
+    let x = binary b (λ k. p (suc (a + k))) in
+    let s : binary b (λ k. p (suc a + k)) ≡ x = binary-same b _ _ (λ k h. ap p (omega arith)) in
+    let m : binary b (λ k. p (suc a + k)) * 2 ^ suc a ≡ x * 2 ^ a * 2 = rw (s, pow-suc 2 a) (sym (mul-assoc x (2 ^ a) 2)) in
+    let n : suc a + b ≡ suc (a + b) = omega arith in
+    ap (λ (k : ℕ). binary k p) n ∙ omega (arith, e, m)
 
 -- one digit more is its power of two more
 pub binary-more : (n : ℕ) (p q : ℕ → Bool) (k : ℕ) → k < n → p k ≡ false → q k ≡ true

@@ -3,6 +3,7 @@
 --   N .. 2N - 1    the places: first the darts of the orbit, then for each further left node the darts of its pairs
 --   2N .. 3N - 1   the darts of the added pairs, and before a pair has its dart, the tag for it
 --   4N .. 8N - 1   for each orbit dart and each position of the orbit type, the place of the dart to which that link leads
+--   8N ..          while the added pairs get their darts, a binary digit for each slot, 32 to a word, set for the orbit darts: two words to 64 slots
 -- Nothing is asked of the other words. Assumes nothing.
 use Prim.Native.Nat.{ℕ, _+_, _*_, _-_, _≤_, _<_}
 use mathlib.Core.Path.{_≡_}

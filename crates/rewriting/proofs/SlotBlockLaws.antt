@@ -1,4 +1,4 @@
--- The laws of `slots::mark_bits` and `slots::block`: the orbit darts taken ascending, from a binary digit for each.
+-- The laws of `slots::clear_bits`, `slots::mark_bits` and `slots::block`: the orbit darts taken ascending, from a binary digit for each.
 -- Assumes nothing.
 use Prim.Native.Nat.{ℕ, _+_, _*_, _-_, _/_, _%_, _^_, _≤_, _<_}
 use mathlib.Core.Path.{_≡_, refl, sym, ap, ap₂, _∙_, subst}
@@ -9,7 +9,7 @@ use native.Mathlib.Decide.{ℕ-discrete, decLt}
 use native.Mathlib.Omega.{arith}
 use lib.Count.{trailingZeros}
 use lib.Dec.{leb}
-use lib.ListN.{getD, set, replicate, length-set, length-replicate, getD-replicate}
+use lib.ListN.{length, getD, set, length-set}
 use lib.Pow.{pow-pos}
 use lib.Seq.{getD-set-same, getD-set-other}
 use borrow.Author.Tests.{ltb-true, lt-ltb, leb-true, le-leb}
@@ -39,14 +39,37 @@ early-of : (N : ℕ) (s : List ℕ) (r x : ℕ) → x < N → 1 ≤ mark s x →
 unfolding early
 early-of N s r x h l m = and-of (lt-ltb x N h) (among-of s r x l m)
 
-pub blank : NoDigits (replicate digitWords 0)
-blank = record { long = length-replicate {A = ℕ} 16 0; zeros = λ w h. getD-replicate 16 w 0 0 h }
+-- ---- no digit
 
-pub digits-none : (N : ℕ) (s bits : List ℕ) → NoDigits bits → Digits (early N s 0) bits
-digits-none N s bits z = record {
-  long = z .long;
-  at = λ w h. z .zeros w h ∙ sym (binary-zero 64 _ (λ k l. impossible _ (λ e. let m = early-at N s 0 (64 * w + k) e in omega arith)));
+pub bits-none : (N : ℕ) (s : List ℕ) → NoDigits N s 0 s
+bits-none N s = record { behind = record { long = refl; kept = λ i h. refl }; zeros = λ w h. absurd (omega arith) }
+
+module _ (N : ℕ) (s : List ℕ) (long : length s ≡ 16 * N) (k : ℕ) (h : k < digitWords N) (l : List ℕ) (z : NoDigits N s k l) where
+  pub word-inside : 8 * N + k < length l
+  word-inside = omega (arith, z .behind .long)
+
+  pub bits-more : (l′ : List ℕ) → l′ ≡ set l (8 * N + k) 0 → NoDigits N s (k + 1) l′
+  bits-more l′ f = rw f (record {
+    behind = record {
+      long = length-set l (8 * N + k) 0 ∙ z .behind .long;
+      kept = λ i g. getD-set-other l (8 * N + k) i 0 0 (λ q. absurd (omega arith)) ∙ z .behind .kept i g;
+    };
+    zeros = λ w g. by-cases (ℕ-discrete w k)
+        (λ q. ap (λ (y : ℕ). getD (set l (8 * N + k) 0) (8 * N + y) 0) q ∙ getD-set-same l (8 * N + k) 0 0 word-inside)
+        (λ ne. getD-set-other l (8 * N + k) (8 * N + w) 0 0 (λ q. ne (omega arith)) ∙ z .zeros w (omega arith));
+  })
+
+-- the same of a store by itself
+pub none-own : (N : ℕ) (s : List ℕ) (k : ℕ) (l : List ℕ) → NoDigits N s k l → NoDigits N l k l
+none-own N s k l z = record { behind = record { long = refl; kept = λ i h. refl }; zeros = z .zeros }
+
+pub digits-none : (N : ℕ) (s l : List ℕ) → NoDigits N s (digitWords N) l → Digits N s 0 l
+digits-none N s l z = record {
+  behind = z .behind;
+  at = λ w h. z .zeros w h ∙ sym (binary-zero 32 _ (λ k l. impossible _ (λ e. let m = early-at N s 0 (32 * w + k) e in omega arith)));
 }
+
+-- ---- one digit more
 
 module _ (N : ℕ) (s : List ℕ) (size : ℕ) (P : Placed N s size) (r : ℕ) (h : r < size) where
   fresh : early N s r (place N s r) ≡ false
@@ -64,58 +87,63 @@ module _ (N : ℕ) (s : List ℕ) (size : ℕ) (P : Placed N s size) (r : ℕ) (
       (λ q. early-of N s r x (m .0) (m .1) (omega arith)))
       (λ e. let m = early-at N s r x e in early-of N s (r + 1) x (m .0) (m .1) (omega arith))
 
-  word-fits : place N s r / 64 < 16
-  word-fits = omega (arith, P .slot r h, P .few)
+  word-fits : place N s r / 32 < digitWords N
+  word-fits = omega (arith, P .slot r h)
 
-  module _ (bits : List ℕ) (d : Digits (early N s r) bits) where
-    abbrev digit : ℕ
-    digit = place N s r % 64
+  -- u is what the code reads for the dart
+  module _ (l : List ℕ) (d : Digits N s r l) (u : ℕ) (e : u ≡ getD l (N + r) 0) where
+    dart-is : u ≡ place N s r
+    unfolding place
+    dart-is = e ∙ d .behind .kept (N + r) (omega (arith, P .fits))
 
-    -- the slots of the word in which the dart stands
-    added-digit : (w : ℕ) → w ≡ place N s r / 64 → getD bits w 0 + 2 ^ digit ≡ binary 64 (λ k. early N s (r + 1) (64 * w + k))
-    added-digit w e =
-        let l : w < 16 = omega (arith, word-fits) in
-        let u : 64 * w + digit ≡ place N s r = omega arith in
-        ap (λ (n : ℕ). n + 2 ^ digit) (d .at w l) ∙ sym (binary-more 64 _ _ digit (omega arith)
-        (ap (early N s r) u ∙ fresh) (ap (early N s (r + 1)) u ∙ here) (λ j g ne. elsewhere (64 * w + j) (λ q. ne (omega arith))))
+    shift : (1 * 2 ^ (u % 32)) % 2 ^ 64 ≡ 2 ^ (u % 32)
+    shift = shifted (u % 32) (omega arith)
 
-    digit-room : getD bits (place N s r / 64) 0 + 2 ^ digit < 2 ^ 64
-    digit-room = rw (added-digit (place N s r / 64) refl) (binary-below 64 _)
+    inside : u / 32 < digitWords N
+    inside = rw dart-is word-fits
 
-    digits-more : (i n : ℕ) → i ≡ place N s r / 64 → n ≡ getD bits (place N s r / 64) 0 + 2 ^ digit → Digits (early N s (r + 1)) (set bits i n)
-    digits-more i n p q = record {
-      long = length-set bits i n ∙ d .long;
-      at = λ w l. by-cases (ℕ-discrete w i)
-          (λ e. let z : w ≡ place N s r / 64 = e ∙ p in
-          ap (λ (k : ℕ). getD (set bits i n) k 0) e ∙ getD-set-same bits i n 0 (omega (arith, d .long))
-          ∙ q ∙ ap (λ (k : ℕ). getD bits k 0 + 2 ^ digit) (sym z) ∙ added-digit w z)
-          (λ ne. getD-set-other bits i w n 0 ne ∙ d .at w l
-          ∙ binary-same 64 _ _ (λ k g. sym (elsewhere (64 * w + k) (λ z. ne (omega arith)))));
-    }
+    pub mark-word : 8 * N + u / 32 < length l
+    mark-word = omega (arith, inside, d .behind .long, P .long)
 
-    -- the same as the code has it, with u for the dart
-    module _ (u : ℕ) (e : u ≡ getD s (N + r) 0) where
-      dart-is : u ≡ place N s r
-      unfolding place
-      dart-is = e
+    -- old is the word of digits in which the dart stands
+    module _ (old : ℕ) (o : old ≡ getD l (8 * N + u / 32) 0) where
+      sum-is : old + (1 * 2 ^ (u % 32)) % 2 ^ 64 ≡ binary 32 (λ k. early N s (r + 1) (32 * (u / 32) + k))
+      sum-is =
+          let x : 32 * (u / 32) + u % 32 ≡ place N s r = omega (arith, dart-is) in
+          ap₂ _+_ (o ∙ d .at (u / 32) inside) shift ∙ sym (binary-more 32 _ _ (u % 32) (omega arith)
+          (ap (early N s r) x ∙ fresh) (ap (early N s (r + 1)) x ∙ here) (λ j g ne. elsewhere (32 * (u / 32) + j) (λ q. ne (omega arith))))
 
-      shift : (1 * 2 ^ (u % 64)) % 2 ^ 64 ≡ 2 ^ digit
-      shift = shifted (u % 64) (omega arith) ∙ ap (λ (k : ℕ). 2 ^ (k % 64)) dart-is
+      pub mark-room : old + (1 * 2 ^ (u % 32)) % 2 ^ 64 < 2 ^ 32
+      mark-room = rw sum-is (binary-below 32 _)
 
-      word-is : u / 64 ≡ place N s r / 64
-      word-is = ap (λ (k : ℕ). k / 64) dart-is
+      pub mark-more : (l′ : List ℕ) → l′ ≡ set l (8 * N + u / 32) (old + (1 * 2 ^ (u % 32)) % 2 ^ 64) → Digits N s (r + 1) l′
+      mark-more l′ f =
+          let at : ℕ = 8 * N + u / 32 in
+          let v : ℕ = old + (1 * 2 ^ (u % 32)) % 2 ^ 64 in
+          rw f (record {
+            behind = record {
+              long = length-set l at v ∙ d .behind .long;
+              kept = λ i g. getD-set-other l at i v 0 (λ q. absurd (omega arith)) ∙ d .behind .kept i g;
+            };
+            at = λ w b. by-cases (ℕ-discrete w (u / 32))
+                (λ q. ap (λ (k : ℕ). getD (set l at v) (8 * N + k) 0) q ∙ getD-set-same l at v 0 mark-word
+                ∙ sum-is ∙ ap (λ (k : ℕ). binary 32 (λ j. early N s (r + 1) (32 * k + j))) (sym q))
+                (λ ne. getD-set-other l at (8 * N + w) v 0 (λ q. ne (omega arith)) ∙ d .at w b
+                ∙ binary-same 32 _ _ (λ k g. sym (elsewhere (32 * w + k)
+                (λ z. ne (let y : 32 * w + k ≡ u = z ∙ sym dart-is in omega arith)))));
+          })
 
-      pub mark-word : u / 64 < 16
-      mark-word = omega (arith, word-fits, word-is)
-
-      sum-is : getD bits (u / 64) 0 + (1 * 2 ^ (u % 64)) % 2 ^ 64 ≡ getD bits (place N s r / 64) 0 + 2 ^ digit
-      sum-is = ap₂ (λ (k a : ℕ). getD bits k 0 + a) word-is shift
-
-      pub mark-room : getD bits (u / 64) 0 + (1 * 2 ^ (u % 64)) % 2 ^ 64 < 2 ^ 64
-      mark-room = rw sum-is digit-room
-
-      pub mark-more : Digits (early N s (r + 1)) (set bits (u / 64) (getD bits (u / 64) 0 + (1 * 2 ^ (u % 64)) % 2 ^ 64))
-      mark-more = digits-more _ _ word-is sum-is
+-- the digits of a store as those of its own places
+pub digits-own : (N : ℕ) (s : List ℕ) (size : ℕ) (l : List ℕ) → Digits N s size l → Digits N l size l
+unfolding mark
+digits-own N s size l d = record {
+  behind = record { long = refl; kept = λ i h. refl };
+  at = λ w h. d .at w h ∙ binary-same 32 _ _ (λ k g. same-test _ _
+      (λ e. let m = early-at N s size (32 * w + k) e in let q = d .behind .kept (32 * w + k) (omega arith) in
+      early-of N l size (32 * w + k) (m .0) (omega arith) (omega arith))
+      (λ e. let m = early-at N l size (32 * w + k) e in let q = d .behind .kept (32 * w + k) (omega arith) in
+      early-of N s size (32 * w + k) (m .0) (omega arith) (omega arith)));
+}
 
 -- in the end every orbit dart has its digit
 pub early-orbit : {m : Map} {s : List ℕ} {A : At m} {size many : ℕ} → Grant A s size many → (x : ℕ) → early (m .slots) s size x ≡ site A .orbit x

@@ -1,7 +1,7 @@
 -- The laws of `slots::give`, which gives slots to all added pairs: from the phases before it to the first pair, from one orbit
 -- dart to the next, and from the last pair to the phases after it.
 -- Assumes nothing.
-use Prim.Native.Nat.{ℕ, _+_, _*_, _≤_, _<_}
+use Prim.Native.Nat.{ℕ, _+_, _*_, _-_, _≤_, _<_}
 use mathlib.Core.Path.{_≡_, sym, ap, ap₂, _∙_, subst}
 use mathlib.Core.Logic.{inl, inr, ⊎-elim}
 use mathlib.Core.Bool.{true, false, true≢false}
@@ -11,21 +11,24 @@ use lib.ListN.{getD}
 use Rattle.base.specs.Below.{countBelow}
 use Rattle.base.proofs.TestLaws.{or-left, or-right, true-or-false, impossible}
 use Rattle.base.proofs.BelowLaws.{count-gap}
-use Rattle.base.proofs.BinaryLaws.{binary-same}
+use Rattle.base.specs.Binary.{binary}
+use Rattle.base.proofs.BinaryLaws.{binary-same, binary-join}
 use Rattle.model.specs.Map.{Map}
 use Rattle.model.specs.Scheme.{left, has, added}
 use Rattle.model.specs.Shaped.{Shaped}
 use Rattle.model.specs.Site.{Site}
+use Rattle.model.specs.Match.{image}
 use Rattle.model.specs.Edit.{orbitSize, addedDarts, dartOf}
 use Rattle.model.proofs.AcceptedLaws.{kind-cases}
 use Rattle.model.proofs.RankLaws.{rank-low, dart-left}
-use Rattle.orbit.specs.Store.{mark, place, next, dartAt, Kept}
+use Rattle.orbit.specs.Store.{mark, place, next, dartAt, Kept, Assigned}
 use Rattle.orbit.specs.At.{At, site, ofSlots}
 use Rattle.rewriting.specs.Darts.{Darts, Given, columnStart, Grant, Bare, Tagged}
 use Rattle.rewriting.specs.Slots.{Apart, ColumnsBegin, Due, Granting}
-use Rattle.rewriting.specs.Slots.{early, Placed, Digits, Block, BeforeGiving, Granted}
+use Rattle.rewriting.specs.Slots.{Placed, blockCount, Behind, Digits, Block, BeforeBlocks, BeforeGiving, Granted}
 use Rattle.orbit.proofs.StoreLaws.{among-same}
-use Rattle.orbit.proofs.PlaceLaws.{place-in}
+use Rattle.orbit.proofs.PlaceLaws.{places-few, place-in, marked-in}
+use Rattle.orbit.proofs.WalkLaws.{walked-kept}
 use Rattle.rewriting.proofs.SlotColumnLaws.{columned-none}
 use Rattle.rewriting.proofs.SlotRowLaws.{good, granting-none, many-few, cells, column-within, listed-at, listed-is}
 use Rattle.rewriting.proofs.SlotBlockLaws.{early-orbit}
@@ -43,25 +46,38 @@ module _ {m₀ : Map} {s₀ : List ℕ} {A : At m₀} {size many : ℕ} (G : Gra
   granting-idle : {m : Map} → Bare (site A) m → Tagged (site A) s₀ size → many ≡ 0 → Granting A s₀ size (countBelow (m₀ .slots) O * many) 0 m s₀
   granting-idle b g e = let z : countBelow (m₀ .slots) O * many ≡ 0 = rw e (omega arith) in rw z (granting-none G b g)
 
-  -- a digit for each orbit dart
-  orbit-digits : {bits : List ℕ} → Digits (early (m₀ .slots) s₀ size) bits → Digits O bits
-  orbit-digits d = record { long = d .long; at = λ w h. d .at w h ∙ binary-same 64 _ _ (λ k l. early-orbit G (64 * w + k)) }
+  -- the digits of a block of the orbit, from its two words in a store s that has the digits of s₀
+  orbit-digits : {w : ℕ} (s : List ℕ) → Digits (m₀ .slots) s₀ size s₀ → w < blockCount (m₀ .slots)
+      → ((i : ℕ) → 3 * m₀ .slots ≤ i → getD s i 0 ≡ getD s₀ i 0) → (number : ℕ)
+      → number ≡ getD s (8 * m₀ .slots + 2 * w) 0 + getD s (8 * m₀ .slots + 2 * w + 1) 0 * 4294967296
+      → number ≡ binary 64 (λ k. O (64 * w + k))
+  orbit-digits {w} s d h kept number e =
+      let N = m₀ .slots in
+      let next : 8 * N + 2 * w + 1 ≡ 8 * N + (2 * w + 1) = omega arith in
+      let low : getD s (8 * N + 2 * w) 0 ≡ binary 32 (λ k. O (64 * w + k)) =
+      kept _ (omega arith) ∙ d .at (2 * w) (omega arith)
+      ∙ binary-same 32 _ _ (λ k l. early-orbit G (32 * (2 * w) + k) ∙ ap O (omega arith)) in
+      let high : getD s (8 * N + 2 * w + 1) 0 ≡ binary 32 (λ k. O (64 * w + (32 + k))) =
+      ap (λ (i : ℕ). getD s i 0) next ∙ kept _ (omega arith) ∙ d .at (2 * w + 1) (omega arith)
+      ∙ binary-same 32 _ _ (λ k l. early-orbit G (32 * (2 * w + 1) + k) ∙ ap O (omega arith)) in
+      e ∙ ap₂ (λ (a b : ℕ). a + b * 4294967296) low high ∙ sym (binary-join 32 32 (λ k. O (64 * w + k)))
 
 -- `before` is the map before the edit, and m the one in which slots are given
-module _ (before : Map) {N : ℕ} {m : Map} {s₀ s bits : List ℕ} {A : At (ofSlots N before)} {size many w free : ℕ} (G : Grant A s₀ size many)
-    (d : Digits (early N s₀ size) bits) (g : Granting A s₀ size (countBelow (64 * w) (site A .orbit) * many) free m s) (h : w < 16) where
-  pub block-of : (number : ℕ) → number ≡ getD bits w 0 → Block N m s size many w number free
+module _ (before : Map) {N : ℕ} {m : Map} {s₀ s : List ℕ} {A : At (ofSlots N before)} {size many w free : ℕ} (G : Grant A s₀ size many)
+    (d : Digits N s₀ size s₀) (g : Granting A s₀ size (countBelow (64 * w) (site A .orbit) * many) free m s) (h : w < blockCount N) where
+  pub block-of : (number : ℕ) → number ≡ getD s (8 * N + 2 * w) 0 + getD s (8 * N + 2 * w + 1) 0 * 4294967296 → Block N m s size many w number free
   block-of number e = record {
     before = before;
     at = A;
     store = s₀;
     grant = G;
-    digits = e ∙ orbit-digits G d .at w h;
+    digits = orbit-digits G s d h (λ i l. g .kept i (inr l)) number e;
     granting = g;
   }
 
   -- after the pairs of one word of digits, those of the next
-  pub next-block : (number free′ : ℕ) (m′ : Map) (s′ : List ℕ) → number ≡ getD bits w 0
+  pub next-block : (number free′ : ℕ) (m′ : Map) (s′ : List ℕ)
+      → number ≡ getD s (8 * N + 2 * w) 0 + getD s (8 * N + 2 * w + 1) 0 * 4294967296
       → ((B : Block N m s size many w number free)
       → Granting (B .at) (B .store) size (countBelow (64 * w + 64) (site (B .at) .orbit) * many) free′ m′ s′)
       → Granting A s₀ size (countBelow (64 * (w + 1)) (site A .orbit) * many) free′ m′ s′
@@ -89,6 +105,72 @@ module _ {N : ℕ} {M : Map} {s : List ℕ} {size : ℕ} {nodes : List ℕ} {man
     back = G .walked .back;
     found = G .walked .found;
   }
+
+  -- the digits stand behind all that the phases before have left
+  module _ (s₁ : List ℕ) (B : Behind N s s₁) where
+    pub behind-kept : Kept N s s₁ size
+    unfolding place mark next
+    behind-kept = record {
+      long = B .long;
+      places = λ r h. B .kept (N + r) (omega (arith, G .walked .fits));
+      marks = λ x h. among-same s₁ s size x (B .kept x (omega arith));
+      ranks = λ x h e. B .kept x (omega arith);
+      nexts = λ r p h l. B .kept (4 * N + 4 * r + p) (omega (arith, G .walked .fits));
+    }
+
+    pub behind-tagged : Tagged E s₁ size
+    unfolding dartAt mark
+    behind-tagged = record {
+      at = λ u v e h a.
+          let k = countBelow v (added S) in
+          let p = marked-in (G .walked) u e in
+          ap (λ (j : ℕ). getD s₁ (columnStart N size k + (j - 1)) 0) (B .kept u (omega (arith, good G .slot u e)))
+          ∙ B .kept (columnStart N size k + (mark s u - 1)) (omega (arith, column-within G v h a)) ∙ R .tagged .at u v e h a;
+    }
+
+    pub behind-assigned : Assigned E s₁ cols size
+    unfolding dartAt
+    behind-assigned = record {
+      inside = R .assigned .inside;
+      dart = λ v r h c l. let i = R .assigned .inside v h c in
+          B .kept (getD cols v 0 + r) (omega arith) ∙ R .assigned .dart v r h c l ∙ ap (λ (u : ℕ). image E u v) (sym (behind-kept .places r l));
+    }
+
+    abbrev pub regiven : BeforeGiving N M s₁ size nodes many cols
+    regiven = record {
+      before = R .before;
+      at = R .at;
+      grant = record {
+        long = B .long ∙ G .long;
+        walked = walked-kept _ _ _ _ s s₁ size (places-few (R .at)) (G .walked) behind-kept;
+        every = G .every;
+        match = G .match;
+        room = G .room;
+      };
+      bare = R .bare;
+      tagged = behind-tagged;
+      node = R .node;
+      assigned = behind-assigned;
+      wide = R .wide;
+    }
+
+    pub granted-behind : {m′ : Map} {s′ cols′ : List ℕ} → Granted E s₁ m′ s′ cols′ size → Granted E s m′ s′ cols′ size
+    granted-behind g = record {
+      given = g .given;
+      darts = g .darts;
+      kept = record {
+        long = g .kept .long ∙ B .long;
+        places = λ r h. g .kept .places r h ∙ behind-kept .places r h;
+        marks = λ x h. g .kept .marks x h ∙ behind-kept .marks x h;
+        ranks = λ x h e. g .kept .ranks x h (behind-kept .marks x h ∙ e) ∙ behind-kept .ranks x h e;
+        nexts = λ r p h l. g .kept .nexts r p h l ∙ behind-kept .nexts r p h l;
+      };
+      wide = g .wide;
+    }
+
+  -- the digits are in the store
+  abbrev pub blocks-ready : Digits N s size s → BeforeBlocks N M s size many
+  blocks-ready d = record { before = R .before; at = R .at; grant = G; bare = R .bare; tagged = R .tagged; digits = d }
 
   pub apart-of : Apart N size nodes many
   apart-of = record {

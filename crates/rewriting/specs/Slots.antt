@@ -113,19 +113,28 @@ pub record Placed (N : ℕ) (s : List ℕ) (size : ℕ) : Type 0 where
   pub back : (r : ℕ) → r < size → mark s (place N s r) ≡ r + 1
   pub found : (x : ℕ) → x < N → among s size x ≡ true → place N s (mark s x - 1) ≡ x
 
--- how many words have a binary digit for each slot of the largest table, 64 to a word
-abbrev pub digitWords : ℕ
-digitWords = maxSlots / 64
+-- how many blocks of 64 slots there are, of which the last may be shorter
+abbrev pub blockCount : ℕ → ℕ
+blockCount N = (N + 63) / 64
 
--- no digit is set
-pub record NoDigits (bits : List ℕ) : Type 0 where
-  pub long : length bits ≡ digitWords
-  pub zeros : (w : ℕ) → w < digitWords → getD bits w 0 ≡ 0
+-- how many words of the store have a binary digit for each slot, 32 to a word and two to a block
+abbrev pub digitWords : ℕ → ℕ
+digitWords N = 2 * blockCount N
 
--- a binary digit for each slot, 64 to a word, set where p
-pub record Digits (p : ℕ → Bool) (bits : List ℕ) : Type 0 where
-  pub long : length bits ≡ digitWords
-  pub at : (w : ℕ) → w < digitWords → getD bits w 0 ≡ binary 64 (λ k. p (64 * w + k))
+-- s has the words of s₀ up to the digits
+pub record Behind (N : ℕ) (s₀ s : List ℕ) : Type 0 where
+  pub long : length s ≡ length s₀
+  pub kept : (i : ℕ) → i < 8 * N → getD s i 0 ≡ getD s₀ i 0
+
+-- the first k words of digits are 0, and what stands before the digits is as in s₀
+pub record NoDigits (N : ℕ) (s₀ : List ℕ) (k : ℕ) (s : List ℕ) : Type 0 where
+  pub behind : Behind N s₀ s
+  pub zeros : (w : ℕ) → w < k → getD s (8 * N + w) 0 ≡ 0
+
+-- the digits of the darts at the first r places of s₀ are set and no others, and what stands before the digits is as in s₀
+pub record Digits (N : ℕ) (s₀ : List ℕ) (r : ℕ) (s : List ℕ) : Type 0 where
+  pub behind : Behind N s₀ s
+  pub at : (w : ℕ) → w < digitWords N → getD s (8 * N + w) 0 ≡ binary 32 (λ k. early N s₀ r (32 * w + k))
 
 -- the pairs of the orbit darts from 64 × w to 64 × w + 63 come next, with a digit for each; the other fields are as in `Turn`
 pub record Block (N : ℕ) (m : Map) (s : List ℕ) (size many w number free : ℕ) : Type 0 where
@@ -137,6 +146,15 @@ pub record Block (N : ℕ) (m : Map) (s : List ℕ) (size many w number free : �
   pub granting : Granting at store size (countBelow (64 * w) (site at .orbit) * many) free m s
 
 -- ---- all pairs
+
+-- what the blocks start from: no pair has its slot, and the store has the digits of the orbit
+pub record BeforeBlocks (N : ℕ) (m : Map) (s : List ℕ) (size many : ℕ) : Type 0 where
+  pub before : Map
+  pub at : At (ofSlots N before)
+  pub grant : Grant at s size many
+  pub bare : Bare (site at) m
+  pub tagged : Tagged (site at) s size
+  pub digits : Digits N s size s
 
 -- what the giving of slots is handed by the phases before it: `nodes` lists the added nodes of the scheme, ascending
 pub record BeforeGiving (N : ℕ) (m : Map) (s : List ℕ) (size : ℕ) (nodes : List ℕ) (many : ℕ) (cols : List ℕ) : Type 0 where

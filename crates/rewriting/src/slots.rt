@@ -1,6 +1,5 @@
 // The darts of the added pairs: each takes the lowest slot that is left of those unused in the table without the deleted darts, by orbit dart and then
 // by node, and the tag of the dart of its donor.
-use model::MAX_SLOTS;
 use orbit::store::keep;
 use orbit::store::word;
 use table::words::put_link;
@@ -8,17 +7,14 @@ use table::words::put_state;
 use table::words::put_tag;
 use table::words::state;
 ghost use mathlib.Core.Path.{_≡_};
-ghost use Prim.Native.Nat.{_+_, _*_, _<_};
+ghost use Prim.Native.Nat.{ℕ, _+_, _*_, _<_, _≤_};
 ghost use lib.ListN.{length};
 ghost use Rattle.base.specs.Below.{countBelow};
-ghost use Rattle.model.specs.Map.{view};
+ghost use Rattle.model.specs.Map.{view, maxSlots};
 ghost use Rattle.table.specs.Words.{Sized};
 ghost use Rattle.orbit.specs.At.{site};
 ghost use Rattle.rewriting.specs.Slots.{Room, Lowest, revived, Apart, ColumnsBegin, Turn, Granting};
-ghost use Rattle.rewriting.specs.Slots.{early, Placed, NoDigits, Digits, Block, BeforeGiving, Granted};
-
-// The words that hold a binary digit for each slot of the largest table.
-const DIGITS: usize = MAX_SLOTS as usize / 64;
+ghost use Rattle.rewriting.specs.Slots.{Placed, blockCount, digitWords, NoDigits, Digits, Block, BeforeBlocks, BeforeGiving, Granted};
 
 // The lowest unused slot from `from` on. Four slots a turn: in a full table this scan is most of what an added dart costs.
 fn lowest(slots: usize, table: &[u32], from: usize) -> usize
@@ -99,19 +95,49 @@ fn columns(slots: usize, size: usize, added: &[u8; 16], many: usize, cols: &mut 
     }
 }
 
-// The darts at the first `size` places as binary digits, 64 slots a word, so that they can be taken ascending.
-fn mark_bits(slots: usize, store: &[u32], size: usize, bits: &mut [u64; DIGITS])
+// How many blocks of 64 slots there are. The last may be shorter.
+fn block_count(slots: usize) -> usize
+    requires { ⌜ slots ≤ maxSlots ⌝ }
+    ensures { λ r. ⌜ r ≡ blockCount slots ⌝ }
+{
+    (slots + 63) / 64
+}
+
+// The words of the store for the digits become 0.
+fn clear_bits(slots: usize, store: &mut [u32])
+    requires { ⌜ slots ≤ maxSlots ⌝ }
+    requires { ⌜ length (now store) ≡ 16 * slots ⌝ }
+    ensures { λ _. ⌜ NoDigits slots (now (store .entry)) (digitWords slots) (now (store .exit)) ⌝ }
+{
+    let end = 2 * block_count(slots);
+    let mut i = 0;
+    while i < end {
+        keep(store, 8 * slots + i, 0);
+        i += 1;
+    }
+}
+
+// The darts at the first `size` places as binary digits, 32 slots a word, so that they can be taken ascending.
+fn mark_bits(slots: usize, store: &mut [u32], size: usize)
     requires { ⌜ Placed slots (now store) size ⌝ }
-    requires { ⌜ NoDigits (now bits) ⌝ }
-    ensures { λ _. ⌜ Digits (early slots (now (store .entry)) size) (now (bits .exit)) ⌝ }
+    requires { ⌜ NoDigits slots (now store) (digitWords slots) (now store) ⌝ }
+    ensures { λ _. ⌜ Digits slots (now (store .entry)) size (now (store .exit)) ⌝ }
 {
     let mut r = 0;
     while r < size {
         let u = word(store, slots + r);
-        let w = u / 64;
-        bits[w] = bits[w] + (1 << (u % 64));
+        let at = 8 * slots + u / 32;
+        let old = word(store, at);
+        keep(store, at, old + (1 << (u % 32)));
         r += 1;
     }
+}
+
+// The digits of a block, from its two words.
+fn pair(low: u32, high: u32) -> u64
+    ensures { λ r. ⌜ r ≡ low + high * 4294967296 ⌝ }
+{
+    low as u64 + high as u64 * 4294967296
 }
 
 // The darts of all pairs of the orbit darts from 64 * w on whose digits are set in `digits`, ascending. The answer is as in `row`.
@@ -143,6 +169,25 @@ fn block(
     from
 }
 
+// The darts of all added pairs, where the store has the digits of the orbit.
+fn blocks(slots: usize, table: &mut [u32], store: &mut [u32], size: usize, many: usize)
+    requires { ⌜ Sized slots (now table) ⌝ }
+    requires { ⌜ BeforeBlocks slots (view slots (now table)) (now store) size many ⌝ }
+    ensures { λ _. ⌜ ((R : BeforeBlocks slots (view slots (now (table .entry))) (now (store .entry)) size many)
+        → (f : ℕ) × Granting (R .at) (now (store .entry)) size (countBelow (64 * blockCount slots) (site (R .at) .orbit) * many) f
+        (view slots (now (table .exit))) (now (store .exit))) ⌝ }
+{
+    let end = block_count(slots);
+    let mut free = 0;
+    let mut w = 0;
+    while w < end {
+        let at = 8 * slots + 2 * w;
+        let digits = pair(store[at], store[at + 1]);
+        free = block(slots, table, store, size, many, w, digits, free);
+        w += 1;
+    }
+}
+
 // Gives each added pair its dart, in the table and in the store, and `cols` the columns of the added nodes.
 pub fn give(
     slots: usize,
@@ -162,13 +207,7 @@ pub fn give(
         return;
     }
     columns(slots, size, added, many, cols);
-    let mut bits: [u64; DIGITS] = [0; DIGITS];
-    mark_bits(slots, store, size, &mut bits);
-    let mut free = 0;
-    let mut w = 0;
-    while w < DIGITS {
-        let digits = bits[w];
-        free = block(slots, table, store, size, many, w, digits, free);
-        w += 1;
-    }
+    clear_bits(slots, store);
+    mark_bits(slots, store, size);
+    blocks(slots, table, store, size, many);
 }
