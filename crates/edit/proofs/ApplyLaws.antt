@@ -86,7 +86,7 @@ module _ {m : Map} (A : At m) where
       };
       rooted = rooted (A .scheme) (A .sound .accepted) p P;
       coded = coded (A .scheme) (A .sound .accepted .shaped) left;
-      colsLong = wide;
+      rowsLong = wide;
     }
 
     abbrev pub settle-ready : {store′ cols′ : List ℕ} {answer : Bool} → C.Matched (site A) store store′ cols′ size answer → answer ≡ true

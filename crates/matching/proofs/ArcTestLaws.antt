@@ -64,70 +64,70 @@ module _ (N : ℕ) (link : ℕ → ℕ) (s : List ℕ) (from p r q x y z : ℕ) 
 
 -- ---- one arc
 
-module _ (m : Map) (s : List ℕ) (size : ℕ) (dims cols : List ℕ) (j i from : ℕ) where
-  module _ (t to : ℕ) (e : to ≡ getD cols t 0) where
-    pub explicit-later : from < to → true ≡ explicitTest m s size dims cols j i from t
+module _ (m : Map) (s : List ℕ) (size : ℕ) (dims rows : List ℕ) (j i from : ℕ) where
+  module _ (t to : ℕ) (e : to ≡ getD rows t 0) where
+    pub explicit-later : from < to → true ≡ explicitTest m s size dims rows j i from t
     unfolding explicitTest _or_
     explicit-later h = rw (← e, lt-ltb from to h)
 
-    pub explicit-tree : (x : ℕ) → x ≡ getD dims j 0 → x ≡ i → true ≡ explicitTest m s size dims cols j i from t
+    pub explicit-tree : (x : ℕ) → x ≡ getD dims j 0 → x ≡ i → true ≡ explicitTest m s size dims rows j i from t
     unfolding explicitTest
     explicit-tree x d q = sym (or-left _ (or-right _ (rw (← d) (eq-eqb x i q))))
 
     pub explicit-tested : (r : Bool) → to ≤ from → (getD dims j 0 ≡ i → ⊥) → r ≡ follows (m .link i) s size from to (λ q. q) → r
-        ≡ explicitTest m s size dims cols j i from t
+        ≡ explicitTest m s size dims rows j i from t
     unfolding explicitTest _or_
     explicit-tested r h other f = rw (← e, le-ltb from to h, ne-eqb (getD dims j 0) i other) f
 
-  pub code-none : (roots code : ℕ) → code ≡ 255 → true ≡ codeTest m s size dims cols j i from roots code
+  pub code-none : (roots code : ℕ) → code ≡ 255 → true ≡ codeTest m s size dims rows j i from roots code
   unfolding codeTest
   code-none roots code e = rw (eq-eqb code 255 e)
 
   module _ (roots code : ℕ) (some : code ≡ 255 → ⊥) where
-    pub code-explicit : (r : Bool) → code < 16 → r ≡ explicitTest m s size dims cols j i from code → r ≡ codeTest m s size dims cols j i from roots code
+    pub code-explicit : (r : Bool) → code < 16 → r ≡ explicitTest m s size dims rows j i from code → r ≡ codeTest m s size dims rows j i from roots code
     unfolding codeTest
     code-explicit r h e = rw (ne-eqb code 255 some, lt-ltb code 16 h) e
 
-    pub code-hook : 16 ≤ code → j < roots → true ≡ codeTest m s size dims cols j i from roots code
+    pub code-hook : 16 ≤ code → j < roots → true ≡ codeTest m s size dims rows j i from roots code
     unfolding codeTest implicitTest _or_
     code-hook h z = rw (ne-eqb code 255 some, le-ltb code 16 h, lt-ltb j roots z)
 
     pub code-implicit : (r : Bool) → 16 ≤ code → roots ≤ j → r ≡ follows (m .link i) s size from from (λ q. next (m .slots) s q (code - 16)) → r
-        ≡ codeTest m s size dims cols j i from roots code
+        ≡ codeTest m s size dims rows j i from roots code
     unfolding codeTest implicitTest _or_
     code-implicit r h late e = rw (ne-eqb code 255 some, le-ltb code 16 h, le-ltb j roots late) e
 
 -- v, code and from are what the test of an arc reads
-pub arc-read : (m : Map) (s : List ℕ) (size : ℕ) (nodes dims : List ℕ) (roots : ℕ) (codes cols : List ℕ) (j i v code from : ℕ) (r : Bool)
-    → v ≡ getD nodes j 0 → code ≡ getD codes (4 * v + i) 0 → from ≡ getD cols v 0
-    → r ≡ codeTest m s size dims cols j i from roots code → r ≡ arcTest m s size nodes dims roots codes cols j i
+pub arc-read : (m : Map) (s : List ℕ) (size : ℕ) (nodes dims : List ℕ) (roots : ℕ) (codes rows : List ℕ) (j i v code from : ℕ) (r : Bool)
+    → v ≡ getD nodes j 0 → code ≡ getD codes (4 * v + i) 0 → from ≡ getD rows v 0
+    → r ≡ codeTest m s size dims rows j i from roots code → r ≡ arcTest m s size nodes dims roots codes rows j i
 unfolding arcTest
-arc-read m s size nodes dims roots codes cols j i v code from r a b c e = rw (← a, ← c, ← b) e
+arc-read m s size nodes dims roots codes rows j i v code from r a b c e = rw (← a, ← c, ← b) e
 
 -- ---- every arc
 
-module _ (m : Map) (s : List ℕ) (size : ℕ) (nodes dims : List ℕ) (roots : ℕ) (codes cols : List ℕ) where
-  pub arcs-none : arcsTest m s size nodes dims roots codes cols 0 ≡ true
+module _ (m : Map) (s : List ℕ) (size : ℕ) (nodes dims : List ℕ) (roots : ℕ) (codes rows : List ℕ) where
+  pub arcs-none : arcsTest m s size nodes dims roots codes rows 0 ≡ true
   unfolding arcsTest
   arcs-none = all-none _
 
-  module _ (k : ℕ) (r : Bool) (e : r ≡ arcTest m s size nodes dims roots codes cols (k / 4) (k % 4)) where
-    pub arcs-more : r ≡ true → arcsTest m s size nodes dims roots codes cols k ≡ true → arcsTest m s size nodes dims roots codes cols (k + 1) ≡ true
+  module _ (k : ℕ) (r : Bool) (e : r ≡ arcTest m s size nodes dims roots codes rows (k / 4) (k % 4)) where
+    pub arcs-more : r ≡ true → arcsTest m s size nodes dims roots codes rows k ≡ true → arcsTest m s size nodes dims roots codes rows (k + 1) ≡ true
     unfolding arcsTest
     arcs-more h f = all-more _ k f (sym e ∙ h)
 
-    pub arcs-stop : r ≡ false → (bound : ℕ) → k < bound → false ≡ arcsTest m s size nodes dims roots codes cols bound
+    pub arcs-stop : r ≡ false → (bound : ℕ) → k < bound → false ≡ arcsTest m s size nodes dims roots codes rows bound
     unfolding arcsTest
     arcs-stop h bound l = all-stops _ k bound l (sym e ∙ h)
 
-  pub arcs-done : (k bound : ℕ) → k ≤ bound → bound ≤ k → arcsTest m s size nodes dims roots codes cols k ≡ true → true
-      ≡ arcsTest m s size nodes dims roots codes cols bound
+  pub arcs-done : (k bound : ℕ) → k ≤ bound → bound ≤ k → arcsTest m s size nodes dims roots codes rows k ≡ true → true
+      ≡ arcsTest m s size nodes dims roots codes rows bound
   unfolding arcsTest
   arcs-done k bound h l e = all-ends _ k bound e h l
 
 -- ---- what the tests of an arc ask for
 
-module _ (N : ℕ) (s : List ℕ) (size : ℕ) (nodes codes cols : List ℕ) (count : ℕ) (f : Firm N s size nodes codes cols count)
+module _ (N : ℕ) (s : List ℕ) (size : ℕ) (nodes codes rows : List ℕ) (count : ℕ) (f : Firm N s size nodes codes rows count)
     (j i : ℕ) (h : j < count) (k : i < 4) (v : ℕ) (a : v ≡ getD nodes j 0) where
   pub firm-node : v < 16
   firm-node = rw a (f .node j h)
@@ -136,20 +136,20 @@ module _ (N : ℕ) (s : List ℕ) (size : ℕ) (nodes codes cols : List ℕ) (co
     code-is : code ≡ getD codes (4 * getD nodes j 0 + i) 0
     code-is = b ∙ ap (λ (z : ℕ). getD codes (4 * z + i) 0) a
 
-    testable : (to : ℕ) → to + size ≤ 2 * N → Testable N s size (getD cols v 0) to
+    testable : (to : ℕ) → to + size ≤ 2 * N → Testable N s size (getD rows v 0) to
     testable to o = record {
       long = f .long;
       few = f .few;
-      fromInside = rw a (f .column j h);
+      fromInside = rw a (f .row j h);
       toInside = o;
       slots = rw a (f .slots j h);
     }
 
-    pub firm-explicit : code < 16 → Testable N s size (getD cols v 0) (getD cols code 0)
-    firm-explicit g = testable (getD cols code 0) (rw code-is (f .target j i h k (rw code-is at g)))
+    pub firm-explicit : code < 16 → Testable N s size (getD rows v 0) (getD rows code 0)
+    firm-explicit g = testable (getD rows code 0) (rw code-is (f .target j i h k (rw code-is at g)))
 
-    pub firm-implicit : 16 ≤ code → (code ≡ 255 → ⊥) → Testable N s size (getD cols v 0) (getD cols v 0) × ((code - 16 < 4) × Turns N s (code - 16) size)
+    pub firm-implicit : 16 ≤ code → (code ≡ 255 → ⊥) → Testable N s size (getD rows v 0) (getD rows v 0) × ((code - 16 < 4) × Turns N s (code - 16) size)
     firm-implicit g ne =
         let r = f .turn j i h k (rw code-is at g) (λ q. ne (code-is ∙ q)) in
         let same = code-is in
-        (testable (getD cols v 0) (rw a (f .column j h)), (omega (arith, r .0), rw code-is (r .1)))
+        (testable (getD rows v 0) (rw a (f .row j h)), (omega (arith, r .0), rw code-is (r .1)))

@@ -1,4 +1,4 @@
--- The laws of `assign`: with all columns in the store, the arcs pass their tests just where there is a match, and then each dart is the image of its pair.
+-- The laws of `assign`: with all rows in the store, the arcs pass their tests just where there is a match, and then each dart is the image of its pair.
 -- Assumes nothing.
 use Prim.Native.Nat.{ℕ, _+_, _*_, _-_, _/_, _%_, _≤_, _<_}
 use mathlib.Core.Path.{_≡_, refl, sym, ap, ap₂, _∙_, subst}
@@ -28,14 +28,14 @@ use Rattle.orbit.specs.At.{site}
 use Rattle.orbit.specs.Store.{mark, place, next, dartAt, Taken, Assigned}
 use Rattle.model.specs.Codes.{arcCode}
 use Rattle.model.specs.Shaped.{Coded}
-use Rattle.matching.specs.Opposite.{Longer, HungAll}
-use Rattle.matching.specs.Columns.{BeforeMatching, Grown}
+use Rattle.matching.specs.Retrace.{Longer, HungAll}
+use Rattle.matching.specs.Images.{BeforeMatching, Grown}
 use Rattle.matching.specs.ArcTests.{Turns, follows, explicitTest, implicitTest, codeTest, arcTest, arcsTest, Firm}
 use Rattle.matching.specs.Assign.{Posed, Matched}
 use Rattle.orbit.proofs.PlaceLaws.{place-in, place-of}
-use Rattle.matching.proofs.ColumnLaws.{longer-less, longer-trans, longer-mark, longer-kept}
-use Rattle.matching.proofs.OppositeLaws.{next-longer, hung-walked}
-use Rattle.matching.proofs.ColumnTreeLaws.{good, node-below, hooks-some, hook-node, dart-at, dart-slot, column-inside, images, arc-image, turn-image}
+use Rattle.matching.proofs.ImageRowLaws.{longer-less, longer-trans, longer-mark, longer-kept}
+use Rattle.matching.proofs.RetraceLaws.{next-longer, hung-walked}
+use Rattle.matching.proofs.RowTreeLaws.{good, node-below, hooks-some, hook-node, dart-at, dart-slot, row-inside, images, arc-image, turn-image}
 
 -- ---- the tests
 
@@ -49,10 +49,10 @@ follows-of : (link : ℕ → ℕ) (s : List ℕ) (size from base : ℕ) (to : �
 unfolding follows
 follows-of link s size from base to f = all-of size _ (λ r h. eq-eqb _ _ (f r h))
 
-module _ (m : Map) (s : List ℕ) (size : ℕ) (dims cols : List ℕ) (j i from roots : ℕ) where
+module _ (m : Map) (s : List ℕ) (size : ℕ) (dims rows : List ℕ) (j i from roots : ℕ) where
   -- what a test that holds says of each kind of arc
-  explicit-cases : (t : ℕ) → t < 16 → codeTest m s size dims cols j i from roots t ≡ true
-      → (from < getD cols t 0) ⊎ ((getD dims j 0 ≡ i) ⊎ (follows (m .link i) s size from (getD cols t 0) (λ r. r) ≡ true))
+  explicit-cases : (t : ℕ) → t < 16 → codeTest m s size dims rows j i from roots t ≡ true
+      → (from < getD rows t 0) ⊎ ((getD dims j 0 ≡ i) ⊎ (follows (m .link i) s size from (getD rows t 0) (λ r. r) ≡ true))
   unfolding codeTest explicitTest
   explicit-cases t h e =
       let f = rw (ne-eqb t 255 (λ q. absurd (omega arith)), lt-ltb t 16 h) at e in
@@ -64,7 +64,7 @@ module _ (m : Map) (s : List ℕ) (size : ℕ) (dims cols : List ℕ) (j i from 
       (λ o. inr (inr o))
       (or-cases _ _ f)
 
-  implicit-case : (p : ℕ) → p < 4 → roots ≤ j → codeTest m s size dims cols j i from roots (16 + p) ≡ true
+  implicit-case : (p : ℕ) → p < 4 → roots ≤ j → codeTest m s size dims rows j i from roots (16 + p) ≡ true
       → follows (m .link i) s size from from (λ r. next (m .slots) s r p) ≡ true
   unfolding codeTest implicitTest _or_
   implicit-case p h late e =
@@ -72,23 +72,23 @@ module _ (m : Map) (s : List ℕ) (size : ℕ) (dims cols : List ℕ) (j i from 
       rw (ne-eqb (16 + p) 255 (λ q. absurd (omega arith)), le-ltb (16 + p) 16 (omega arith), le-ltb j roots late, same) at e
 
   -- a test holds where the arc does
-  absent-holds : codeTest m s size dims cols j i from roots 255 ≡ true
+  absent-holds : codeTest m s size dims rows j i from roots 255 ≡ true
   unfolding codeTest
   absent-holds = refl
 
-  explicit-holds : (t : ℕ) → t < 16 → follows (m .link i) s size from (getD cols t 0) (λ r. r) ≡ true → codeTest m s size dims cols j i from roots t ≡ true
+  explicit-holds : (t : ℕ) → t < 16 → follows (m .link i) s size from (getD rows t 0) (λ r. r) ≡ true → codeTest m s size dims rows j i from roots t ≡ true
   unfolding codeTest explicitTest
   explicit-holds t h f = rw (ne-eqb t 255 (λ q. absurd (omega arith)), lt-ltb t 16 h) (or-right _ f)
 
   implicit-holds : (p : ℕ) → p < 4 → follows (m .link i) s size from from (λ r. next (m .slots) s r p) ≡ true
-      → codeTest m s size dims cols j i from roots (16 + p) ≡ true
+      → codeTest m s size dims rows j i from roots (16 + p) ≡ true
   unfolding codeTest implicitTest
   implicit-holds p h f =
       let same : 16 + p - 16 ≡ p = omega arith in
       rw (ne-eqb (16 + p) 255 (λ q. absurd (omega arith)), le-ltb (16 + p) 16 (omega arith), same) (or-right _ f)
 
 module _ {M : Map} {s : List ℕ} {size : ℕ} {nodes parents dims : List ℕ} {roots count : ℕ}
-    (R : BeforeMatching M s size nodes parents dims roots count) {s′ cols : List ℕ} (G : Grown M nodes parents dims roots s s′ cols size count)
+    (R : BeforeMatching M s size nodes parents dims roots count) {s′ rows : List ℕ} (G : Grown M nodes parents dims roots s s′ rows size count)
     {codes : List ℕ} (C : Coded (R .at .scheme) left codes) where
   abbrev E : Site
   E = site (R .at)
@@ -103,9 +103,9 @@ module _ {M : Map} {s : List ℕ} {size : ℕ} {nodes parents dims : List ℕ} {
   abbrev node : ℕ → ℕ
   node k = getD nodes k 0
 
-  -- the dart in the column of node v at place r
+  -- the dart in the row of node v at place r
   abbrev at : ℕ → ℕ → ℕ
-  at v r = dartAt s′ (getD cols v 0) r
+  at v r = dartAt s′ (getD rows v 0) r
 
   abbrev single : SingleSide S left
   single = accepted .sides left
@@ -129,31 +129,31 @@ module _ {M : Map} {s : List ℕ} {size : ℕ} {nodes parents dims : List ℕ} {
 
   -- ---- an arc can be tested
 
-  pub firm : Firm N s′ size nodes codes cols count
+  pub firm : Firm N s′ size nodes codes rows count
   firm = record {
     long = G .taken .long;
     few = R .walked .fits;
     entries = R .rooted .few;
     node = λ j h. node-below R j h;
-    column = inside;
+    row = inside;
     slots = λ j h. record { slot = λ r k. dart-slot R G j r h k .0 };
     target = λ j i h k c. to j i h k (arcAt S left (node j) i) refl c;
     turn = λ j i h k c ne. turns j i h k (arcAt S left (node j) i) refl c ne;
   }
     where
-      inside : (j : ℕ) → j < count → getD cols (node j) 0 + size ≤ 2 * N
+      inside : (j : ℕ) → j < count → getD rows (node j) 0 + size ≤ 2 * N
       inside j h =
-          let b = column-inside R G j h in
+          let b = row-inside R G j h in
           omega (arith, b .1, G .taken .fits)
 
       to : (j i : ℕ) → j < count → i < 4 → (a : Arc) → arcAt S left (node j) i ≡ a → getD codes (4 * node j + i) 0 < 16
-          → getD cols (getD codes (4 * node j + i) 0) 0 + size ≤ 2 * N
+          → getD rows (getD codes (4 * node j + i) 0) 0 + size ≤ 2 * N
       to j i h k absent e c = let q = code-at j i h k ∙ ap arcCode e in absurd (omega arith)
       to j i h k (explicit w) e c =
           let q : getD codes (4 * node j + i) 0 ≡ w = code-at j i h k ∙ ap arcCode e in
           let end = explicit-end S left single (node j) i w e in
           let z = R .rooted .every w (end .0) (end .1) in
-          subst (λ (v : ℕ). getD cols v 0 + size ≤ 2 * N) (z .2 ∙ sym q) (inside (z .0) (z .1))
+          subst (λ (v : ℕ). getD rows v 0 + size ≤ 2 * N) (z .2 ∙ sym q) (inside (z .0) (z .1))
       to j i h k (implicit p) e c = let q = code-at j i h k ∙ ap arcCode e in absurd (omega arith)
 
       turns : (j i : ℕ) → j < count → i < 4 → (a : Arc) → arcAt S left (node j) i ≡ a → 16 ≤ getD codes (4 * node j + i) 0
@@ -178,28 +178,28 @@ module _ {M : Map} {s : List ℕ} {size : ℕ} {nodes parents dims : List ℕ} {
         subst (λ (w : ℕ). at w r ≡ image E (place N s r) w) (z .2) (images R q G (omega arith) (z .0) r (z .1) b)
 
     arc-holds : (j i : ℕ) → j < count → i < 4 → (a : Arc) → arcAt S left (node j) i ≡ a
-        → codeTest m s′ size dims cols j i (getD cols (node j) 0) roots (arcCode a) ≡ true
-    arc-holds j i h k absent e = absent-holds m s′ size dims cols j i (getD cols (node j) 0) roots
+        → codeTest m s′ size dims rows j i (getD rows (node j) 0) roots (arcCode a) ≡ true
+    arc-holds j i h k absent e = absent-holds m s′ size dims rows j i (getD rows (node j) 0) roots
     arc-holds j i h k (explicit w) e =
         let end = explicit-end S left single (node j) i w e in
         let on = R .rooted .onLeft j h in
-        explicit-holds m s′ size dims cols j i (getD cols (node j) 0) roots w (omega (arith, end .0, accepted .shaped .nodesFew))
-        (follows-of (m .link i) s′ size (getD cols (node j) 0) (getD cols w 0) (λ r. r) (λ r b.
+        explicit-holds m s′ size dims rows j i (getD rows (node j) 0) roots w (omega (arith, end .0, accepted .shaped .nodesFew))
+        (follows-of (m .link i) s′ size (getD rows (node j) 0) (getD rows w 0) (λ r. r) (λ r b.
         ap (m .link i) (image-at (node j) r (on .0) (on .1) b)
         ∙ arc-image R q (place N s r) (node j) i w (place-in (R .walked) r b) (on .0) (on .1) (end .2) e
         ∙ sym (image-at w r (end .0) (end .1) b)))
     arc-holds j i h k (implicit p) e =
         let on = R .rooted .onLeft j h in
         let f = implicit-in (node j) i p (on .0) k e in
-        implicit-holds m s′ size dims cols j i (getD cols (node j) 0) roots p (f .1)
-        (follows-of (m .link i) s′ size (getD cols (node j) 0) (getD cols (node j) 0) (λ r. next N s′ r p) (λ r b.
+        implicit-holds m s′ size dims rows j i (getD rows (node j) 0) roots p (f .1)
+        (follows-of (m .link i) s′ size (getD rows (node j) 0) (getD rows (node j) 0) (λ r. next N s′ r p) (λ r b.
         let g = turn r p b (f .0) in
         ap (m .link i) (image-at (node j) r (on .0) (on .1) b)
         ∙ turn-image R q (place N s r) (node j) i p (place-in (R .walked) r b) (on .0) (on .1) (f .2) e
         ∙ ap (λ (u : ℕ). image E u (node j)) (sym (g .1))
         ∙ sym (image-at (node j) (next N s′ r p) (on .0) (on .1) (g .0))))
 
-    pub match-tests : arcsTest m s′ size nodes dims roots codes cols (4 * count) ≡ true
+    pub match-tests : arcsTest m s′ size nodes dims roots codes rows (4 * count) ≡ true
     unfolding arcsTest arcTest
     match-tests = all-of (4 * count) _ (λ k h.
         let j : k / 4 < count = omega arith in
@@ -276,17 +276,17 @@ module _ {M : Map} {s : List ℕ} {size : ℕ} {nodes parents dims : List ℕ} {
       ap (place N s) at₁ ∙ R .hung .second (z .1) .first row)
       (hook-node R (roots - 1) (omega arith))
 
-  module _ (T : arcsTest m s′ size nodes dims roots codes cols (4 * count) ≡ true) where
+  module _ (T : arcsTest m s′ size nodes dims roots codes rows (4 * count) ≡ true) where
     test-at : (j i : ℕ) → j < count → i < 4 → (a : Arc) → arcAt S left (node j) i ≡ a
-        → codeTest m s′ size dims cols j i (getD cols (node j) 0) roots (arcCode a) ≡ true
+        → codeTest m s′ size dims rows j i (getD rows (node j) 0) roots (arcCode a) ≡ true
     unfolding arcsTest arcTest
     test-at j i h k a e =
         let by-four : (4 * j + i) / 4 ≡ j = omega arith in
         let rest : (4 * j + i) % 4 ≡ i = omega arith in
         let f = all-at (4 * count) _ T (4 * j + i) (omega arith) in
-        ap (codeTest m s′ size dims cols j i (getD cols (node j) 0) roots) (sym (code-at j i h k ∙ ap arcCode e)) ∙ (rw (by-four, rest) at f)
+        ap (codeTest m s′ size dims rows j i (getD rows (node j) 0) roots) (sym (code-at j i h k ∙ ap arcCode e)) ∙ (rw (by-four, rest) at f)
 
-    -- an explicit arc from a column to one that is not later
+    -- an explicit arc from a row to one that is not later
     arc-back : (j k i r : ℕ) → j < count → k < count → k ≤ j → i < 4 → r < size → arcAt S left (node j) i ≡ explicit (node k)
         → m .link i (at (node j) r) ≡ at (node k) r
     arc-back j k i r h l o b c e =
@@ -305,9 +305,9 @@ module _ {M : Map} {s : List ℕ} {size : ℕ} {nodes parents dims : List ℕ} {
         let low : i ≤ S .n = subst (λ (x : ℕ). x ≤ S .n) tree (arc .0) in
         let on = dart-slot R G k r l c in
         ap (m .link i) step ∙ well .back (at (node k) r) (on .0) (on .1) i low)
-        (λ f. follows-at (m .link i) s′ size (getD cols (node j) 0) (getD cols (node k) 0) (λ q. q) f r c)
+        (λ f. follows-at (m .link i) s′ size (getD rows (node j) 0) (getD rows (node k) 0) (λ q. q) f r c)
         w)
-        (explicit-cases m s′ size dims cols j i (getD cols (node j) 0) roots (node k) below (test-at j i h b (explicit (node k)) e))
+        (explicit-cases m s′ size dims rows j i (getD rows (node j) 0) roots (node k) below (test-at j i h b (explicit (node k)) e))
 
     -- an explicit arc, from either end
     arc-at : (v w i r : ℕ) → v < S .nodes → has S left v ≡ true → r < size → arcAt S left v i ≡ explicit w → m .link i (at v r) ≡ at w r
@@ -360,7 +360,7 @@ module _ {M : Map} {s : List ℕ} {size : ℕ} {nodes parents dims : List ℕ} {
         (λ late.
         let few : p < 4 = omega (arith, small S (accepted .shaped), accepted .shaped .placesFew) in
         let a : arcAt S left (node (z .0)) i ≡ implicit p = ap (λ (x : ℕ). arcAt S left x i) (z .2) ∙ e in
-        let g = implicit-case m s′ size dims cols (z .0) i (getD cols (node (z .0)) 0) roots p few (omega arith) (test-at (z .0) i (z .1) k (implicit p) a) in
+        let g = implicit-case m s′ size dims rows (z .0) i (getD rows (node (z .0)) 0) roots p few (omega arith) (test-at (z .0) i (z .1) k (implicit p) a) in
         follows-at (m .link i) s′ size _ _ (λ q. next N s′ q p) g r c))
 
     -- two pairs with one dart are one pair
@@ -415,32 +415,32 @@ module _ {M : Map} {s : List ℕ} {size : ℕ} {nodes parents dims : List ℕ} {
 
   -- ---- the answer
 
-  assigned-columns : matches E ≡ true → Assigned E s′ cols size
-  assigned-columns q = record {
+  assigned-rows : matches E ≡ true → Assigned E s′ rows size
+  assigned-rows q = record {
     inside = λ v h l.
         let z = R .rooted .every v h l in
-        let b = column-inside R G (z .0) (z .1) in
+        let b = row-inside R G (z .0) (z .1) in
         let full = G .taken .fits in
-        subst (λ (w : ℕ). (N ≤ getD cols w 0) × (getD cols w 0 + size ≤ 2 * N)) (z .2) (b .0, omega (arith, b .1));
+        subst (λ (w : ℕ). (N ≤ getD rows w 0) × (getD rows w 0 + size ≤ 2 * N)) (z .2) (b .0, omega (arith, b .1));
     dart = λ v r h l b. image-at q v r h l b ∙ ap (λ (u : ℕ). image E u v) (sym (G .longer .places r (omega (arith, first-row))));
   }
 
-  -- s₀ is the store before the second hook had its column
-  pub matched : (s₀ : List ℕ) → Taken N s₀ size → Longer N s₀ s size → (b : Bool) → b ≡ arcsTest m s′ size nodes dims roots codes cols (4 * count)
-      → Matched E s₀ s′ cols size b
+  -- s₀ is the store before the second hook had its row
+  pub matched : (s₀ : List ℕ) → Taken N s₀ size → Longer N s₀ s size → (b : Bool) → b ≡ arcsTest m s′ size nodes dims roots codes rows (4 * count)
+      → Matched E s₀ s′ rows size b
   matched s₀ T L b e =
       let longer = longer-trans N s₀ s size L s′ (longer-less N s s′ (roots * size) (G .longer) size first-row) in
       record {
         is = e ∙ same-test _ _ tests-match match-tests;
         long = G .taken .long ∙ sym (T .long);
-        assigned = λ f. assigned-columns (tests-match (sym e ∙ f));
+        assigned = λ f. assigned-rows (tests-match (sym e ∙ f));
         kept = λ f. longer-kept N s₀ s′ size longer (count * size) T (G .taken) (omega (arith, first-row, more)) size (omega arith);
         wide = λ f. G .wide;
       }
 
--- what the columns start from, once the hooks have theirs
-module _ {m : Map} {s : List ℕ} {size : ℕ} {orbit : List ℕ} {k other : ℕ} {nodes parents dims : List ℕ} {roots count : ℕ} {codes cols₀ : List ℕ}
-    (P : Posed m s size orbit k other nodes parents dims roots count codes cols₀) {s′ : List ℕ} {w : Bool}
+-- what the rows start from, once the hooks have theirs
+module _ {m : Map} {s : List ℕ} {size : ℕ} {orbit : List ℕ} {k other : ℕ} {nodes parents dims : List ℕ} {roots count : ℕ} {codes rows₀ : List ℕ}
+    (P : Posed m s size orbit k other nodes parents dims roots count codes rows₀) {s′ : List ℕ} {w : Bool}
     (H : HungAll m s s′ size orbit k other roots w) (e : w ≡ true) where
   abbrev pub ready : BeforeMatching m s′ size nodes parents dims roots count
   ready = record {
@@ -450,12 +450,12 @@ module _ {m : Map} {s : List ℕ} {size : ℕ} {orbit : List ℕ} {k other : ℕ
     rooted = P .rooted;
   }
 
-  pub matched-at : {s″ cols : List ℕ} → Grown m nodes parents dims roots s′ s″ cols size count → (b : Bool)
-      → b ≡ arcsTest m s″ size nodes dims roots codes cols (4 * count) → Matched (site (P .ready .at)) s s″ cols size b
+  pub matched-at : {s″ rows : List ℕ} → Grown m nodes parents dims roots s′ s″ rows size count → (b : Bool)
+      → b ≡ arcsTest m s″ size nodes dims roots codes rows (4 * count) → Matched (site (P .ready .at)) s s″ rows size b
   matched-at G b f = matched ready G (P .coded) s (P .ready .taken) (H .done e (P .ready) .1) b f
 
 -- where two pairs fall on one dart, or the other dart is in the orbit
-pub unmatched : {E : Site} {s s′ cols : List ℕ} {size : ℕ} → matches E ≡ false → length s′ ≡ length s → Matched E s s′ cols size false
+pub unmatched : {E : Site} {s s′ rows : List ℕ} {size : ℕ} → matches E ≡ false → length s′ ≡ length s → Matched E s s′ rows size false
 unmatched e long = record {
   is = sym e;
   long = long;

@@ -1,6 +1,6 @@
-pub mod ColumnLaws
-pub mod OppositeLaws
-pub mod ColumnTreeLaws
+pub mod ImageRowLaws
+pub mod RetraceLaws
+pub mod RowTreeLaws
 pub mod ArcTestLaws
 pub mod AssignLaws
 pub mod RootedLaws

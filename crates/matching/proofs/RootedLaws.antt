@@ -16,7 +16,7 @@ use Rattle.model.proofs.HookLaws.{first-hook, second-hook, reached-found}
 use Rattle.conditions.specs.Tree.{Ends, rootsOf, TreeOf}
 use Rattle.conditions.specs.declared.tree.Tree.{Tree}
 use Rattle.conditions.proofs.TreeLaws.{root-cases}
-use Rattle.matching.specs.Columns.{Rooted}
+use Rattle.matching.specs.Images.{Rooted}
 
 module _ (S : Scheme) (A : Accepted S) where
   -- the far end of a left arc is a left node, and the arc is found from the near end

@@ -12,26 +12,26 @@ use Rattle.model.specs.Match.{matches}
 use Rattle.model.specs.Shaped.{Coded}
 use Rattle.orbit.specs.Store.{Assigned, Kept}
 use Rattle.orbit.specs.At.{site}
-use Rattle.matching.specs.Opposite.{BeforeHanging}
-use Rattle.matching.specs.Columns.{Rooted}
+use Rattle.matching.specs.Retrace.{BeforeHanging}
+use Rattle.matching.specs.Images.{Rooted}
 
--- the orbit in the store, the trees of the scheme with the codes of its left arcs, and room for the columns of all nodes
+-- the orbit in the store, the trees of the scheme with the codes of its left arcs, and room for the rows of all nodes
 pub record Posed (m : Map) (s : List ℕ) (size : ℕ) (orbit : List ℕ) (k other : ℕ) (nodes parents dims : List ℕ) (roots count : ℕ)
-    (codes cols : List ℕ) : Type 0 where
+    (codes rows : List ℕ) : Type 0 where
   pub ready : BeforeHanging m s size orbit k other roots
   pub rooted : Rooted (ready .at .scheme) roots count nodes parents dims
   pub coded : Coded (ready .at .scheme) left codes
-  pub colsLong : length cols ≡ 16
+  pub rowsLong : length rows ≡ 16
 
--- the answer on the match at a site, and what the store and the columns hold where there is one
-pub record Matched (E : Site) (s s′ cols : List ℕ) (size : ℕ) (answer : Bool) : Type 0 where
+-- the answer on the match at a site, and what the store and the rows hold where there is one
+pub record Matched (E : Site) (s s′ rows : List ℕ) (size : ℕ) (answer : Bool) : Type 0 where
   pub is : answer ≡ matches E
   pub long : length s′ ≡ length s
-  pub assigned : answer ≡ true → Assigned E s′ cols size
+  pub assigned : answer ≡ true → Assigned E s′ rows size
   pub kept : answer ≡ true → Kept (E .map .slots) s s′ size
-  pub wide : answer ≡ true → length cols ≡ 16
+  pub wide : answer ≡ true → length rows ≡ 16
 
 -- it is the answer for the site at which it was asked
 pub record Answered (m : Map) (s : List ℕ) (size : ℕ) (orbit : List ℕ) (k other : ℕ) (nodes parents dims : List ℕ) (roots count : ℕ)
-    (codes cols s′ cols′ : List ℕ) (answer : Bool) : Type 0 where
-  pub at : (P : Posed m s size orbit k other nodes parents dims roots count codes cols) → Matched (site (P .ready .at)) s s′ cols′ size answer
+    (codes rows s′ rows′ : List ℕ) (answer : Bool) : Type 0 where
+  pub at : (P : Posed m s size orbit k other nodes parents dims roots count codes rows) → Matched (site (P .ready .at)) s s′ rows′ size answer

@@ -1,4 +1,4 @@
-pub mod Opposite
-pub mod Columns
+pub mod Retrace
+pub mod Images
 pub mod ArcTests
 pub mod Assign

@@ -10,7 +10,7 @@ ghost use Rattle.table.specs.Words.{Sized};
 ghost use Rattle.orbit.specs.Store.{next};
 ghost use Rattle.matching.specs.ArcTests.{Testable, Turns, follows, explicitTest, arcTest, arcsTest, Firm};
 
-// The i-links lead from the column at `from` to the column at `to`.
+// The i-links lead from the row at `from` to the row at `to`.
 fn straight(
     slots: usize,
     table: &[u32],
@@ -35,7 +35,7 @@ fn straight(
     true
 }
 
-// The i-links lead within the column at `from` as the links at position p of the orbit type lead within the orbit.
+// The i-links lead within the row at `from` as the links at position p of the orbit type lead within the orbit.
 fn turned(
     slots: usize,
     table: &[u32],
@@ -61,25 +61,25 @@ fn turned(
     true
 }
 
-// The explicit arc of entry j at dimension i, from the column at `from` to that of node t: tested from the later column, and not where it is the tree's.
+// The explicit arc of entry j at dimension i, from the row at `from` to that of node t: tested from the later row, and not where it is the tree's.
 fn explicit(
     slots: usize,
     table: &[u32],
     store: &[u32],
     size: usize,
     dims: &[u8; 16],
-    cols: &[usize; 16],
+    rows: &[usize; 16],
     j: usize,
     i: usize,
     from: usize,
     t: usize,
 ) -> bool
     requires { ⌜ Sized slots (now table) ⌝ }
-    requires { ⌜ Testable slots (now store) size from (getD (now cols) t 0) ⌝ }
+    requires { ⌜ Testable slots (now store) size from (getD (now rows) t 0) ⌝ }
     requires { ⌜ (i ≤ 3) × (j < 16) × (t < 16) ⌝ }
-    ensures { λ r. ⌜ r ≡ explicitTest (view slots (now (table .entry))) (now (store .entry)) size (now (dims .entry)) (now (cols .entry)) j i from t ⌝ }
+    ensures { λ r. ⌜ r ≡ explicitTest (view slots (now (table .entry))) (now (store .entry)) size (now (dims .entry)) (now (rows .entry)) j i from t ⌝ }
 {
-    let to = cols[t];
+    let to = rows[t];
     if from < to {
         return true;
     }
@@ -100,24 +100,24 @@ fn arc(
     roots: usize,
     count: usize,
     codes: &[u8; 64],
-    cols: &[usize; 16],
+    rows: &[usize; 16],
     j: usize,
     i: usize,
 ) -> bool
     requires { ⌜ Sized slots (now table) ⌝ }
-    requires { ⌜ Firm slots (now store) size (now nodes) (now codes) (now cols) count ⌝ }
+    requires { ⌜ Firm slots (now store) size (now nodes) (now codes) (now rows) count ⌝ }
     requires { ⌜ (j < count) × (i < 4) ⌝ }
     ensures { λ r. ⌜ r ≡ arcTest (view slots (now (table .entry))) (now (store .entry)) size (now (nodes .entry)) (now (dims .entry)) roots
-        (now (codes .entry)) (now (cols .entry)) j i ⌝ }
+        (now (codes .entry)) (now (rows .entry)) j i ⌝ }
 {
     let v = wide(nodes[j]);
     let code = wide(codes[4 * v + i]);
     if code == 255 {
         return true;
     }
-    let from = cols[v];
+    let from = rows[v];
     if code < 16 {
-        return explicit(slots, table, store, size, dims, cols, j, i, from, code);
+        return explicit(slots, table, store, size, dims, rows, j, i, from, code);
     }
     if j < roots {
         return true;
@@ -136,12 +136,12 @@ pub(crate) fn arcs(
     roots: usize,
     count: usize,
     codes: &[u8; 64],
-    cols: &[usize; 16],
+    rows: &[usize; 16],
 ) -> bool
     requires { ⌜ Sized slots (now table) ⌝ }
-    requires { ⌜ Firm slots (now store) size (now nodes) (now codes) (now cols) count ⌝ }
+    requires { ⌜ Firm slots (now store) size (now nodes) (now codes) (now rows) count ⌝ }
     ensures { λ r. ⌜ r ≡ arcsTest (view slots (now (table .entry))) (now (store .entry)) size (now (nodes .entry)) (now (dims .entry)) roots
-        (now (codes .entry)) (now (cols .entry)) (4 * count) ⌝ }
+        (now (codes .entry)) (now (rows .entry)) (4 * count) ⌝ }
 {
     let mut k = 0;
     while k < 4 * count {
@@ -155,7 +155,7 @@ pub(crate) fn arcs(
             roots,
             count,
             codes,
-            cols,
+            rows,
             k / 4,
             k % 4,
         ) {

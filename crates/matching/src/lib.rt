@@ -1,13 +1,13 @@
-// The match: the darts of the left nodes, column by column along the trees of left arcs, then the other arcs over the whole orbit.
+// The match: the darts of the left nodes, row by row along the trees of left arcs, then the other arcs over the whole orbit.
 mod arcs;
-mod columns;
-mod opposite;
+mod images;
+mod retrace;
 
 ghost use Rattle.model.specs.Map.{view};
 ghost use Rattle.table.specs.Words.{Sized};
 ghost use Rattle.matching.specs.Assign.{Posed, Answered};
 
-// Whether the scheme of the trees and the codes matches at the orbit in the store, with its second hook at `other`; where it does, the columns of its
+// Whether the scheme of the trees and the codes matches at the orbit in the store, with its second hook at `other`; where it does, the rows of its
 // left nodes.
 pub fn assign<'a>(
     slots: usize,
@@ -23,18 +23,18 @@ pub fn assign<'a>(
     roots: usize,
     count: usize,
     codes: &'a [u8; 64],
-    cols: &mut [usize; 16],
+    rows: &mut [usize; 16],
 ) -> bool
     requires { ⌜ Sized slots (now table) ⌝ }
-    requires { ⌜ Posed (view slots (now table)) (now store) size (now orbit) k other (now nodes) (now parents) (now dims) roots count (now codes) (now cols) ⌝ }
+    requires { ⌜ Posed (view slots (now table)) (now store) size (now orbit) k other (now nodes) (now parents) (now dims) roots count (now codes) (now rows) ⌝ }
     ensures { λ r. ⌜ Answered (view slots (now (table .entry))) (now (store .entry)) size (now (orbit .entry)) k other
-        (now (nodes .entry)) (now (parents .entry)) (now (dims .entry)) roots count (now (codes .entry)) (now (cols .entry))
-        (now (store .exit)) (now (cols .exit)) r ⌝ }
+        (now (nodes .entry)) (now (parents .entry)) (now (dims .entry)) roots count (now (codes .entry)) (now (rows .entry))
+        (now (store .exit)) (now (rows .exit)) r ⌝ }
 {
-    if !opposite::opposite(slots, table, store, size, orbit, k, other, roots) {
+    if !retrace::hang(slots, table, store, size, orbit, k, other, roots) {
         return false;
     }
-    if !columns::columns(
+    if !images::rows(
         slots,
         table,
         store,
@@ -44,7 +44,7 @@ pub fn assign<'a>(
         dims,
         roots,
         count,
-        cols,
+        rows,
     ) {
         return false;
     }
@@ -58,6 +58,6 @@ pub fn assign<'a>(
         roots,
         count,
         codes,
-        cols,
+        rows,
     )
 }

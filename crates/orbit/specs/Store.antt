@@ -29,7 +29,7 @@ place N s e = getD s (N + e) 0
 unfoldable pub next : ℕ → List ℕ → ℕ → ℕ → ℕ
 next N s r p = getD s (4 * N + 4 * r + p) 0
 
--- the dart of the pair of the orbit dart at place r and the node whose column begins at `base`
+-- the dart of the pair of the orbit dart at place r and the node whose row begins at `base`
 unfoldable pub dartAt : List ℕ → ℕ → ℕ → ℕ
 dartAt s base r = getD s (base + r) 0
 
@@ -86,7 +86,7 @@ pub record Kept (N : ℕ) (s s′ : List ℕ) (size : ℕ) : Type 0 where
 module _ (E : Site) where
   open Site E using (map as m, scheme as S)
 
-  -- the darts of the left pairs stand in columns, of which `cols` has the begin for each node
-  pub record Assigned (s cols : List ℕ) (size : ℕ) : Type 0 where
-    pub inside : (v : ℕ) → v < S .nodes → has S left v ≡ true → (m .slots ≤ getD cols v 0) × (getD cols v 0 + size ≤ 2 * m .slots)
-    pub dart : (v r : ℕ) → v < S .nodes → has S left v ≡ true → r < size → dartAt s (getD cols v 0) r ≡ image E (place (m .slots) s r) v
+  -- the darts of the left pairs stand in rows, of which `rows` has the begin for each node
+  pub record Assigned (s rows : List ℕ) (size : ℕ) : Type 0 where
+    pub inside : (v : ℕ) → v < S .nodes → has S left v ≡ true → (m .slots ≤ getD rows v 0) × (getD rows v 0 + size ≤ 2 * m .slots)
+    pub dart : (v r : ℕ) → v < S .nodes → has S left v ≡ true → r < size → dartAt s (getD rows v 0) r ≡ image E (place (m .slots) s r) v

@@ -46,29 +46,29 @@ module _ (at : ℕ → ℕ) (n : ℕ) (f : Field) (m : Map) where
 
 -- ---- the words of deleted pairs
 
-module _ (N : ℕ) (store : List ℕ) (size : ℕ) (cols kinds : List ℕ) (c : ℕ) where
+module _ (N : ℕ) (store : List ℕ) (size : ℕ) (rows kinds : List ℕ) (c : ℕ) where
   abbrev pairDart : ℕ → ℕ → ℕ
-  pairDart = W.pairDart N store size cols
+  pairDart = W.pairDart N store size rows
 
   node-leaves : (v y : ℕ) (f : Field) → (getD kinds v 0 ≡ 1 → (r : ℕ) → r < size → pairDart v r ≡ y → ⊥) → (m : Map)
-      → fieldOf (clearedBy store size (getD cols v 0) (getD kinds v 0) m) f y ≡ fieldOf m f y
+      → fieldOf (clearedBy store size (getD rows v 0) (getD kinds v 0) m) f y ≡ fieldOf m f y
   node-leaves v y f off m = ⊎-elim
       (λ a. let k = eqb-true _ _ a in
-      ap (λ (z : Map). fieldOf z f y) (sym (by-deleted store size (getD cols v 0) (getD kinds v 0) m _ k refl)) ∙ erased-leaves (pairDart v) size f m y (off k))
-      (λ a. ap (λ (z : Map). fieldOf z f y) (sym (by-other store size (getD cols v 0) (getD kinds v 0) m _ (eqb-false _ _ a) refl)))
+      ap (λ (z : Map). fieldOf z f y) (sym (by-deleted store size (getD rows v 0) (getD kinds v 0) m _ k refl)) ∙ erased-leaves (pairDart v) size f m y (off k))
+      (λ a. ap (λ (z : Map). fieldOf z f y) (sym (by-other store size (getD rows v 0) (getD kinds v 0) m _ (eqb-false _ _ a) refl)))
       (true-or-false (eqb (getD kinds v 0) 1))
 
   pub cleared-leaves : (y : ℕ) (f : Field) → ((v r : ℕ) → v < c → getD kinds v 0 ≡ 1 → r < size → pairDart v r ≡ y → ⊥) → (m : Map)
-      → fieldOf (cleared store size cols kinds c m) f y ≡ fieldOf m f y
+      → fieldOf (cleared store size rows kinds c m) f y ≡ fieldOf m f y
   unfolding cleared
   cleared-leaves y f off m = steps-untouched _ (λ a. fieldOf a f y) c (λ v a h. node-leaves v y f (λ k r b. off v r h k b) a) m
 
-  pub cleared-sets : W.Different N store size cols c (λ v. eqb (getD kinds v 0) 1) → (v r : ℕ) (f : Field) → v < c → r < size
-      → getD kinds v 0 ≡ 1 → (m : Map) → fieldOf (cleared store size cols kinds c m) f (pairDart v r) ≡ 0
+  pub cleared-sets : W.Different N store size rows c (λ v. eqb (getD kinds v 0) 1) → (v r : ℕ) (f : Field) → v < c → r < size
+      → getD kinds v 0 ≡ 1 → (m : Map) → fieldOf (cleared store size rows kinds c m) f (pairDart v r) ≡ 0
   unfolding cleared
   cleared-sets D v r f hv hr kind m = steps-alone _ (λ a. fieldOf a f (pairDart v r)) c v hv
       (λ w a h ne. node-leaves w (pairDart v r) f (λ k q b z. ne (D .once w q v r h (eq-eqb _ _ k) b hv (eq-eqb _ _ kind) hr z .0)) a)
       (λ w. 0)
-      (λ a. ap (λ (z : Map). fieldOf z f (pairDart v r)) (sym (by-deleted store size (getD cols v 0) (getD kinds v 0) a _ kind refl))
+      (λ a. ap (λ (z : Map). fieldOf z f (pairDart v r)) (sym (by-deleted store size (getD rows v 0) (getD kinds v 0) a _ kind refl))
       ∙ erased-sets (pairDart v) size f a r hr (λ q b w. D .once v q v r hv (eq-eqb _ _ kind) b hv (eq-eqb _ _ kind) hr w .1))
       m

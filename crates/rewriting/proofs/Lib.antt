@@ -1,5 +1,5 @@
-pub mod SlotColumnLaws
 pub mod SlotRowLaws
+pub mod SlotTurnLaws
 pub mod SlotBlockLaws
 pub mod SlotGiveLaws
 pub mod LinkLaws

@@ -23,10 +23,10 @@ pub put-at : (m m′ : Map) (i v w x y : ℕ) → m′ ≡ withField m (Link i) 
     → m′ ≡ withField m (Link i) (setAt (m .link i) y w)
 put-at m m′ i v w x y e p q = e ∙ ap₂ (λ (z u : ℕ). withField m (Link i) (setAt (m .link i) z u)) p q
 
-pub followed-at : (N : ℕ) (store : List ℕ) (size : ℕ) (cols : List ℕ) (i base x y : ℕ) (m m′ : Map)
-    → m′ ≡ withField m (Link i) (followed N store size cols base x (m .link i)) → x ≡ y
-    → m′ ≡ withField m (Link i) (followed N store size cols base y (m .link i))
-followed-at N store size cols i base x y m m′ e p = e ∙ ap (λ (z : ℕ). withField m (Link i) (followed N store size cols base z (m .link i))) p
+pub followed-at : (N : ℕ) (store : List ℕ) (size : ℕ) (rows : List ℕ) (i base x y : ℕ) (m m′ : Map)
+    → m′ ≡ withField m (Link i) (followed N store size rows base x (m .link i)) → x ≡ y
+    → m′ ≡ withField m (Link i) (followed N store size rows base y (m .link i))
+followed-at N store size rows i base x y m m′ e p = e ∙ ap (λ (z : ℕ). withField m (Link i) (followed N store size rows base z (m .link i))) p
 
 -- ---- what is read from the store
 
@@ -49,36 +49,36 @@ module _ (N : ℕ) (store : List ℕ) (code r : ℕ) where
 
 -- ---- an arc by its code
 
-module _ (N : ℕ) (store : List ℕ) (size : ℕ) (cols : List ℕ) (base code : ℕ) where
+module _ (N : ℕ) (store : List ℕ) (size : ℕ) (rows : List ℕ) (base code : ℕ) where
   module _ (l : ℕ → ℕ) where
-    pub by-node : code < 16 → followed N store size cols base code l ≡ overwritten (dartAt store base) (dartAt store (getD cols code 0)) size l
+    pub by-node : code < 16 → followed N store size rows base code l ≡ overwritten (dartAt store base) (dartAt store (getD rows code 0)) size l
     unfolding followed
     by-node h = rw (lt-ltb code 16 h) refl
 
     pub by-position : 16 ≤ code → code < 255
-        → followed N store size cols base code l ≡ overwritten (dartAt store base) (λ r. dartAt store base (next N store r (code - 16))) size l
+        → followed N store size rows base code l ≡ overwritten (dartAt store base) (λ r. dartAt store base (next N store r (code - 16))) size l
     unfolding followed
     by-position h k = rw (le-ltb code 16 h, lt-ltb code 255 k) refl
 
-    pub by-none : 255 ≤ code → followed N store size cols base code l ≡ l
+    pub by-none : 255 ≤ code → followed N store size rows base code l ≡ l
     unfolding followed
     by-none h = rw (le-ltb code 16 (omega arith), le-ltb code 255 h) refl
 
   -- the same of a map, as `join` writes it
   module _ (i : ℕ) (m m′ : Map) where
     pub joined-node : code < 16
-        → m′ ≡ withField m (Link i) (overwritten (dartAt store base) (λ r. dartAt store (getD cols code 0) (placeBy N store code r)) size (m .link i))
-        → m′ ≡ withField m (Link i) (followed N store size cols base code (m .link i))
+        → m′ ≡ withField m (Link i) (overwritten (dartAt store base) (λ r. dartAt store (getD rows code 0) (placeBy N store code r)) size (m .link i))
+        → m′ ≡ withField m (Link i) (followed N store size rows base code (m .link i))
     unfolding placeBy
     joined-node h e = e ∙ ap (withField m (Link i)) (rw (lt-ltb code 16 h) (sym (by-node (m .link i) h)))
 
     pub joined-position : 16 ≤ code → code < 255
         → m′ ≡ withField m (Link i) (overwritten (dartAt store base) (λ r. dartAt store base (placeBy N store code r)) size (m .link i))
-        → m′ ≡ withField m (Link i) (followed N store size cols base code (m .link i))
+        → m′ ≡ withField m (Link i) (followed N store size rows base code (m .link i))
     unfolding placeBy
     joined-position h k e = e ∙ ap (withField m (Link i)) (rw (le-ltb code 16 h) (sym (by-position (m .link i) h k)))
 
-    pub joined-none : 255 ≤ code → m′ ≡ m → m′ ≡ withField m (Link i) (followed N store size cols base code (m .link i))
+    pub joined-none : 255 ≤ code → m′ ≡ m → m′ ≡ withField m (Link i) (followed N store size rows base code (m .link i))
     joined-none h e = e ∙ sym (links-own m i) ∙ ap (withField m (Link i)) (sym (by-none (m .link i) h))
 
 -- ---- what is left of the codes

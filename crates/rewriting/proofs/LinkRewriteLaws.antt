@@ -32,12 +32,12 @@ use Rattle.orbit.specs.Store.{place, next}
 use Rattle.orbit.specs.At.{site}
 use Rattle.model.specs.Codes.{arcCode}
 use Rattle.orbit.proofs.PlaceLaws.{place-in, place-of, place-once}
-use Rattle.rewriting.specs.Links.{relinked, changed, Changed, Turnable, Legible, Columns, Codes, BeforeRewriting}
+use Rattle.rewriting.specs.Links.{relinked, changed, Changed, Turnable, Legible, Rows, Codes, BeforeRewriting}
 use Rattle.rewriting.proofs.LinkLaws.{changed-same, changed-other}
 use Rattle.rewriting.proofs.LinkWriteLaws.{pairDart, Different, relinked-leaves, relinked-node, relinked-position, relinked-none}
 
-module _ {slots : ℕ} {M : Map} {store : List ℕ} {size : ℕ} {lefts rights : List ℕ} {c : ℕ} {cols : List ℕ}
-    (R : BeforeRewriting slots M store size lefts rights c cols) {codes : List ℕ} (C : Changed lefts rights codes) where
+module _ {slots : ℕ} {M : Map} {store : List ℕ} {size : ℕ} {lefts rights : List ℕ} {c : ℕ} {rows : List ℕ}
+    (R : BeforeRewriting slots M store size lefts rights c rows) {codes : List ℕ} (C : Changed lefts rights codes) where
   abbrev E : Site
   E = site (R .at)
 
@@ -55,7 +55,7 @@ module _ {slots : ℕ} {M : Map} {store : List ℕ} {size : ℕ} {lefts rights :
   D u v = dartOf E u v
 
   abbrev dart : ℕ → ℕ → ℕ
-  dart v r = pairDart slots store size cols v r
+  dart v r = pairDart slots store size rows v r
 
   abbrev P : ℕ → ℕ
   P r = place slots store r
@@ -76,7 +76,7 @@ module _ {slots : ℕ} {M : Map} {store : List ℕ} {size : ℕ} {lefts rights :
       (L.dart-slot ready (P r) v (place-in (R .walked) r hr) (node hv))
 
   -- those of the right side
-  different : Different slots store size cols c (has S right)
+  different : Different slots store size rows c (has S right)
   different = record {
     slot = λ v r hv pv hr. dart-fits v r hv hr;
     once = λ v q w r hv pv hq hw pw hr e.
@@ -87,8 +87,8 @@ module _ {slots : ℕ} {M : Map} {store : List ℕ} {size : ℕ} {lefts rights :
 
   -- ---- what makes the loops safe
 
-  pub columns : Columns slots store size c cols
-  columns = record {
+  pub rows-held : Rows slots store size c rows
+  rows-held = record {
     few = let few = accepted .shaped .nodesFew in let same = R .nodes in omega arith;
     at = λ v h. record {
       inside = let i = R .darts .inside v (node h) .1 in let long = R .stored in omega arith;
@@ -96,10 +96,10 @@ module _ {slots : ℕ} {M : Map} {store : List ℕ} {size : ℕ} {lefts rights :
     };
   }
 
-  none-legible : Legible slots store size cols 255
+  none-legible : Legible slots store size rows 255
   none-legible = record { node = λ l. absurd (omega arith); position = λ l k. absurd (omega arith) }
 
-  legible : (v i : ℕ) → v < S .nodes → (a : Arc) → arcAt S right v i ≡ a → Legible slots store size cols (arcCode a)
+  legible : (v i : ℕ) → v < S .nodes → (a : Arc) → arcAt S right v i ≡ a → Legible slots store size rows (arcCode a)
   legible v i h absent e = none-legible
   legible v i h (explicit t) e =
       let b = explicit-end S right (accepted .sides right) v i t e .0 in
@@ -134,21 +134,21 @@ module _ {slots : ℕ} {M : Map} {store : List ℕ} {size : ℕ} {lefts rights :
       ))
       (λ ne. inr (code-is v i h l ∙ changed-other _ _ ne))
 
-  pub coding : Codes slots store size codes c cols
+  pub coding : Codes slots store size codes c rows
   coding = record {
     at = λ k h.
         let v : k / 4 < S .nodes = node (omega arith) in
         let same : 4 * (k / 4) + k % 4 ≡ k = omega arith in
-        subst (λ (j : ℕ). Legible slots store size cols (getD codes j 0)) same (⊎-elim
-        (λ e. subst (Legible slots store size cols) (sym (e .0)) none-legible)
-        (λ e. subst (Legible slots store size cols) (sym e) (legible (k / 4) (k % 4) v (arcAt S right (k / 4) (k % 4)) refl))
+        subst (λ (j : ℕ). Legible slots store size rows (getD codes j 0)) same (⊎-elim
+        (λ e. subst (Legible slots store size rows) (sym (e .0)) none-legible)
+        (λ e. subst (Legible slots store size rows) (sym e) (legible (k / 4) (k % 4) v (arcAt S right (k / 4) (k % 4)) refl))
         (code-cases (k / 4) (k % 4) v (omega arith)));
   }
 
   -- ---- the map after the loops
 
   abbrev linked : Map
-  linked = relinked slots store size cols codes (4 * c) M
+  linked = relinked slots store size rows codes (4 * c) M
 
   -- a link is written where the node is on the right
   named : (k : ℕ) → k < 4 * c → getD codes k 0 < 255 → has S right (k / 4) ≡ true
@@ -171,7 +171,7 @@ module _ {slots : ℕ} {M : Map} {store : List ℕ} {size : ℕ} {lefts rights :
   -- a slot that is no preserved or added pair's dart
   untouched : (x : ℕ) → pairOf E x ≡ none → (f : Field) → fieldOf linked f x ≡ fieldOf (afterDeletion E) f x
   untouched x e f =
-      relinked-leaves slots store size cols codes (4 * c) x f (λ k r hk l hr w z. off (k / 4) r (omega arith) (named k hk l) hr w) M
+      relinked-leaves slots store size rows codes (4 * c) x f (λ k r hk l hr w z. off (k / 4) r (omega arith) (named k hk l) hr w) M
       ∙ R .given .other x f (λ a. not-none (a .dart) (a .node) (a .inOrbit) (a .below) (added-right S (a .node) (a .isAdded)) (ap (pairOf E) (a .same) ∙ e))
     where
       off : (v r : ℕ) → v < c → has S right v ≡ true → r < size → dart v r ≡ x → ⊥
@@ -193,7 +193,7 @@ module _ {slots : ℕ} {M : Map} {store : List ℕ} {size : ℕ} {lefts rights :
       unlinked : (f : Field) → ((i : ℕ) → f ≡ Link i → ⊥) → fieldOf linked f (D (P r) v) ≡ fieldOf M f (D (P r) v)
       unlinked f no-link =
           ap (fieldOf linked f) (sym (dart-is v r hv hr))
-          ∙ relinked-leaves slots store size cols codes (4 * c) (dart v r) f (λ j q hj l hq w. no-link (j % 4)) M
+          ∙ relinked-leaves slots store size rows codes (4 * c) (dart v r) f (λ j q hj l hq w. no-link (j % 4)) M
           ∙ ap (fieldOf M f) (dart-is v r hv hr)
 
       state-stays : linked .state (D (P r) v) ≡ new .state (D (P r) v)
@@ -244,7 +244,7 @@ module _ {slots : ℕ} {M : Map} {store : List ℕ} {size : ℕ} {lefts rights :
       -- a link that is not written
       link-left : (i : ℕ) → i ≤ 3 → getD codes (4 * v + i) 0 ≡ 255 → linked .link i (dart v r) ≡ M .link i (D (P r) v)
       link-left i l e =
-          relinked-none slots store size cols codes c different named v i r (counted hv) k (omega arith) hr 255 e M (omega arith)
+          relinked-none slots store size rows codes c different named v i r (counted hv) k (omega arith) hr 255 e M (omega arith)
           ∙ ap (M .link i) (dart-is v r hv hr)
 
       link-written : (i : ℕ) → i ≤ 3 → (a : Arc) → arcAt S right v i ≡ a → getD codes (4 * v + i) 0 ≡ arcCode a
@@ -253,7 +253,7 @@ module _ {slots : ℕ} {M : Map} {store : List ℕ} {size : ℕ} {lefts rights :
       link-written i l (explicit t) a is =
           let b = explicit-end S right (accepted .sides right) v i t a .0 in
           let few = accepted .shaped .nodesFew in
-          relinked-node slots store size cols codes c different named v i r (counted hv) k (omega arith) hr t is M (omega arith)
+          relinked-node slots store size rows codes c different named v i r (counted hv) k (omega arith) hr t is M (omega arith)
           ∙ dart-is t r b hr ∙ sym (L.link-explicit ready (P r) v (place-in (R .walked) r hr) hv k i t a)
       link-written i l (implicit p) a is =
           let b = implicit-from S right v i p a .0 in
@@ -261,7 +261,7 @@ module _ {slots : ℕ} {M : Map} {store : List ℕ} {size : ℕ} {lefts rights :
           let n3 = small S (accepted .shaped) in
           let same : 16 + p - 16 ≡ p = omega arith in
           let w = R .walked .links r p hr b in
-          relinked-position slots store size cols codes c different named v i r (counted hv) k (omega arith) hr (16 + p) is
+          relinked-position slots store size rows codes c different named v i r (counted hv) k (omega arith) hr (16 + p) is
           M (omega arith) (omega arith)
           ∙ ap (λ (q : ℕ). dart v (next slots store r q)) same ∙ dart-is v (next slots store r p) hv (w .0) ∙ ap (λ (u : ℕ). D u v) (w .1)
           ∙ sym (L.link-implicit ready (P r) v (place-in (R .walked) r hr) hv k i p a)

@@ -32,10 +32,10 @@ module _ (at v : ℕ → ℕ) (n : ℕ) (l : ℕ → ℕ) where
 
 -- ---- the links of all pairs
 
-module _ (N : ℕ) (store : List ℕ) (size : ℕ) (cols : List ℕ) where
+module _ (N : ℕ) (store : List ℕ) (size : ℕ) (rows : List ℕ) where
   -- the dart of the pair of node v and the orbit dart at place r
   abbrev pub pairDart : ℕ → ℕ → ℕ
-  pairDart v r = dartAt store (getD cols v 0) r
+  pairDart v r = dartAt store (getD rows v 0) r
 
   -- the darts of the pairs of those of c nodes that have p are different slots
   pub record Different (c : ℕ) (p : ℕ → Bool) : Type 0 where
@@ -44,20 +44,20 @@ module _ (N : ℕ) (store : List ℕ) (size : ℕ) (cols : List ℕ) where
 
   -- the links of slots that are no darts of the node
   followed-leaves : (base code y : ℕ) → (code < 255 → (r : ℕ) → r < size → dartAt store base r ≡ y → ⊥) → (l : ℕ → ℕ)
-      → followed N store size cols base code l y ≡ l y
+      → followed N store size rows base code l y ≡ l y
   followed-leaves base code y off l = ⊎-elim
-      (λ a. ap (λ (k : ℕ → ℕ). k y) (by-node N store size cols base code l (ltb-true code 16 a))
+      (λ a. ap (λ (k : ℕ → ℕ). k y) (by-node N store size rows base code l (ltb-true code 16 a))
       ∙ overwritten-leaves _ _ size l y (off (let h = ltb-true code 16 a in omega arith)))
       (λ a. ⊎-elim
-      (λ b. ap (λ (k : ℕ → ℕ). k y) (by-position N store size cols base code l (ltb-false code 16 a) (ltb-true code 255 b))
+      (λ b. ap (λ (k : ℕ → ℕ). k y) (by-position N store size rows base code l (ltb-false code 16 a) (ltb-true code 255 b))
       ∙ overwritten-leaves _ _ size l y (off (ltb-true code 255 b)))
-      (λ b. ap (λ (k : ℕ → ℕ). k y) (by-none N store size cols base code l (ltb-false code 255 b)))
+      (λ b. ap (λ (k : ℕ → ℕ). k y) (by-none N store size rows base code l (ltb-false code 255 b)))
       (true-or-false (ltb code 255)))
       (true-or-false (ltb code 16))
 
   module _ (codes : List ℕ) (n : ℕ) where
     pub relinked-leaves : (y : ℕ) (f : Field) → ((k r : ℕ) → k < n → getD codes k 0 < 255 → r < size → pairDart (k / 4) r ≡ y → f ≡ Link (k % 4) → ⊥)
-        → (m : Map) → fieldOf (relinked N store size cols codes n m) f y ≡ fieldOf m f y
+        → (m : Map) → fieldOf (relinked N store size rows codes n m) f y ≡ fieldOf m f y
     unfolding relinked
     relinked-leaves y f off m = steps-untouched _ (λ a. fieldOf a f y) n
         (λ k a h. links-leave a (k % 4) _ f y (λ q. followed-leaves _ _ y (λ l r b e. off k r h l b e q) (a .link (k % 4)))) m
@@ -67,8 +67,8 @@ module _ (N : ℕ) (store : List ℕ) (size : ℕ) (cols : List ℕ) where
       (v i r : ℕ) (hv : v < c) (pv : p v ≡ true) (hi : i < 4) (hr : r < size) where
     -- the arc of node v at dimension i alone sets that link of the node's darts
     relinked-one : (g : ℕ → ℕ)
-        → ((l : ℕ → ℕ) → followed N store size cols (getD cols v 0) (getD codes (4 * v + i) 0) l (pairDart v r) ≡ g (l (pairDart v r)))
-        → (m : Map) → relinked N store size cols codes (4 * c) m .link i (pairDart v r) ≡ g (m .link i (pairDart v r))
+        → ((l : ℕ → ℕ) → followed N store size rows (getD rows v 0) (getD codes (4 * v + i) 0) l (pairDart v r) ≡ g (l (pairDart v r)))
+        → (m : Map) → relinked N store size rows codes (4 * c) m .link i (pairDart v r) ≡ g (m .link i (pairDart v r))
     unfolding relinked
     relinked-one g one m = steps-alone _ (λ a. a .link i (pairDart v r)) (4 * c) (4 * v + i) (omega arith)
         (λ j a h ne. links-leave a (j % 4) _ (Link i) (pairDart v r) (λ z. followed-leaves _ _ (pairDart v r)
@@ -87,22 +87,22 @@ module _ (N : ℕ) (store : List ℕ) (size : ℕ) (cols : List ℕ) where
         rest = omega arith
 
     module _ (code : ℕ) (is : getD codes (4 * v + i) 0 ≡ code) (m : Map) where
-      by-code : (g : ℕ → ℕ) → ((l : ℕ → ℕ) → followed N store size cols (getD cols v 0) code l (pairDart v r) ≡ g (l (pairDart v r)))
-          → relinked N store size cols codes (4 * c) m .link i (pairDart v r) ≡ g (m .link i (pairDart v r))
+      by-code : (g : ℕ → ℕ) → ((l : ℕ → ℕ) → followed N store size rows (getD rows v 0) code l (pairDart v r) ≡ g (l (pairDart v r)))
+          → relinked N store size rows codes (4 * c) m .link i (pairDart v r) ≡ g (m .link i (pairDart v r))
       by-code g one = relinked-one g (λ l. rw is (one l)) m
 
       sets : (value l : ℕ → ℕ) → overwritten (pairDart v) value size l (pairDart v r) ≡ value r
       sets value l = overwritten-sets (pairDart v) value size l r hr (λ q b w. D .once v q v r hv pv b hv pv hr w .1)
 
-      pub relinked-node : code < 16 → relinked N store size cols codes (4 * c) m .link i (pairDart v r) ≡ pairDart code r
+      pub relinked-node : code < 16 → relinked N store size rows codes (4 * c) m .link i (pairDart v r) ≡ pairDart code r
       relinked-node h = by-code (λ w. pairDart code r)
-          (λ l. ap (λ (k : ℕ → ℕ). k (pairDart v r)) (by-node N store size cols (getD cols v 0) code l h) ∙ sets _ l)
+          (λ l. ap (λ (k : ℕ → ℕ). k (pairDart v r)) (by-node N store size rows (getD rows v 0) code l h) ∙ sets _ l)
 
       pub relinked-position : 16 ≤ code → code < 255
-          → relinked N store size cols codes (4 * c) m .link i (pairDart v r) ≡ pairDart v (next N store r (code - 16))
+          → relinked N store size rows codes (4 * c) m .link i (pairDart v r) ≡ pairDart v (next N store r (code - 16))
       relinked-position h k = by-code (λ w. pairDart v (next N store r (code - 16)))
-          (λ l. ap (λ (k : ℕ → ℕ). k (pairDart v r)) (by-position N store size cols (getD cols v 0) code l h k)
+          (λ l. ap (λ (k : ℕ → ℕ). k (pairDart v r)) (by-position N store size rows (getD rows v 0) code l h k)
           ∙ sets (λ q. pairDart v (next N store q (code - 16))) l)
 
-      pub relinked-none : 255 ≤ code → relinked N store size cols codes (4 * c) m .link i (pairDart v r) ≡ m .link i (pairDart v r)
-      relinked-none h = by-code (λ w. w) (λ l. ap (λ (k : ℕ → ℕ). k (pairDart v r)) (by-none N store size cols (getD cols v 0) code l h))
+      pub relinked-none : 255 ≤ code → relinked N store size rows codes (4 * c) m .link i (pairDart v r) ≡ m .link i (pairDart v r)
+      relinked-none h = by-code (λ w. w) (λ l. ap (λ (k : ℕ → ℕ). k (pairDart v r)) (by-none N store size rows (getD rows v 0) code l h))

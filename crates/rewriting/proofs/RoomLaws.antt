@@ -28,11 +28,11 @@ use Rattle.orbit.specs.Store.{mark, place, next, dartAt, Kept, Assigned}
 use Rattle.orbit.specs.At.{site}
 use Rattle.orbit.proofs.StoreLaws.{among-of, among-same}
 use Rattle.orbit.proofs.PlaceLaws.{place-in, place-of, place-once, marked-in}
-use Rattle.rewriting.specs.Darts.{HoldsSlots, columnStart, Bare, Tagged}
-use Rattle.rewriting.specs.Room.{Noted, Donating, Gathered, cleared, DeletedColumns, BeforeRoom, Roomy}
+use Rattle.rewriting.specs.Darts.{HoldsSlots, rowStart, Bare, Tagged}
+use Rattle.rewriting.specs.Room.{Noted, Donating, Gathered, cleared, DeletedRows, BeforeRoom, Roomy}
 use Rattle.rewriting.proofs.LinkWriteLaws.{pairDart, Different}
 use Rattle.rewriting.proofs.ClearLaws.{cleared-leaves, cleared-sets}
-use Rattle.rewriting.proofs.SlotRowLaws.{good, ready, many-few, cells, column-within, listed-at, listed-is}
+use Rattle.rewriting.proofs.SlotTurnLaws.{good, ready, many-few, cells, row-within, listed-at, listed-is}
 
 -- ---- the tags of one node's darts
 
@@ -62,15 +62,15 @@ noted-slot {from = from} {r = r} H low h n x e = rw (e, n .kept (from + r) (inl 
 
 -- ---- the tags of the donors of all added nodes
 
-module _ {N : ℕ} {s : List ℕ} {size : ℕ} {nodes : List ℕ} {many : ℕ} {donors cols : List ℕ} (D : Donating N s size nodes many donors cols) (tag : ℕ → ℕ) where
-  pub gathered-none : Gathered N tag s size nodes 0 donors cols s
+module _ {N : ℕ} {s : List ℕ} {size : ℕ} {nodes : List ℕ} {many : ℕ} {donors rows : List ℕ} (D : Donating N s size nodes many donors rows) (tag : ℕ → ℕ) where
+  pub gathered-none : Gathered N tag s size nodes 0 donors rows s
   gathered-none = record { long = refl; at = λ a r h. absurd (omega arith); kept = λ i w. refl }
 
-  -- where the column of the donor of the a-th added node begins
+  -- where the row of the donor of the a-th added node begins
   abbrev giver : ℕ → ℕ
-  giver a = getD cols (getD donors (getD nodes a 0) 0) 0
+  giver a = getD rows (getD donors (getD nodes a 0) 0) 0
 
-  module _ {a : ℕ} (h : a < many) {s′ : List ℕ} (g : Gathered N tag s size nodes a donors cols s′) where
+  module _ {a : ℕ} (h : a < many) {s′ : List ℕ} (g : Gathered N tag s size nodes a donors rows s′) where
     pub next-fits : a * size + size ≤ N
     next-fits = let c = mul-le-mul-right size h in omega (arith, D .room)
 
@@ -87,7 +87,7 @@ module _ {N : ℕ} {s : List ℕ} {size : ℕ} {nodes : List ℕ} {many : ℕ} {
     pub giver-before : (giver a + size ≤ 2 * N + a * size) × (2 * N + a * size + size ≤ length s′)
     giver-before = (omega (arith, D .inside a h), omega (arith, next-fits, g .long, D .stored))
 
-    pub gathered-more : {s″ : List ℕ} → Noted tag s′ (giver a) (2 * N + a * size) size s″ → Gathered N tag s size nodes (a + 1) donors cols s″
+    pub gathered-more : {s″ : List ℕ} → Noted tag s′ (giver a) (2 * N + a * size) size s″ → Gathered N tag s size nodes (a + 1) donors rows s″
     gathered-more {s″} n = record {
       long = n .long ∙ g .long;
       at = λ b r l k. by-cases (ℕ-discrete b a)
@@ -95,7 +95,7 @@ module _ {N : ℕ} {s : List ℕ} {size : ℕ} {nodes : List ℕ} {many : ℕ} {
           (λ (ne : b ≡ a → ⊥).
           let less : b < a = omega arith in
           let c = mul-le-mul-right size less in
-          n .kept (columnStart N size b + r) (inl (omega arith)) ∙ g .at b r less k);
+          n .kept (rowStart N size b + r) (inl (omega arith)) ∙ g .at b r less k);
       kept = λ i w.
           let c : (a + 1) * size ≡ a * size + size = omega arith in
           ⊎-elim
@@ -104,16 +104,16 @@ module _ {N : ℕ} {s : List ℕ} {size : ℕ} {nodes : List ℕ} {many : ℕ} {
           w;
     }
 
-pub gathered-all : {N : ℕ} {tag : ℕ → ℕ} {s : List ℕ} {size : ℕ} {nodes : List ℕ} {a many : ℕ} {donors cols s′ : List ℕ} → a ≤ many → many ≤ a
-    → Gathered N tag s size nodes a donors cols s′ → Gathered N tag s size nodes many donors cols s′
-gathered-all {N} {tag} {s} {size} {nodes} {a} {many} {donors} {cols} {s′} h l g =
+pub gathered-all : {N : ℕ} {tag : ℕ → ℕ} {s : List ℕ} {size : ℕ} {nodes : List ℕ} {a many : ℕ} {donors rows s′ : List ℕ} → a ≤ many → many ≤ a
+    → Gathered N tag s size nodes a donors rows s′ → Gathered N tag s size nodes many donors rows s′
+gathered-all {N} {tag} {s} {size} {nodes} {a} {many} {donors} {rows} {s′} h l g =
     let e : a ≡ many = omega arith in
-    subst (λ (k : ℕ). Gathered N tag s size nodes k donors cols s′) e g
+    subst (λ (k : ℕ). Gathered N tag s size nodes k donors rows s′) e g
 
 -- ---- the phase
 
-module _ {before : Map} {s : List ℕ} {size : ℕ} {nodes : List ℕ} {many : ℕ} {donors kinds : List ℕ} {c : ℕ} {cols : List ℕ}
-    (R : BeforeRoom before s size nodes many donors kinds c cols) where
+module _ {before : Map} {s : List ℕ} {size : ℕ} {nodes : List ℕ} {many : ℕ} {donors kinds : List ℕ} {c : ℕ} {rows : List ℕ}
+    (R : BeforeRoom before s size nodes many donors kinds c rows) where
   abbrev E : Site
   E = site (R .at)
 
@@ -138,10 +138,10 @@ module _ {before : Map} {s : List ℕ} {size : ℕ} {nodes : List ℕ} {many : �
   left-donor v h = donor-left S (R .at .sound .accepted) v h
 
   -- the dart of a left pair
-  left-slot : (v r : ℕ) → v < S .nodes → has S left v ≡ true → r < size → dartAt s (getD cols v 0) r < N
+  left-slot : (v r : ℕ) → v < S .nodes → has S left v ≡ true → r < size → dartAt s (getD rows v 0) r < N
   left-slot v r h l b = rw (B .dart v r h l b) (let e = place-in (G .walked) r b in match .darts _ (good G .slot _ e) e v h l .0)
 
-  pub donating-of : Donating N s size nodes many donors cols
+  pub donating-of : Donating N s size nodes many donors rows
   donating-of = record {
     few = many-few G;
     slots = R .at .few;
@@ -165,8 +165,8 @@ module _ {before : Map} {s : List ℕ} {size : ℕ} {nodes : List ℕ} {many : �
   deleted-kind : (v : ℕ) → deleted S v ≡ true → getD kinds v 0 ≡ 1
   deleted-kind v e = ap (λ (l : List ℕ). getD l v 0) (R .kinded) ∙ eqb-true _ _ e
 
-  module _ {s′ : List ℕ} (g : Gathered N (m .tag) s size nodes many donors cols s′) where
-    -- the words outside the columns of the added nodes
+  module _ {s′ : List ℕ} (g : Gathered N (m .tag) s size nodes many donors rows s′) where
+    -- the words outside the rows of the added nodes
     kept-low : (i : ℕ) → i < 2 * N → getD s′ i 0 ≡ getD s i 0
     kept-low i h = g .kept i (inl h)
 
@@ -184,11 +184,11 @@ module _ {before : Map} {s : List ℕ} {size : ℕ} {nodes : List ℕ} {many : �
       nexts = λ r p h l. g .kept (4 * N + 4 * r + p) (inr (omega (arith, cells G)));
     }
 
-    assigned-of : Assigned E s′ cols size
+    assigned-of : Assigned E s′ rows size
     unfolding dartAt
     assigned-of = record {
       inside = B .inside;
-      dart = λ v r h l b. kept-low (getD cols v 0 + r) (omega (arith, B .inside v h l)) ∙ B .dart v r h l b
+      dart = λ v r h l b. kept-low (getD rows v 0 + r) (omega (arith, B .inside v h l)) ∙ B .dart v r h l b
           ∙ ap (λ (u : ℕ). image E u v) (sym (place-kept r b));
     }
 
@@ -200,19 +200,19 @@ module _ {before : Map} {s : List ℕ} {size : ℕ} {nodes : List ℕ} {many : �
           let p = marked-in (G .walked) u e in
           let b : mark s u - 1 < size = omega arith in
           let same : mark s′ u ≡ mark s u = kept-of .ranks u (good G .slot u e) (among-of s size u (p .0) (p .1)) in
-          ap (λ (j : ℕ). getD s′ (columnStart N size k + (j - 1)) 0) same
-          ∙ g .at k (mark s u - 1) (column-within G v h a .0) b
-          ∙ ap (λ (w : ℕ). m .tag (getD s (getD cols (getD donors w 0) 0 + (mark s u - 1)) 0)) (listed-is G nodes (R .node) v h a)
-          ∙ ap (λ (w : ℕ). m .tag (getD s (getD cols w 0 + (mark s u - 1)) 0)) (donor-is v)
+          ap (λ (j : ℕ). getD s′ (rowStart N size k + (j - 1)) 0) same
+          ∙ g .at k (mark s u - 1) (row-within G v h a .0) b
+          ∙ ap (λ (w : ℕ). m .tag (getD s (getD rows (getD donors w 0) 0 + (mark s u - 1)) 0)) (listed-is G nodes (R .node) v h a)
+          ∙ ap (λ (w : ℕ). m .tag (getD s (getD rows w 0 + (mark s u - 1)) 0)) (donor-is v)
           ∙ ap (m .tag) (B .dart (donor S v) (mark s u - 1) (donor-below v h) (left-donor v h) b
           ∙ ap (λ (w : ℕ). image E w (donor S v)) (G .walked .found u (good G .slot u e) (among-of s size u (p .0) (p .1))));
     }
 
-    slot-of : (v r : ℕ) → v < S .nodes → has S left v ≡ true → r < size → dartAt s′ (getD cols v 0) r < N
+    slot-of : (v r : ℕ) → v < S .nodes → has S left v ≡ true → r < size → dartAt s′ (getD rows v 0) r < N
     unfolding dartAt
-    slot-of v r h l b = rw (kept-low (getD cols v 0 + r) (omega (arith, B .inside v h l))) (left-slot v r h l b)
+    slot-of v r h l b = rw (kept-low (getD rows v 0 + r) (omega (arith, B .inside v h l))) (left-slot v r h l b)
 
-    pub doomed : DeletedColumns N s′ size kinds c cols
+    pub doomed : DeletedRows N s′ size kinds c rows
     doomed = record {
       few = omega (arith, R .nodesAre, R .at .sound .accepted .shaped .nodesFew);
       at = λ v h e.
@@ -225,10 +225,10 @@ module _ {before : Map} {s : List ℕ} {size : ℕ} {nodes : List ℕ} {many : �
     }
 
     -- the dart of a deleted pair
-    gone-is : (v r : ℕ) → v < S .nodes → deleted S v ≡ true → r < size → pairDart N s′ size cols v r ≡ image E (place N s r) v
+    gone-is : (v r : ℕ) → v < S .nodes → deleted S v ≡ true → r < size → pairDart N s′ size rows v r ≡ image E (place N s r) v
     gone-is v r h d b = assigned-of .dart v r h (deleted-left S v d) b ∙ ap (λ (u : ℕ). image E u v) (place-kept r b)
 
-    different : Different N s′ size cols c (λ v. eqb (getD kinds v 0) 1)
+    different : Different N s′ size rows c (λ v. eqb (getD kinds v 0) 1)
     different = record {
       slot = λ v r h p b. doomed .at v h (eqb-true _ _ p) .slot r b;
       once = λ v q w r h p b k o l e.
@@ -241,31 +241,31 @@ module _ {before : Map} {s : List ℕ} {size : ℕ} {nodes : List ℕ} {many : �
           (z .1, place-once (G .walked) q r b l (z .0));
     }
 
-    module _ (m′ : Map) (is : m′ ≡ cleared s′ size cols kinds c m) where
+    module _ (m′ : Map) (is : m′ ≡ cleared s′ size rows kinds c m) where
       bare-of : Bare E m′
       bare-of = record {
         at = λ f y. ap (λ (a : Map). fieldOf a f y) is ∙ ⊎-elim (gone f y) (stays f y) (true-or-false (freed E (image E) y));
       }
         where
-          gone : (f : Field) (y : ℕ) → freed E (image E) y ≡ true → fieldOf (cleared s′ size cols kinds c m) f y ≡ fieldOf (M.afterDeletion E) f y
+          gone : (f : Field) (y : ℕ) → freed E (image E) y ≡ true → fieldOf (cleared s′ size rows kinds c m) f y ≡ fieldOf (M.afterDeletion E) f y
           gone f y e =
               let p = freed-at E (image E) y e in
               let q = place-of (G .walked) (p .0) (p .3) in
-              let d : pairDart N s′ size cols (p .1) (q .0) ≡ y =
+              let d : pairDart N s′ size rows (p .1) (q .0) ≡ y =
               gone-is (p .1) (q .0) (p .4) (p .5) (q .1) ∙ ap (λ (u : ℕ). image E u (p .1)) (q .2) ∙ p .6 in
-              ap (fieldOf (cleared s′ size cols kinds c m) f) (sym d)
-              ∙ cleared-sets N s′ size cols kinds c different (p .1) (q .0) f (subst (λ (n : ℕ). p .1 < n) (sym (R .nodesAre)) (p .4)) (q .1)
+              ap (fieldOf (cleared s′ size rows kinds c m) f) (sym d)
+              ∙ cleared-sets N s′ size rows kinds c different (p .1) (q .0) f (subst (λ (n : ℕ). p .1 < n) (sym (R .nodesAre)) (p .4)) (q .1)
               (deleted-kind (p .1) (p .5)) m
               ∙ sym (L.field-freed (ready G) f y e)
 
-          stays : (f : Field) (y : ℕ) → freed E (image E) y ≡ false → fieldOf (cleared s′ size cols kinds c m) f y ≡ fieldOf (M.afterDeletion E) f y
+          stays : (f : Field) (y : ℕ) → freed E (image E) y ≡ false → fieldOf (cleared s′ size rows kinds c m) f y ≡ fieldOf (M.afterDeletion E) f y
           stays f y e =
-              cleared-leaves N s′ size cols kinds c y f
+              cleared-leaves N s′ size rows kinds c y f
               (λ v r h k b w.
               let d = is-deleted v k in
               let x = place-in (G .walked) r b in
               true≢false (sym (freed-of E (image E) y _ v (good G .slot _ x) x (node-of h) d (sym (gone-is v r (node-of h) d b) ∙ w)) ∙ e))
               m ∙ sym (L.field-stays (ready G) f y e)
 
-      pub roomy : Roomy (R .at) s size cols m′ s′
+      pub roomy : Roomy (R .at) s size rows m′ s′
       roomy = record { bare = bare-of; tagged = tagged-of; kept = kept-of; assigned = assigned-of }

@@ -27,7 +27,7 @@ use Rattle.rewriting.specs.Darts.{Grant}
 use Rattle.rewriting.specs.Slots.{Granting, Turn, early, Placed, NoDigits, digitWords, Digits, Block}
 use Rattle.orbit.proofs.StoreLaws.{among-at, among-of}
 use Rattle.orbit.proofs.PlaceLaws.{marked-in}
-use Rattle.rewriting.proofs.SlotRowLaws.{good}
+use Rattle.rewriting.proofs.SlotTurnLaws.{good}
 
 -- ---- a digit for each of the first places
 
@@ -48,8 +48,8 @@ module _ (N : ℕ) (s : List ℕ) (long : length s ≡ 16 * N) (k : ℕ) (h : k 
   pub word-inside : 8 * N + k < length l
   word-inside = omega (arith, z .behind .long)
 
-  pub bits-more : (l′ : List ℕ) → l′ ≡ set l (8 * N + k) 0 → NoDigits N s (k + 1) l′
-  bits-more l′ f = rw f (record {
+  pub bits-more : (at : ℕ) (l′ : List ℕ) → at ≡ 8 * N + k → l′ ≡ set l at 0 → NoDigits N s (k + 1) l′
+  bits-more at l′ e f = rw (f, e) (record {
     behind = record {
       long = length-set l (8 * N + k) 0 ∙ z .behind .long;
       kept = λ i g. getD-set-other l (8 * N + k) i 0 0 (λ q. absurd (omega arith)) ∙ z .behind .kept i g;

@@ -23,14 +23,14 @@ use Rattle.model.proofs.AcceptedLaws.{kind-cases}
 use Rattle.model.proofs.RankLaws.{rank-low, dart-left}
 use Rattle.orbit.specs.Store.{mark, place, next, dartAt, Kept, Assigned}
 use Rattle.orbit.specs.At.{At, site, ofSlots}
-use Rattle.rewriting.specs.Darts.{Darts, Given, columnStart, Grant, Bare, Tagged}
-use Rattle.rewriting.specs.Slots.{Apart, ColumnsBegin, Due, Granting}
+use Rattle.rewriting.specs.Darts.{Darts, Given, rowStart, Grant, Bare, Tagged}
+use Rattle.rewriting.specs.Slots.{Apart, RowsBegin, Due, Granting}
 use Rattle.rewriting.specs.Slots.{Placed, blockCount, Behind, Digits, Block, BeforeBlocks, BeforeGiving, Granted}
 use Rattle.orbit.proofs.StoreLaws.{among-same}
 use Rattle.orbit.proofs.PlaceLaws.{places-few, place-in, marked-in}
 use Rattle.orbit.proofs.WalkLaws.{walked-kept}
-use Rattle.rewriting.proofs.SlotColumnLaws.{columned-none}
-use Rattle.rewriting.proofs.SlotRowLaws.{good, granting-none, many-few, cells, column-within, listed-at, listed-is}
+use Rattle.rewriting.proofs.SlotRowLaws.{rows-none}
+use Rattle.rewriting.proofs.SlotTurnLaws.{good, granting-none, many-few, cells, row-within, listed-at, listed-is}
 use Rattle.rewriting.proofs.SlotBlockLaws.{early-orbit}
 
 -- ---- the words of digits one after the other
@@ -86,7 +86,7 @@ module _ (before : Map) {N : ℕ} {m : Map} {s₀ s : List ℕ} {A : At (ofSlots
 
 -- ---- from the phases before
 
-module _ {N : ℕ} {M : Map} {s : List ℕ} {size : ℕ} {nodes : List ℕ} {many : ℕ} {cols : List ℕ} (R : BeforeGiving N M s size nodes many cols) where
+module _ {N : ℕ} {M : Map} {s : List ℕ} {size : ℕ} {nodes : List ℕ} {many : ℕ} {rows : List ℕ} (R : BeforeGiving N M s size nodes many rows) where
   abbrev E : Site
   E = site (R .at)
 
@@ -124,19 +124,19 @@ module _ {N : ℕ} {M : Map} {s : List ℕ} {size : ℕ} {nodes : List ℕ} {man
       at = λ u v e h a.
           let k = countBelow v (added S) in
           let p = marked-in (G .walked) u e in
-          ap (λ (j : ℕ). getD s₁ (columnStart N size k + (j - 1)) 0) (B .kept u (omega (arith, good G .slot u e)))
-          ∙ B .kept (columnStart N size k + (mark s u - 1)) (omega (arith, column-within G v h a)) ∙ R .tagged .at u v e h a;
+          ap (λ (j : ℕ). getD s₁ (rowStart N size k + (j - 1)) 0) (B .kept u (omega (arith, good G .slot u e)))
+          ∙ B .kept (rowStart N size k + (mark s u - 1)) (omega (arith, row-within G v h a)) ∙ R .tagged .at u v e h a;
     }
 
-    pub behind-assigned : Assigned E s₁ cols size
+    pub behind-assigned : Assigned E s₁ rows size
     unfolding dartAt
     behind-assigned = record {
       inside = R .assigned .inside;
       dart = λ v r h c l. let i = R .assigned .inside v h c in
-          B .kept (getD cols v 0 + r) (omega arith) ∙ R .assigned .dart v r h c l ∙ ap (λ (u : ℕ). image E u v) (sym (behind-kept .places r l));
+          B .kept (getD rows v 0 + r) (omega arith) ∙ R .assigned .dart v r h c l ∙ ap (λ (u : ℕ). image E u v) (sym (behind-kept .places r l));
     }
 
-    abbrev pub regiven : BeforeGiving N M s₁ size nodes many cols
+    abbrev pub regiven : BeforeGiving N M s₁ size nodes many rows
     regiven = record {
       before = R .before;
       at = R .at;
@@ -154,7 +154,7 @@ module _ {N : ℕ} {M : Map} {s : List ℕ} {size : ℕ} {nodes : List ℕ} {man
       wide = R .wide;
     }
 
-    pub granted-behind : {m′ : Map} {s′ cols′ : List ℕ} → Granted E s₁ m′ s′ cols′ size → Granted E s m′ s′ cols′ size
+    pub granted-behind : {m′ : Map} {s′ rows′ : List ℕ} → Granted E s₁ m′ s′ rows′ size → Granted E s m′ s′ rows′ size
     granted-behind g = record {
       given = g .given;
       darts = g .darts;
@@ -184,7 +184,7 @@ module _ {N : ℕ} {M : Map} {s : List ℕ} {size : ℕ} {nodes : List ℕ} {man
 
   -- ---- to the phases after
 
-  module _ {free : ℕ} {m′ : Map} {s′ cols′ : List ℕ} (C : ColumnsBegin N size nodes many cols cols′)
+  module _ {free : ℕ} {m′ : Map} {s′ rows′ : List ℕ} (C : RowsBegin N size nodes many rows rows′)
       (g : Granting (R .at) s size (countBelow N O * many) free m′ s′) where
     -- every added pair has its slot
     all-due : (u v : ℕ) → O u ≡ true → v < S .nodes → added S v ≡ true
@@ -214,13 +214,13 @@ module _ {N : ℕ} {M : Map} {s : List ℕ} {size : ℕ} {nodes : List ℕ} {man
       nexts = λ r p h l. g .kept (4 * N + 4 * r + p) (inr (omega arith));
     }
 
-    -- the column of an added node, and that of a left one
-    column-added : (v : ℕ) → v < S .nodes → added S v ≡ true → getD cols′ v 0 ≡ columnStart N size (countBelow v (added S))
-    column-added v h a =
-        subst (λ (k : ℕ). getD cols′ k 0 ≡ columnStart N size (countBelow v (added S))) (listed-is G nodes (R .node) v h a) (C .at _ (column-within G v h a .0))
+    -- the row of an added node, and that of a left one
+    row-added : (v : ℕ) → v < S .nodes → added S v ≡ true → getD rows′ v 0 ≡ rowStart N size (countBelow v (added S))
+    row-added v h a =
+        subst (λ (k : ℕ). getD rows′ k 0 ≡ rowStart N size (countBelow v (added S))) (listed-is G nodes (R .node) v h a) (C .at _ (row-within G v h a .0))
 
-    column-left : (v : ℕ) → added S v ≡ false → getD cols′ v 0 ≡ getD cols v 0
-    column-left v n = C .other v (λ a l e. true≢false (sym (listed-at G nodes (R .node) a l .1) ∙ ap (added S) e ∙ n))
+    row-left : (v : ℕ) → added S v ≡ false → getD rows′ v 0 ≡ getD rows v 0
+    row-left v n = C .other v (λ a l e. true≢false (sym (listed-at G nodes (R .node) a l .1) ∙ ap (added S) e ∙ n))
 
     is-left : (v : ℕ) → v < S .nodes → added S v ≡ false → has S left v ≡ true
     is-left v h n = ⊎-elim
@@ -228,37 +228,37 @@ module _ {N : ℕ} {M : Map} {s : List ℕ} {size : ℕ} {nodes : List ℕ} {man
         (λ w. ⊎-elim (λ p. or-right _ p) (λ a. absurd (true≢false (sym a ∙ n))) w)
         (kind-cases S shaped v h)
 
-    darts-of : Darts E s′ cols′ size
+    darts-of : Darts E s′ rows′ size
     unfolding dartAt
     darts-of = record {
       inside = λ v h. ⊎-elim
-          (λ a. let c = column-added v h a in (omega arith, omega (arith, column-within G v h a)))
-          (λ n. let c = column-left v n in let i = R .assigned .inside v h (is-left v h n) in (omega arith, omega arith))
+          (λ a. let c = row-added v h a in (omega arith, omega (arith, row-within G v h a)))
+          (λ n. let c = row-left v n in let i = R .assigned .inside v h (is-left v h n) in (omega arith, omega arith))
           (true-or-false (added S v));
       dart = λ v r h l. ⊎-elim
-          (λ a. ap₂ (λ (b k : ℕ). getD s′ (b + k) 0) (column-added v h a) (omega (arith, G .walked .back r l))
+          (λ a. ap₂ (λ (b k : ℕ). getD s′ (b + k) 0) (row-added v h a) (omega (arith, G .walked .back r l))
           ∙ g .dart (place N s r) v (all-due (place N s r) v (place-in (G .walked) r l) h a))
           (λ n. let c = is-left v h n in let i = R .assigned .inside v h c in
-          ap (λ (b : ℕ). getD s′ (b + r) 0) (column-left v n)
-          ∙ g .kept (getD cols v 0 + r) (inl (omega arith))
+          ap (λ (b : ℕ). getD s′ (b + r) 0) (row-left v n)
+          ∙ g .kept (getD rows v 0 + r) (inl (omega arith))
           ∙ R .assigned .dart v r h c l ∙ sym (dart-left E (place N s r) v c))
           (true-or-false (added S v))
           ∙ ap (λ (u : ℕ). dartOf E u v) (sym (kept-of .places r l));
     }
 
-    granted-all : Granted E s m′ s′ cols′ size
+    granted-all : Granted E s m′ s′ rows′ size
     granted-all = record { given = given-of; darts = darts-of; kept = kept-of; wide = C .long ∙ R .wide }
 
   -- where no node is added, nothing was done
-  pub granted-none : many ≡ 0 → Granted E s M s cols size
-  granted-none e = granted-all (subst (λ (k : ℕ). ColumnsBegin N size nodes k cols cols) (sym e) (columned-none N size nodes cols))
+  pub granted-none : many ≡ 0 → Granted E s M s rows size
+  granted-none e = granted-all (subst (λ (k : ℕ). RowsBegin N size nodes k rows rows) (sym e) (rows-none N size nodes rows))
       (granting-idle G (R .bare) (R .tagged) e)
 
   -- once x is past the last slot
-  pub granted : {x free : ℕ} {m′ : Map} {s′ cols′ : List ℕ} → ColumnsBegin N size nodes many cols cols′ → N ≤ x
+  pub granted : {x free : ℕ} {m′ : Map} {s′ rows′ : List ℕ} → RowsBegin N size nodes many rows rows′ → N ≤ x
       → Granting (R .at) s size (countBelow x O * many) free m′ s′
-      → Granted E s m′ s′ cols′ size
-  granted {x} {free} {m′} {s′} {cols′} C h g =
+      → Granted E s m′ s′ rows′ size
+  granted {x} {free} {m′} {s′} {rows′} C h g =
       let e : countBelow x O ≡ countBelow N O = count-gap O N x h
       (λ z l k. impossible _ (λ q. let b = good G .slot z q in omega arith)) in
       granted-all C (rw e at g)

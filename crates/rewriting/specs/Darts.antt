@@ -1,4 +1,4 @@
--- The darts of all pairs: in the columns of the store, and those of the added pairs in the map. `slots` leaves them so, and `links`
+-- The darts of all pairs: in the rows of the store, and those of the added pairs in the map. `slots` leaves them so, and `links`
 -- starts from it. At the site E, m is the map before the edit, S the scheme, O the orbit.
 -- Assumes nothing.
 use Prim.Native.Nat.{ℕ, _+_, _*_, _-_, _≤_, _<_}
@@ -22,9 +22,9 @@ newField m v y State = 1
 newField m v y (Link i) = cond (eqb i 3) y (m .link i y)
 newField m v y Tag = v
 
--- where the column of the a-th added node begins
-abbrev pub columnStart : ℕ → ℕ → ℕ → ℕ
-columnStart N size a = 2 * N + a * size
+-- where the row of the a-th added node begins
+abbrev pub rowStart : ℕ → ℕ → ℕ → ℕ
+rowStart N size a = 2 * N + a * size
 
 -- from `base` on, the store holds `size` slots
 pub record HoldsSlots (N : ℕ) (store : List ℕ) (base size : ℕ) : Type 0 where
@@ -49,12 +49,12 @@ module _ (E : Site) where
   -- where the darts of the added pairs will stand, the store has the tags for them
   pub record Tagged (s : List ℕ) (size : ℕ) : Type 0 where
     pub at : (u v : ℕ) → O u ≡ true → v < S .nodes → added S v ≡ true
-        → dartAt s (columnStart (m .slots) size (countBelow v (added S))) (mark s u - 1) ≡ m .tag (image E u (donor S v))
+        → dartAt s (rowStart (m .slots) size (countBelow v (added S))) (mark s u - 1) ≡ m .tag (image E u (donor S v))
 
-  -- the darts of all pairs stand in columns
-  pub record Darts (s cols : List ℕ) (size : ℕ) : Type 0 where
-    pub inside : (v : ℕ) → v < S .nodes → (m .slots ≤ getD cols v 0) × (getD cols v 0 + size ≤ 3 * m .slots)
-    pub dart : (v r : ℕ) → v < S .nodes → r < size → dartAt s (getD cols v 0) r ≡ dartOf E (place (m .slots) s r) v
+  -- the darts of all pairs stand in rows
+  pub record Darts (s rows : List ℕ) (size : ℕ) : Type 0 where
+    pub inside : (v : ℕ) → v < S .nodes → (m .slots ≤ getD rows v 0) × (getD rows v 0 + size ≤ 3 * m .slots)
+    pub dart : (v r : ℕ) → v < S .nodes → r < size → dartAt s (getD rows v 0) r ≡ dartOf E (place (m .slots) s r) v
 
   -- y is the dart of an added pair
   pub record AddedDart (y : ℕ) : Type 0 where

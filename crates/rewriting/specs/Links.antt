@@ -27,16 +27,16 @@ placeBy N store code r = cond (ltb code 16) r (next N store r (code - 16))
 unfoldable pub overwritten : (ℕ → ℕ) → (ℕ → ℕ) → ℕ → (ℕ → ℕ) → ℕ → ℕ
 overwritten at v n = steps n (λ r l. setAt l (at r) (v r))
 
-module _ (N : ℕ) (store : List ℕ) (size : ℕ) (cols : List ℕ) where
-  -- the links of one dimension, where those of the darts of the node whose column of the store begins at `base` are written by the code of an arc
+module _ (N : ℕ) (store : List ℕ) (size : ℕ) (rows : List ℕ) where
+  -- the links of one dimension, where those of the darts of the node whose row of the store begins at `base` are written by the code of an arc
   unfoldable pub followed : ℕ → ℕ → (ℕ → ℕ) → ℕ → ℕ
   followed base code l =
-      cond (ltb code 16) (overwritten (dartAt store base) (dartAt store (getD cols code 0)) size l)
+      cond (ltb code 16) (overwritten (dartAt store base) (dartAt store (getD rows code 0)) size l)
       (cond (ltb code 255) (overwritten (dartAt store base) (λ r. dartAt store base (next N store r (code - 16))) size l) l)
 
   -- the links of the darts of all nodes, by the first n codes of their arcs
   unfoldable pub relinked : List ℕ → ℕ → Map → Map
-  relinked codes n = steps n (λ k m. withField m (Link (k % 4)) (followed (getD cols (k / 4) 0) (getD codes k 0) (m .link (k % 4))))
+  relinked codes n = steps n (λ k m. withField m (Link (k % 4)) (followed (getD rows (k / 4) 0) (getD codes k 0) (m .link (k % 4))))
 
 -- the code of an arc of the right side, and that of no arc where the left side has the same: its links stand already
 unfoldable pub changed : ℕ → ℕ → ℕ
@@ -55,29 +55,29 @@ pub record Turnable (N : ℕ) (store : List ℕ) (size p : ℕ) : Type 0 where
   pub position : p < 4
   pub place : (r : ℕ) → r < size → next N store r p < size
 
--- the code of an arc names a node that has a column, or a position whose links are known
-pub record Legible (N : ℕ) (store : List ℕ) (size : ℕ) (cols : List ℕ) (code : ℕ) : Type 0 where
-  pub node : code < 16 → getD cols code 0 + size ≤ length store
+-- the code of an arc names a node that has a row, or a position whose links are known
+pub record Legible (N : ℕ) (store : List ℕ) (size : ℕ) (rows : List ℕ) (code : ℕ) : Type 0 where
+  pub node : code < 16 → getD rows code 0 + size ≤ length store
   pub position : 16 ≤ code → code < 255 → Turnable N store size (code - 16)
 
--- each of c nodes has a column
-pub record Columns (N : ℕ) (store : List ℕ) (size c : ℕ) (cols : List ℕ) : Type 0 where
+-- each of c nodes has a row
+pub record Rows (N : ℕ) (store : List ℕ) (size c : ℕ) (rows : List ℕ) : Type 0 where
   pub few : c ≤ 16
-  pub at : (v : ℕ) → v < c → HoldsSlots N store (getD cols v 0) size
+  pub at : (v : ℕ) → v < c → HoldsSlots N store (getD rows v 0) size
 
 -- each arc of c nodes has a code
-pub record Codes (N : ℕ) (store : List ℕ) (size : ℕ) (codes : List ℕ) (c : ℕ) (cols : List ℕ) : Type 0 where
-  pub at : (k : ℕ) → k < 4 * c → Legible N store size cols (getD codes k 0)
+pub record Codes (N : ℕ) (store : List ℕ) (size : ℕ) (codes : List ℕ) (c : ℕ) (rows : List ℕ) : Type 0 where
+  pub at : (k : ℕ) → k < 4 * c → Legible N store size rows (getD codes k 0)
 
 -- ---- what the phase is handed
 
 -- the site of the edit in the map before it, with what the earlier phases found and left in m and the store
-pub record BeforeRewriting (N : ℕ) (m : Map) (store : List ℕ) (size : ℕ) (lefts rights : List ℕ) (c : ℕ) (cols : List ℕ) : Type 0 where
+pub record BeforeRewriting (N : ℕ) (m : Map) (store : List ℕ) (size : ℕ) (lefts rights : List ℕ) (c : ℕ) (rows : List ℕ) : Type 0 where
   pub before : Map
   pub at : At (ofSlots N before)
   pub stored : length store ≡ 16 * N
   pub walked : WalkedAt (site at) store size
-  pub darts : Darts (site at) store cols size
+  pub darts : Darts (site at) store rows size
   pub match : matches (site at) ≡ true
   pub room : addedDarts (site at) ≤ roomOf (site at)
   pub given : Given (site at) m

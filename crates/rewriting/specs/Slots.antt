@@ -20,7 +20,7 @@ use Rattle.model.specs.Edit.{isFree, rank, dartOf, afterDeletion}
 use Rattle.table.specs.Writes.{setAt, withField}
 use Rattle.orbit.specs.Store.{mark, place, dartAt, among, Kept, Assigned}
 use Rattle.orbit.specs.At.{At, site, ofSlots}
-use Rattle.rewriting.specs.Darts.{Darts, newField, Given, columnStart, Grant, Bare, Tagged}
+use Rattle.rewriting.specs.Darts.{Darts, newField, Given, rowStart, Grant, Bare, Tagged}
 
 -- ---- one slot
 
@@ -42,9 +42,9 @@ pub record Lowest (N : ℕ) (state : ℕ → ℕ) (from y : ℕ) : Type 0 where
 unfoldable pub revived : Map → ℕ → ℕ → Map
 revived m y v = withField (withField (withField m State (setAt (m .state) y 1)) (Link 3) (setAt (m .link 3) y y)) Tag (setAt (m .tag) y v)
 
--- ---- the columns of the added nodes
+-- ---- the rows of the added nodes
 
--- different nodes, with room for their columns
+-- different nodes, with room for their rows
 pub record Apart (N size : ℕ) (nodes : List ℕ) (many : ℕ) : Type 0 where
   pub few : many ≤ 16
   pub slots : N ≤ maxSlots
@@ -52,11 +52,11 @@ pub record Apart (N size : ℕ) (nodes : List ℕ) (many : ℕ) : Type 0 where
   pub below : (a : ℕ) → a < many → getD nodes a 0 < 16
   pub once : (a b : ℕ) → a < b → b < many → getD nodes a 0 ≡ getD nodes b 0 → ⊥
 
--- cols′ is cols with the columns of the first `many` of `nodes`
-pub record ColumnsBegin (N size : ℕ) (nodes : List ℕ) (many : ℕ) (cols cols′ : List ℕ) : Type 0 where
-  pub long : length cols′ ≡ length cols
-  pub at : (a : ℕ) → a < many → getD cols′ (getD nodes a 0) 0 ≡ columnStart N size a
-  pub other : (v : ℕ) → ((a : ℕ) → a < many → getD nodes a 0 ≡ v → ⊥) → getD cols′ v 0 ≡ getD cols v 0
+-- rows′ is rows with the rows of the first `many` of `nodes`
+pub record RowsBegin (N size : ℕ) (nodes : List ℕ) (many : ℕ) (rows rows′ : List ℕ) : Type 0 where
+  pub long : length rows′ ≡ length rows
+  pub at : (a : ℕ) → a < many → getD rows′ (getD nodes a 0) 0 ≡ rowStart N size a
+  pub other : (v : ℕ) → ((a : ℕ) → a < many → getD nodes a 0 ≡ v → ⊥) → getD rows′ v 0 ≡ getD rows v 0
 
 -- ---- the pairs one after the other, in the order of their ranks
 
@@ -83,8 +83,8 @@ module _ {m₀ : Map} (A : At m₀) where
         → fieldOf m′ f (dartOf E u v) ≡ newField (afterDeletion E) (m .tag (image E u (donor S v))) (dartOf E u v) f
     pub other : (y : ℕ) (f : Field) → ((u v : ℕ) → Due done u v → dartOf E u v ≡ y → ⊥) → fieldOf m′ f y ≡ fieldOf (afterDeletion E) f y
     pub tag : (u v : ℕ) → O u ≡ true → v < S .nodes → added S v ≡ true → done ≤ rank E u v
-        → dartAt s (columnStart (m .slots) size (countBelow v (added S))) (mark s₀ u - 1) ≡ m .tag (image E u (donor S v))
-    pub dart : (u v : ℕ) → Due done u v → dartAt s (columnStart (m .slots) size (countBelow v (added S))) (mark s₀ u - 1) ≡ dartOf E u v
+        → dartAt s (rowStart (m .slots) size (countBelow v (added S))) (mark s₀ u - 1) ≡ m .tag (image E u (donor S v))
+    pub dart : (u v : ℕ) → Due done u v → dartAt s (rowStart (m .slots) size (countBelow v (added S))) (mark s₀ u - 1) ≡ dartOf E u v
     pub kept : (i : ℕ) → (i < 2 * m .slots) ⊎ (3 * m .slots ≤ i) → getD s i 0 ≡ getD s₀ i 0
 
 -- the pairs of the orbit dart at place r, which is `dart`, come next; how it all stood before the edit, and before the first slot was given, is in the fields
@@ -157,19 +157,19 @@ pub record BeforeBlocks (N : ℕ) (m : Map) (s : List ℕ) (size many : ℕ) : T
   pub digits : Digits N s size s
 
 -- what the giving of slots is handed by the phases before it: `nodes` lists the added nodes of the scheme, ascending
-pub record BeforeGiving (N : ℕ) (m : Map) (s : List ℕ) (size : ℕ) (nodes : List ℕ) (many : ℕ) (cols : List ℕ) : Type 0 where
+pub record BeforeGiving (N : ℕ) (m : Map) (s : List ℕ) (size : ℕ) (nodes : List ℕ) (many : ℕ) (rows : List ℕ) : Type 0 where
   pub before : Map
   pub at : At (ofSlots N before)
   pub grant : Grant at s size many
   pub bare : Bare (site at) m
   pub tagged : Tagged (site at) s size
   pub node : (a : ℕ) → a < many → nthLowest (at .scheme .nodes) (added (at .scheme)) a ≡ some (getD nodes a 0)
-  pub assigned : Assigned (site at) s cols size
-  pub wide : length cols ≡ 16
+  pub assigned : Assigned (site at) s rows size
+  pub wide : length rows ≡ 16
 
--- what it hands on: the map m′, and s′ and cols′ from s
-pub record Granted (E : Site) (s : List ℕ) (m′ : Map) (s′ cols′ : List ℕ) (size : ℕ) : Type 0 where
+-- what it hands on: the map m′, and s′ and rows′ from s
+pub record Granted (E : Site) (s : List ℕ) (m′ : Map) (s′ rows′ : List ℕ) (size : ℕ) : Type 0 where
   pub given : Given E m′
-  pub darts : Darts E s′ cols′ size
+  pub darts : Darts E s′ rows′ size
   pub kept : Kept (E .map .slots) s s′ size
-  pub wide : length cols′ ≡ 16
+  pub wide : length rows′ ≡ 16

@@ -13,7 +13,7 @@ ghost use Rattle.table.specs.Writes.{withField};
 ghost use Rattle.orbit.specs.Store.{dartAt};
 ghost use Rattle.orbit.specs.At.{site};
 ghost use Rattle.rewriting.specs.Links.{placeBy, overwritten, followed, relinked, changed, Changed};
-ghost use Rattle.rewriting.specs.Links.{Turnable, Legible, Columns, Codes, BeforeRewriting};
+ghost use Rattle.rewriting.specs.Links.{Turnable, Legible, Rows, Codes, BeforeRewriting};
 ghost use Rattle.rewriting.specs.Darts.{HoldsSlots};
 
 // The place of which an arc takes the dart at place r: r itself where its code is a node, and by a position, that to which the link leads.
@@ -27,7 +27,7 @@ fn place(slots: usize, store: &[u32], code: usize, r: usize) -> usize
     word(store, 4 * slots + 4 * r + (code - 16))
 }
 
-// The i-links of the darts of one node become the darts of a node, in the column at `to`, each at its place by the arc's code.
+// The i-links of the darts of one node become the darts of a node, in the row at `to`, each at its place by the arc's code.
 fn join(
     slots: usize,
     table: &mut [u32],
@@ -54,7 +54,7 @@ fn join(
     }
 }
 
-// The i-links of the darts of the node whose column of the store begins at `base`, by the code of an arc.
+// The i-links of the darts of the node whose row of the store begins at `base`, by the code of an arc.
 fn follow(
     slots: usize,
     table: &mut [u32],
@@ -63,17 +63,17 @@ fn follow(
     i: usize,
     base: usize,
     code: usize,
-    cols: &[usize; 16],
+    rows: &[usize; 16],
 )
     requires { ⌜ Sized slots (now table) ⌝ }
     requires { ⌜ HoldsSlots slots (now store) base size ⌝ }
-    requires { ⌜ Legible slots (now store) size (now cols) code ⌝ }
+    requires { ⌜ Legible slots (now store) size (now rows) code ⌝ }
     requires { ⌜ i ≤ 3 ⌝ }
     ensures { λ _. ⌜ view slots (now (table .exit)) ≡ withField (view slots (now (table .entry))) (Link i)
-        (followed slots (now (store .entry)) size (now (cols .entry)) base code (view slots (now (table .entry)) .link i)) ⌝ }
+        (followed slots (now (store .entry)) size (now (rows .entry)) base code (view slots (now (table .entry)) .link i)) ⌝ }
 {
     if code < 16 {
-        join(slots, table, store, size, i, base, cols[code], code);
+        join(slots, table, store, size, i, base, rows[code], code);
     } else if code < 255 {
         join(slots, table, store, size, i, base, base, code);
     }
@@ -87,12 +87,12 @@ fn relink(
     size: usize,
     codes: &[u8; 64],
     c: usize,
-    cols: &[usize; 16],
+    rows: &[usize; 16],
 )
     requires { ⌜ Sized slots (now table) ⌝ }
-    requires { ⌜ Columns slots (now store) size c (now cols) ⌝ }
-    requires { ⌜ Codes slots (now store) size (now codes) c (now cols) ⌝ }
-    ensures { λ _. ⌜ view slots (now (table .exit)) ≡ relinked slots (now (store .entry)) size (now (cols .entry))
+    requires { ⌜ Rows slots (now store) size c (now rows) ⌝ }
+    requires { ⌜ Codes slots (now store) size (now codes) c (now rows) ⌝ }
+    ensures { λ _. ⌜ view slots (now (table .exit)) ≡ relinked slots (now (store .entry)) size (now (rows .entry))
         (now (codes .entry)) (4 * c) (view slots (now (table .entry))) ⌝ }
 {
     let mut k = 0;
@@ -103,9 +103,9 @@ fn relink(
             store,
             size,
             k % 4,
-            cols[k / 4],
+            rows[k / 4],
             wide(codes[k]),
-            cols,
+            rows,
         );
         k += 1;
     }
@@ -142,15 +142,15 @@ pub fn rewrite(
     lefts: &[u8; 64],
     rights: &[u8; 64],
     c: usize,
-    cols: &[usize; 16],
+    rows: &[usize; 16],
 )
     requires { ⌜ Sized slots (now table) ⌝ }
-    requires { ⌜ BeforeRewriting slots (view slots (now table)) (now store) size (now lefts) (now rights) c (now cols) ⌝ }
+    requires { ⌜ BeforeRewriting slots (view slots (now table)) (now store) size (now lefts) (now rights) c (now rows) ⌝ }
     ensures { λ _. ⌜ ((R : BeforeRewriting slots (view slots (now (table .entry))) (now (store .entry)) size (now (lefts .entry))
-        (now (rights .entry)) c (now (cols .entry)))
+        (now (rights .entry)) c (now (rows .entry)))
         → now (table .exit) ≡ tableOf (edited (site (R .at)))) ⌝ }
 {
     let mut codes = [255u8; 64];
     changes(lefts, rights, &mut codes);
-    relink(slots, table, store, size, &codes, c, cols);
+    relink(slots, table, store, size, &codes, c, rows);
 }

@@ -9,7 +9,7 @@ ghost use Rattle.model.specs.Map.{view};
 ghost use Rattle.table.specs.Words.{Sized};
 ghost use Rattle.orbit.specs.Store.{dartAt};
 ghost use Rattle.rewriting.specs.Darts.{HoldsSlots};
-ghost use Rattle.rewriting.specs.Room.{erased, cleared, DeletedColumns, Noted, Donating, Gathered, BeforeRoom, Roomy};
+ghost use Rattle.rewriting.specs.Room.{erased, cleared, DeletedRows, Noted, Donating, Gathered, BeforeRoom, Roomy};
 
 // The tags of the darts of one node, in the store from `to` on.
 fn note(slots: usize, table: &[u32], store: &mut [u32], size: usize, from: usize, to: usize)
@@ -35,18 +35,18 @@ fn gather(
     added: &[u8; 16],
     many: usize,
     donors: &[u8; 16],
-    cols: &[usize; 16],
+    rows: &[usize; 16],
 )
     requires { ⌜ Sized slots (now table) ⌝ }
-    requires { ⌜ Donating slots (now store) size (now added) many (now donors) (now cols) ⌝ }
+    requires { ⌜ Donating slots (now store) size (now added) many (now donors) (now rows) ⌝ }
     ensures { λ _. ⌜ Gathered slots (view slots (now (table .entry)) .tag) (now (store .entry)) size (now (added .entry)) many
-        (now (donors .entry)) (now (cols .entry)) (now (store .exit)) ⌝ }
+        (now (donors .entry)) (now (rows .entry)) (now (store .exit)) ⌝ }
 {
     let mut a = 0;
     while a < many {
         let s = added[a] as usize;
         let d = donors[s] as usize;
-        note(slots, table, store, size, cols[d], 2 * slots + a * size);
+        note(slots, table, store, size, rows[d], 2 * slots + a * size);
         a += 1;
     }
 }
@@ -73,17 +73,17 @@ fn clear(
     size: usize,
     kinds: &[u8; 16],
     c: usize,
-    cols: &[usize; 16],
+    rows: &[usize; 16],
 )
     requires { ⌜ Sized slots (now table) ⌝ }
-    requires { ⌜ DeletedColumns slots (now store) size (now kinds) c (now cols) ⌝ }
-    ensures { λ _. ⌜ view slots (now (table .exit)) ≡ cleared (now (store .entry)) size (now (cols .entry))
+    requires { ⌜ DeletedRows slots (now store) size (now kinds) c (now rows) ⌝ }
+    ensures { λ _. ⌜ view slots (now (table .exit)) ≡ cleared (now (store .entry)) size (now (rows .entry))
         (now (kinds .entry)) c (view slots (now (table .entry))) ⌝ }
 {
     let mut v = 0;
     while v < c {
         if kinds[v] == 1 {
-            erase(slots, table, store, size, cols[v]);
+            erase(slots, table, store, size, rows[v]);
         }
         v += 1;
     }
@@ -100,14 +100,14 @@ pub fn prepare(
     donors: &[u8; 16],
     kinds: &[u8; 16],
     c: usize,
-    cols: &[usize; 16],
+    rows: &[usize; 16],
 )
     requires { ⌜ Sized slots (now table) ⌝ }
-    requires { ⌜ BeforeRoom (view slots (now table)) (now store) size (now added) many (now donors) (now kinds) c (now cols) ⌝ }
+    requires { ⌜ BeforeRoom (view slots (now table)) (now store) size (now added) many (now donors) (now kinds) c (now rows) ⌝ }
     ensures { λ _. ⌜ ((R : BeforeRoom (view slots (now (table .entry))) (now (store .entry)) size (now (added .entry)) many (now (donors .entry))
-        (now (kinds .entry)) c (now (cols .entry)))
-        → Roomy (R .at) (now (store .entry)) size (now (cols .entry)) (view slots (now (table .exit))) (now (store .exit))) ⌝ }
+        (now (kinds .entry)) c (now (rows .entry)))
+        → Roomy (R .at) (now (store .entry)) size (now (rows .entry)) (view slots (now (table .exit))) (now (store .exit))) ⌝ }
 {
-    gather(slots, table, store, size, added, many, donors, cols);
-    clear(slots, table, store, size, kinds, c, cols);
+    gather(slots, table, store, size, added, many, donors, rows);
+    clear(slots, table, store, size, kinds, c, rows);
 }

@@ -13,7 +13,7 @@ ghost use Rattle.base.specs.Below.{countBelow};
 ghost use Rattle.model.specs.Map.{view, maxSlots};
 ghost use Rattle.table.specs.Words.{Sized};
 ghost use Rattle.orbit.specs.At.{site};
-ghost use Rattle.rewriting.specs.Slots.{Room, Lowest, revived, Apart, ColumnsBegin, Turn, Granting};
+ghost use Rattle.rewriting.specs.Slots.{Room, Lowest, revived, Apart, RowsBegin, Turn, Granting};
 ghost use Rattle.rewriting.specs.Slots.{Placed, blockCount, digitWords, NoDigits, Digits, Block, BeforeBlocks, BeforeGiving, Granted};
 
 // The lowest unused slot from `from` on. Four slots a turn: in a full table this scan is most of what an added dart costs.
@@ -51,7 +51,7 @@ fn revive(slots: usize, table: &mut [u32], y: usize, v: u32)
 
 // The darts of the orbit dart at place r with each added node. The answer is the slot past the last that was taken.
 // Until a pair has its dart, the store holds the tag for it in the same word: the slot of the donor may be taken already.
-fn row(
+fn turn(
     slots: usize,
     table: &mut [u32],
     store: &mut [u32],
@@ -81,16 +81,16 @@ fn row(
     from
 }
 
-// The columns of the added nodes.
-fn columns(slots: usize, size: usize, added: &[u8; 16], many: usize, cols: &mut [usize; 16])
+// The rows of the added nodes.
+fn row_starts(slots: usize, size: usize, added: &[u8; 16], many: usize, rows: &mut [usize; 16])
     requires { ⌜ Apart slots size (now added) many ⌝ }
-    requires { ⌜ length (now cols) ≡ 16 ⌝ }
-    ensures { λ _. ⌜ ColumnsBegin slots size (now (added .entry)) many (now (cols .entry)) (now (cols .exit)) ⌝ }
+    requires { ⌜ length (now rows) ≡ 16 ⌝ }
+    ensures { λ _. ⌜ RowsBegin slots size (now (added .entry)) many (now (rows .entry)) (now (rows .exit)) ⌝ }
 {
     let mut a = 0;
     while a < many {
         let s = added[a] as usize;
-        cols[s] = 2 * slots + a * size;
+        rows[s] = 2 * slots + a * size;
         a += 1;
     }
 }
@@ -140,7 +140,7 @@ fn pair(low: u32, high: u32) -> u64
     low as u64 + high as u64 * 4294967296
 }
 
-// The darts of all pairs of the orbit darts from 64 * w on whose digits are set in `digits`, ascending. The answer is as in `row`.
+// The darts of all pairs of the orbit darts from 64 * w on whose digits are set in `digits`, ascending. The answer is as in `turn`.
 fn block(
     slots: usize,
     table: &mut [u32],
@@ -164,7 +164,7 @@ fn block(
         rest = rest - (1 << t);
         let u = 64 * w + t;
         let r = word(store, u) - 1;
-        from = row(slots, table, store, size, many, r, from);
+        from = turn(slots, table, store, size, many, r, from);
     }
     from
 }
@@ -188,7 +188,7 @@ fn blocks(slots: usize, table: &mut [u32], store: &mut [u32], size: usize, many:
     }
 }
 
-// Gives each added pair its dart, in the table and in the store, and `cols` the columns of the added nodes.
+// Gives each added pair its dart, in the table and in the store, and `rows` the rows of the added nodes.
 pub fn give(
     slots: usize,
     table: &mut [u32],
@@ -196,17 +196,17 @@ pub fn give(
     size: usize,
     added: &[u8; 16],
     many: usize,
-    cols: &mut [usize; 16],
+    rows: &mut [usize; 16],
 )
     requires { ⌜ Sized slots (now table) ⌝ }
-    requires { ⌜ BeforeGiving slots (view slots (now table)) (now store) size (now added) many (now cols) ⌝ }
-    ensures { λ _. ⌜ ((R : BeforeGiving slots (view slots (now (table .entry))) (now (store .entry)) size (now (added .entry)) many (now (cols .entry)))
-        → Granted (site (R .at)) (now (store .entry)) (view slots (now (table .exit))) (now (store .exit)) (now (cols .exit)) size) ⌝ }
+    requires { ⌜ BeforeGiving slots (view slots (now table)) (now store) size (now added) many (now rows) ⌝ }
+    ensures { λ _. ⌜ ((R : BeforeGiving slots (view slots (now (table .entry))) (now (store .entry)) size (now (added .entry)) many (now (rows .entry)))
+        → Granted (site (R .at)) (now (store .entry)) (view slots (now (table .exit))) (now (store .exit)) (now (rows .exit)) size) ⌝ }
 {
     if many == 0 {
         return;
     }
-    columns(slots, size, added, many, cols);
+    row_starts(slots, size, added, many, rows);
     clear_bits(slots, store);
     mark_bits(slots, store, size);
     blocks(slots, table, store, size, many);

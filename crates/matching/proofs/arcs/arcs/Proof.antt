@@ -13,11 +13,11 @@ use Rattle.matching.proofs.arcs.arcs.Statement.{statement}
 use Rattle.matching.proofs.arcs.arcs.Tie as tie
 
 abbrev Inv-loop : tie.InvT-loop
-Inv-loop slots table store size nodes dims roots count codes cols k₀ k =
-    (k ≤ 4 * count) × (arcsTest (view slots table) store size nodes dims roots codes cols k ≡ true)
+Inv-loop slots table store size nodes dims roots count codes rows k₀ k =
+    (k ≤ 4 * count) × (arcsTest (view slots table) store size nodes dims roots codes rows k ≡ true)
 
 abbrev μ-loop : tie.MeasureT-loop
-μ-loop slots table store size nodes dims roots count codes cols k₀ k = 4 * count - k
+μ-loop slots table store size nodes dims roots count codes rows k₀ k = 4 * count - k
 
 loop-holds : tie.Need-loop-holds Inv-loop μ-loop
 loop-holds c = (omega arith, arcs-none _ _ _ _ _ _ _ _)

@@ -13,12 +13,12 @@ use Rattle.rewriting.proofs.links.relink.Statement.{statement}
 use Rattle.rewriting.proofs.links.relink.Tie as tie
 
 abbrev Inv-loop : tie.InvT-loop
-Inv-loop slots table₀ store size codes c cols k₀ table k =
+Inv-loop slots table₀ store size codes c rows k₀ table k =
     Stage slots (view slots) table₀
-    (λ j m. withField m (Link (j % 4)) (followed slots store size cols (getD cols (j / 4) 0) (getD codes j 0) (m .link (j % 4)))) (4 * c) k table
+    (λ j m. withField m (Link (j % 4)) (followed slots store size rows (getD rows (j / 4) 0) (getD codes j 0) (m .link (j % 4)))) (4 * c) k table
 
 abbrev μ-loop : tie.MeasureT-loop
-μ-loop slots table₀ store size codes c cols k₀ table k = 4 * c - k
+μ-loop slots table₀ store size codes c rows k₀ table k = 4 * c - k
 
 loop-holds : tie.Need-loop-holds Inv-loop μ-loop
 loop-holds c = stage-none (c .before .before .pre .0)

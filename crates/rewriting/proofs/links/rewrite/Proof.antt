@@ -7,7 +7,7 @@ use Rattle.model.specs.Edit.{edited}
 use Rattle.table.proofs.WordLaws.{sized-same}
 use Rattle.table.proofs.WriteLaws.{shown-words}
 use Rattle.orbit.specs.At.{site}
-use Rattle.rewriting.proofs.LinkRewriteLaws.{columns, coding, rewritten}
+use Rattle.rewriting.proofs.LinkRewriteLaws.{rows-held, coding, rewritten}
 use Rattle.rewriting.proofs.links.rewrite.Statement.{statement}
 use Rattle.rewriting.proofs.links.rewrite.Tie as tie
 
@@ -15,7 +15,7 @@ relink-requires : tie.Need-relink-requires
 relink-requires c κs =
     let a = c .before .before in
     let p = a .before .before .before .before .pre in
-    (p .0, (columns (p .1) (a .changes .ensures), coding (p .1) (a .changes .ensures)))
+    (p .0, (rows-held (p .1) (a .changes .ensures), coding (p .1) (a .changes .ensures)))
 
 returns : tie.Need-returns
 unfolding edited

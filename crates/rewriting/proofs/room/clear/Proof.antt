@@ -13,11 +13,11 @@ use Rattle.rewriting.proofs.room.clear.Statement.{statement}
 use Rattle.rewriting.proofs.room.clear.Tie as tie
 
 abbrev Inv-loop : tie.InvT-loop
-Inv-loop slots table₀ store size kinds c cols v₀ table v =
-    Stage slots (view slots) table₀ (λ k. clearedBy store size (getD cols k 0) (getD kinds k 0)) c v table
+Inv-loop slots table₀ store size kinds c rows v₀ table v =
+    Stage slots (view slots) table₀ (λ k. clearedBy store size (getD rows k 0) (getD kinds k 0)) c v table
 
 abbrev μ-loop : tie.MeasureT-loop
-μ-loop slots table₀ store size kinds c cols v₀ table v = c - v
+μ-loop slots table₀ store size kinds c rows v₀ table v = c - v
 
 loop-holds : tie.Need-loop-holds Inv-loop μ-loop
 loop-holds c = stage-none (c .before .before .pre .0)

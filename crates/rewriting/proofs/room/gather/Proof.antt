@@ -12,15 +12,15 @@ use Rattle.rewriting.proofs.room.gather.Statement.{statement}
 use Rattle.rewriting.proofs.room.gather.Tie as tie
 
 abbrev Inv-loop : tie.InvT-loop
-Inv-loop slots table store₀ size added many donors cols a₀ store a = (a ≤ many) × Gathered slots (view slots table .tag) store₀ size added a donors cols store
+Inv-loop slots table store₀ size added many donors rows a₀ store a = (a ≤ many) × Gathered slots (view slots table .tag) store₀ size added a donors rows store
 
 abbrev μ-loop : tie.MeasureT-loop
-μ-loop slots table store₀ size added many donors cols a₀ store a = many - a
+μ-loop slots table store₀ size added many donors rows a₀ store a = many - a
 
 abbrev start : tie.At-loop Inv-loop μ-loop → tie.Start Inv-loop μ-loop
 start l = l .before .before .before
 
--- in a turn the node and its donor have columns, which lie in the store
+-- in a turn the node and its donor have rows, which lie in the store
 inside : (c : tie.In-loop Inv-loop μ-loop) → let l = c .before in let b = start l .args in let s = getD (now (b .added)) (l .loop .a) 0 in
     (l .loop .a < 16) × (s < 16) × (getD (now (b .donors)) s 0 < 16) × (l .loop .a * b .size + b .size ≤ b .slots) × (b .slots ≤ maxSlots)
 inside c =

@@ -65,8 +65,8 @@ sub-r c =
     let B = start (i .before) .pre .1 in
     mark-some (B .before) (B .grant) (i .before .loop .inv .1 B) (i .loop-test .taken) _ refl _ (c .word .ensures)
 
-row-requires : tie.Need-row-requires Inv-loop μ-loop
-row-requires c κs =
+turn-requires : tie.Need-turn-requires Inv-loop μ-loop
+turn-requires c κs =
     let a = c .before .before in
     let i = a .before .before in
     let B = start (i .before) .pre .1 in
@@ -82,8 +82,8 @@ loop-again c =
     let a = o .before .before .before in
     let i = a .before .before in
     let v = i .before .loop .inv in (
-      sized-same (v .0) (o .row .kept .1 .0),
-      λ B. passed-more (B .before) (B .grant) (v .1 B) (i .loop-test .taken) _ refl _ _ _ _ _ (a .word .ensures) refl (o .row .ensures),
+      sized-same (v .0) (o .turn .kept .1 .0),
+      λ B. passed-more (B .before) (B .grant) (v .1 B) (i .loop-test .taken) _ refl _ _ _ _ _ (a .word .ensures) refl (o .turn .ensures),
     )
 
 same-length : tie.Need-same-length Inv-loop μ-loop
@@ -97,5 +97,5 @@ returns c = λ B. passed-all (B .before) (B .grant) (c .before .loop .inv .1 B) 
 
 pub block-spec : {M : Type 1} → statement M
 block-spec =
-    tie.close (tie.spec Inv-loop μ-loop loop-holds cast-t shl-rest sub-rest mul-u add-u word-requires sub-r row-requires loop-less loop-again
+    tie.close (tie.spec Inv-loop μ-loop loop-holds cast-t shl-rest sub-rest mul-u add-u word-requires sub-r turn-requires loop-less loop-again
     same-length same-length-2 returns)

@@ -36,7 +36,7 @@ add-keep c = omega (arith, inside (c .before), c .before .before .before .before
 keep-requires : tie.Need-keep-requires Inv-loop μ-loop
 keep-requires c κs =
     let l = c .before .before in
-    (word-inside _ _ (l .before .before .before .pre .1) _ (inside (c .before)) _ (l .loop .inv .1), omega arith)
+    (omega (arith, word-inside _ _ (l .before .before .before .pre .1) _ (inside (c .before)) _ (l .loop .inv .1)), omega arith)
 
 add-i : tie.Need-add-i Inv-loop μ-loop
 add-i c = omega arith
@@ -49,7 +49,7 @@ loop-again c =
     let k = c .before .before in
     let i = k .before .before in
     let l = i .before in
-    (omega arith, bits-more _ _ (l .before .before .before .pre .1) _ (inside i) _ (l .loop .inv .1) _ (k .keep .ensures))
+    (omega arith, bits-more _ _ (l .before .before .before .pre .1) _ (inside i) _ (l .loop .inv .1) _ _ (omega arith) (k .keep .ensures))
 
 same-length : tie.Need-same-length Inv-loop μ-loop
 same-length c = c .before .loop .inv .1 .behind .long

@@ -11,17 +11,17 @@ use Rattle.rewriting.proofs.slots.give.Tie as tie
 abbrev cleared : tie.After-mark-bits → tie.After-clear-bits
 cleared m = m .before .before .before .before
 
-abbrev columned : tie.After-mark-bits → tie.After-columns
-columned m = cleared m .before .before
+abbrev started : tie.After-mark-bits → tie.After-row-starts
+started m = cleared m .before .before
 
-abbrev start : tie.After-columns → tie.Start
+abbrev start : tie.After-row-starts → tie.Start
 start k = k .before .before .before .before .before
 
 returns : tie.Need-returns
 returns c = λ R. granted-none R (c .if1 .taken)
 
-columns-requires : tie.Need-columns-requires
-columns-requires c κs = let R = c .before .before .before .before .pre .1 in (apart-of R, R .wide)
+row-starts-requires : tie.Need-row-starts-requires
+row-starts-requires c κs = let R = c .before .before .before .before .pre .1 in (apart-of R, R .wide)
 
 clear-bits-requires : tie.Need-clear-bits-requires
 clear-bits-requires c κs = let p = start (c .before) .pre in (p .0 .few, p .1 .grant .long)
@@ -35,7 +35,7 @@ mark-bits-requires c κs =
 blocks-requires : tie.Need-blocks-requires
 blocks-requires c κs =
     let m = c .before .before .before .before in
-    let p = start (columned m) .pre in
+    let p = start (started m) .pre in
     let R₁ = regiven (p .1) _ (cleared m .clear-bits .ensures .behind) in
     (p .0, blocks-ready (regiven R₁ _ (m .mark-bits .ensures .behind)) (digits-own _ _ _ _ (m .mark-bits .ensures)))
 
@@ -49,9 +49,9 @@ returns-2 c =
     let R₁ = regiven R _ z in
     let R₂ = regiven R₁ _ (d .behind) in
     granted-behind R _ z (granted-behind R₁ _ (d .behind)
-    (granted R₂ (columned m .columns .ensures) (omega arith) (b .blocks2 .ensures (blocks-ready R₂ (digits-own _ _ _ _ d)) .1)))
+    (granted R₂ (started m .row-starts .ensures) (omega arith) (b .blocks2 .ensures (blocks-ready R₂ (digits-own _ _ _ _ d)) .1)))
 
 pub give-spec : {M : Type 1} → statement M
 give-spec =
-    tie.close (tie.spec returns columns-requires clear-bits-requires mark-bits-requires blocks-requires (λ c. search needs) (λ c. search needs)
+    tie.close (tie.spec returns row-starts-requires clear-bits-requires mark-bits-requires blocks-requires (λ c. search needs) (λ c. search needs)
     returns-2)

@@ -7,7 +7,7 @@ use native.Mathlib.Omega.{arith}
 use denote.Ref.{now}
 use Rattle.model.specs.Map.{view, maxSlots}
 use Rattle.table.specs.Words.{Sized}
-use Rattle.rewriting.proofs.SlotRowLaws.{Scanned, scan-start, scan-inside, scan-more, scan-found}
+use Rattle.rewriting.proofs.SlotTurnLaws.{Scanned, scan-start, scan-inside, scan-more, scan-found}
 use Rattle.rewriting.proofs.slots.lowest.Statement.{statement}
 use Rattle.rewriting.proofs.slots.lowest.Tie as tie
 

@@ -5,7 +5,7 @@ use borrow.Author.Needs.{needs}
 use Rattle.model.specs.Map.{State, Link, Tag}
 use Rattle.table.proofs.WordLaws.{sized-same}
 use Rattle.table.proofs.WriteLaws.{put-view}
-use Rattle.rewriting.proofs.SlotRowLaws.{revived-of}
+use Rattle.rewriting.proofs.SlotTurnLaws.{revived-of}
 use Rattle.rewriting.proofs.slots.revive.Statement.{statement}
 use Rattle.rewriting.proofs.slots.revive.Tie as tie
 

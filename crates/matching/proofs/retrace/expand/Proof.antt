@@ -1,4 +1,4 @@
--- `matching::opposite::expand` meets its contract. The loop's invariant: the links at the first p positions were followed.
+-- `matching::retrace::expand` meets its contract. The loop's invariant: the links at the first p positions were followed.
 -- Assumes nothing.
 use Prim.Native.Nat.{_+_, _*_, _-_, _≤_, _<_}
 use mathlib.Core.Path.{_≡_}
@@ -7,16 +7,16 @@ use lib.ListN.{length}
 use borrow.Author.Needs.{needs}
 use Rattle.model.specs.Map.{view}
 use Rattle.orbit.specs.At.{site}
-use Rattle.matching.specs.Opposite.{Longer, Opposed, Retracing}
-use Rattle.matching.proofs.OppositeLaws.{few-positions, x-slot, dim-low, y-slot, q-next, expand-first, expand-more, expand-none, expand-done}
-use Rattle.matching.proofs.opposite.expand.Statement.{statement}
-use Rattle.matching.proofs.opposite.expand.Tie as tie
+use Rattle.matching.specs.Retrace.{Longer, Standing, Retracing}
+use Rattle.matching.proofs.RetraceLaws.{few-positions, x-slot, dim-low, y-slot, q-next, expand-first, expand-more, expand-none, expand-done}
+use Rattle.matching.proofs.retrace.expand.Statement.{statement}
+use Rattle.matching.proofs.retrace.expand.Tie as tie
 
 abbrev Inv-loop : tie.InvT-loop
 Inv-loop slots table store₀ size dims k head tail x at end₀ p₀ store end p =
     (p ≤ k) × (tail ≤ end) × (length store ≡ 16 * slots)
     × ((T : Retracing (view slots table) store₀ size dims k head tail)
-    → Opposed (site (T .at)) store size (4 * head + p) end × Longer slots store₀ store (size + tail))
+    → Standing (site (T .at)) store size (4 * head + p) end × Longer slots store₀ store (size + tail))
 
 abbrev μ-loop : tie.MeasureT-loop
 μ-loop slots table store₀ size dims k head tail x at end₀ p₀ store end p = k - p
@@ -38,10 +38,10 @@ add-word-2 : tie.Need-add-word-2 Inv-loop μ-loop
 add-word-2 c = let T = c .before .before .before .pre .1 in omega (arith, T .walked .fits, T .at .few, T .low)
 
 word-requires : tie.Need-word-requires Inv-loop μ-loop
-word-requires c κs = let T = c .before .before .before .pre .1 in omega (arith, T .walked .fits, T .low, T .opposed .taken .long)
+word-requires c κs = let T = c .before .before .before .pre .1 in omega (arith, T .walked .fits, T .low, T .standing .taken .long)
 
 loop-holds : tie.Need-loop-holds Inv-loop μ-loop
-loop-holds c = (omega arith, omega arith, start c .pre .1 .opposed .taken .long, λ T. expand-first T)
+loop-holds c = (omega arith, omega arith, start c .pre .1 .standing .taken .long, λ T. expand-first T)
 
 returns : tie.Need-returns Inv-loop μ-loop
 returns c = λ T.

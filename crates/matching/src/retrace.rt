@@ -9,9 +9,9 @@ ghost use Rattle.model.specs.Map.{view, maxSlots};
 ghost use Rattle.table.specs.Words.{Sized};
 ghost use Rattle.orbit.specs.Store.{Taken};
 ghost use Rattle.orbit.specs.At.{site};
-ghost use Rattle.matching.specs.Opposite.{Met, Retracing, Retraced, RetracedAll, BeforeHanging, HungAll};
+ghost use Rattle.matching.specs.Retrace.{Met, Retracing, Retraced, RetracedAll, BeforeHanging, HungAll};
 
-// Dart y is to stand for place q of the orbit. It takes the place `end` of the column if that is q, and stands there already if q is an
+// Dart y is to stand for place q of the orbit. It takes the place `end` of the row if that is q, and stands there already if q is an
 // earlier one. It returns the new end, and 0 where another dart stands for q or y has a place already.
 fn meet(slots: usize, store: &mut [u32], size: usize, end: usize, q: usize, y: usize) -> usize
     requires { ⌜ slots ≤ maxSlots ⌝ }
@@ -32,7 +32,7 @@ fn meet(slots: usize, store: &mut [u32], size: usize, end: usize, q: usize, y: u
     end + 1
 }
 
-// Follows the links of the dart that stands for place `head`. It returns the new end of the column, and 0 where there is no match.
+// Follows the links of the dart that stands for place `head`. It returns the new end of the row, and 0 where there is no match.
 fn expand(
     slots: usize,
     table: &[u32],
@@ -68,7 +68,7 @@ fn expand(
     end
 }
 
-// Follows the links of the darts for all places, where the column has the first of them. It returns false where there is no match.
+// Follows the links of the darts for all places, where the row has the first of them. It returns false where there is no match.
 fn retrace(
     slots: usize,
     table: &[u32],
@@ -95,8 +95,8 @@ fn retrace(
     true
 }
 
-// The column of the second hook, where there is one, from the place `size` on; false where there is no match.
-pub(crate) fn opposite(
+// The row of the second hook, where there is one, from the place `size` on; false where there is no match.
+pub(crate) fn hang(
     slots: usize,
     table: &[u32],
     store: &mut [u32],

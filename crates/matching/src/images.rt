@@ -1,4 +1,4 @@
-// The darts of the left nodes: a column of places for each, along the trees of left arcs.
+// The darts of the left nodes: a row of places for each, along the trees of left arcs.
 use conditions::arcs::wide;
 use orbit::store::push;
 use orbit::store::word;
@@ -9,10 +9,10 @@ ghost use lib.ListN.{length, getD, set};
 ghost use Rattle.model.specs.Map.{view, maxSlots};
 ghost use Rattle.table.specs.Words.{Sized};
 ghost use Rattle.orbit.specs.Store.{Taken};
-ghost use Rattle.matching.specs.Columns.{BeforeMatching, Linked, Columned, ColumnedAll};
+ghost use Rattle.matching.specs.Images.{BeforeMatching, Linked, RowMade, RowsMade};
 
-// A new column from the place `end` on, over the i-links of the column at `from`; false where a dart has a place already.
-fn column(
+// A new row from the place `end` on, over the i-links of the row at `from`; false where a dart has a place already.
+fn row(
     slots: usize,
     table: &[u32],
     store: &mut [u32],
@@ -25,7 +25,7 @@ fn column(
     requires { ⌜ Taken slots (now store) end ⌝ }
     requires { ⌜ (i ≤ 3) × (size ≤ slots) × (slots ≤ from) × (from + size ≤ slots + end) ⌝ }
     requires { ⌜ Linked slots (view slots (now table) .link i) (now store) from size ⌝ }
-    ensures { λ r. ⌜ Columned slots (view slots (now (table .entry)) .link i) from (now (store .entry)) (now (store .exit)) end size r ⌝ }
+    ensures { λ r. ⌜ RowMade slots (view slots (now (table .entry)) .link i) from (now (store .entry)) (now (store .exit)) end size r ⌝ }
 {
     let mut r = 0;
     while r < size {
@@ -39,18 +39,18 @@ fn column(
     true
 }
 
-// The columns of the hooks begin with the places of the orbit and, where there is a second hook, behind them.
-fn begin(slots: usize, size: usize, nodes: &[u8; 16], roots: usize, cols: &mut [usize; 16])
+// The rows of the hooks begin with the places of the orbit and, where there is a second hook, behind them.
+fn begin(slots: usize, size: usize, nodes: &[u8; 16], roots: usize, rows: &mut [usize; 16])
     requires { ⌜ (slots ≤ maxSlots) × (size ≤ slots) × (1 ≤ roots) × (roots ≤ 2) × (getD (now nodes) (roots - 1) 0 < 16) ⌝ }
-    ensures { λ _. ⌜ now (cols .exit) ≡ set (set (now (cols .entry)) 0 slots) (getD (now (nodes .entry)) (roots - 1) 0) (slots + (roots - 1) * size) ⌝ }
+    ensures { λ _. ⌜ now (rows .exit) ≡ set (set (now (rows .entry)) 0 slots) (getD (now (nodes .entry)) (roots - 1) 0) (slots + (roots - 1) * size) ⌝ }
 {
-    cols[0] = slots;
+    rows[0] = slots;
     let last = roots - 1;
-    cols[wide(nodes[last])] = slots + last * size;
+    rows[wide(nodes[last])] = slots + last * size;
 }
 
-// The columns of all entries of the trees, after those of the hooks; false where two pairs fall on one dart.
-pub(crate) fn columns(
+// The rows of all entries of the trees, after those of the hooks; false where two pairs fall on one dart.
+pub(crate) fn rows(
     slots: usize,
     table: &[u32],
     store: &mut [u32],
@@ -60,23 +60,23 @@ pub(crate) fn columns(
     dims: &[u8; 16],
     roots: usize,
     count: usize,
-    cols: &mut [usize; 16],
+    rows: &mut [usize; 16],
 ) -> bool
     requires { ⌜ Sized slots (now table) ⌝ }
-    requires { ⌜ length (now cols) ≡ 16 ⌝ }
+    requires { ⌜ length (now rows) ≡ 16 ⌝ }
     requires { ⌜ BeforeMatching (view slots (now table)) (now store) size (now nodes) (now parents) (now dims) roots count ⌝ }
-    ensures { λ r. ⌜ ColumnedAll (view slots (now (table .entry))) (now (nodes .entry)) (now (parents .entry)) (now (dims .entry)) roots
-        (now (store .entry)) (now (store .exit)) (now (cols .exit)) size count r ⌝ }
+    ensures { λ r. ⌜ RowsMade (view slots (now (table .entry))) (now (nodes .entry)) (now (parents .entry)) (now (dims .entry)) roots
+        (now (store .entry)) (now (store .exit)) (now (rows .exit)) size count r ⌝ }
 {
-    begin(slots, size, nodes, roots, cols);
+    begin(slots, size, nodes, roots, rows);
     let mut end = roots * size;
     let mut k = roots;
     while k < count {
-        let from = cols[wide(parents[k])];
-        if !column(slots, table, store, wide(dims[k]), from, end, size) {
+        let from = rows[wide(parents[k])];
+        if !row(slots, table, store, wide(dims[k]), from, end, size) {
             return false;
         }
-        cols[wide(nodes[k])] = slots + end;
+        rows[wide(nodes[k])] = slots + end;
         end += size;
         k += 1;
     }

@@ -1,4 +1,4 @@
--- `matching::opposite::retrace` meets its contract. The loop's invariant: the links of the darts for the first `head` places were followed.
+-- `matching::retrace::retrace` meets its contract. The loop's invariant: the links of the darts for the first `head` places were followed.
 -- Assumes nothing.
 use Prim.Native.Nat.{_*_, _-_, _≤_}
 use mathlib.Core.Path.{_≡_, _∙_}
@@ -7,10 +7,10 @@ use lib.ListN.{length}
 use borrow.Author.Needs.{needs}
 use Rattle.model.specs.Map.{view}
 use Rattle.orbit.specs.At.{site}
-use Rattle.matching.specs.Opposite.{Retracing, Retraced}
-use Rattle.matching.proofs.OppositeLaws.{retrace-first, retracing, retrace-more, retrace-done, retrace-none}
-use Rattle.matching.proofs.opposite.retrace.Statement.{statement}
-use Rattle.matching.proofs.opposite.retrace.Tie as tie
+use Rattle.matching.specs.Retrace.{Retracing, Retraced}
+use Rattle.matching.proofs.RetraceLaws.{retrace-first, retracing, retrace-more, retrace-done, retrace-none}
+use Rattle.matching.proofs.retrace.retrace.Statement.{statement}
+use Rattle.matching.proofs.retrace.retrace.Tie as tie
 
 abbrev Inv-loop : tie.InvT-loop
 Inv-loop slots table store₀ size dims k tail end₀ head₀ store end head =
@@ -21,7 +21,7 @@ abbrev μ-loop : tie.MeasureT-loop
 μ-loop slots table store₀ size dims k tail end₀ head₀ store end head = size - head
 
 loop-holds : tie.Need-loop-holds Inv-loop μ-loop
-loop-holds c = let T = c .before .before .pre .1 in (omega arith, T .some, T .opposed .taken .long, λ T. retrace-first T)
+loop-holds c = let T = c .before .before .pre .1 in (omega arith, T .some, T .standing .taken .long, λ T. retrace-first T)
 
 expand-requires : tie.Need-expand-requires Inv-loop μ-loop
 expand-requires c κs =

@@ -1,4 +1,4 @@
--- `matching::columns::columns` meets its contract. The loop's invariant: the first k entries of the trees have their columns, of which the last ends at `end`.
+-- `matching::images::rows` meets its contract. The loop's invariant: the first k entries of the trees have their rows, of which the last ends at `end`.
 -- Assumes nothing.
 use Prim.Native.Nat.{_*_, _-_, _≤_, _<_}
 use mathlib.Core.Path.{_≡_, refl}
@@ -8,18 +8,18 @@ use denote.Ref.{now}
 use borrow.Author.Needs.{needs}
 use borrow.Author.Tests.{not-true, not-false}
 use Rattle.model.specs.Map.{view}
-use Rattle.matching.specs.Columns.{Grown}
-use Rattle.matching.proofs.ColumnTreeLaws.{hooks-some, hooks-few, grown-hooks, node-below, node-fits, parent-fits, column-asks, columns-more}
-use Rattle.matching.proofs.ColumnTreeLaws.{columns-clash, columns-done}
-use Rattle.matching.proofs.columns.columns.Statement.{statement}
-use Rattle.matching.proofs.columns.columns.Tie as tie
+use Rattle.matching.specs.Images.{Grown}
+use Rattle.matching.proofs.RowTreeLaws.{hooks-some, hooks-few, grown-hooks, node-below, node-fits, parent-fits, row-asks, rows-more}
+use Rattle.matching.proofs.RowTreeLaws.{rows-clash, rows-done}
+use Rattle.matching.proofs.images.rows.Statement.{statement}
+use Rattle.matching.proofs.images.rows.Tie as tie
 
 abbrev Inv-loop : tie.InvT-loop
-Inv-loop slots table store₀ size nodes parents dims roots count cols₀ end₀ k₀ store cols end k =
-    (roots ≤ k) × (k ≤ count) × (end ≡ k * size) × Grown (view slots table) nodes parents dims roots store₀ store cols size k
+Inv-loop slots table store₀ size nodes parents dims roots count rows₀ end₀ k₀ store rows end k =
+    (roots ≤ k) × (k ≤ count) × (end ≡ k * size) × Grown (view slots table) nodes parents dims roots store₀ store rows size k
 
 abbrev μ-loop : tie.MeasureT-loop
-μ-loop slots table store₀ size nodes parents dims roots count cols₀ end₀ k₀ store cols end k = count - k
+μ-loop slots table store₀ size nodes parents dims roots count rows₀ end₀ k₀ store rows end k = count - k
 
 abbrev start : tie.At-loop Inv-loop μ-loop → tie.Start Inv-loop μ-loop
 start c = c .before .before .before .before .before
@@ -50,7 +50,7 @@ loop-holds : tie.Need-loop-holds Inv-loop μ-loop
 loop-holds c =
     let s = c .before .before .before .before in
     let p = s .pre .1 in
-    (omega arith, p .1 .rooted .some, refl, rw (c .begin .ensures) (grown-hooks (p .1) (now (s .args .cols)) (p .0) _ refl))
+    (omega arith, p .1 .rooted .some, refl, rw (c .begin .ensures) (grown-hooks (p .1) (now (s .args .rows)) (p .0) _ refl))
 
 element-copy-out-wide : tie.Need-element-copy-out-wide Inv-loop μ-loop
 element-copy-out-wide c = search needs
@@ -70,13 +70,13 @@ element-copy-out-wide-2 c = search needs
 wide-requires-2 : tie.Need-wide-requires-2 Inv-loop μ-loop
 wide-requires-2 c κs = search needs
 
-column-requires : tie.Need-column-requires Inv-loop μ-loop
-column-requires c κs =
+row-requires : tie.Need-row-requires Inv-loop μ-loop
+row-requires c κs =
     let w = c .before .before .before .before in
     let l = w .before .before in
     let inv = l .before .loop .inv in
     let p = start (l .before) .pre in
-    (p .0, column-asks (inv .3) (inv .0) (l .loop-test .taken) (w .wide .ensures .0) (c .wide2 .ensures .0) (inv .2) (p .1 .1))
+    (p .0, row-asks (inv .3) (inv .0) (l .loop-test .taken) (w .wide .ensures .0) (c .wide2 .ensures .0) (inv .2) (p .1 .1))
 
 same-length : tie.Need-same-length Inv-loop μ-loop
 same-length c = search needs
@@ -88,11 +88,11 @@ returns c =
     let w = d .before .before .before .before in
     let l = w .before .before in
     let inv = l .before .loop .inv in
-    columns-clash (inv .3) (inv .0) (l .loop-test .taken) (w .wide .ensures .0) (d .wide2 .ensures .0) (inv .2) _ _
-    (k .column .ensures) (not-true _ (c .if1 .taken))
+    rows-clash (inv .3) (inv .0) (l .loop-test .taken) (w .wide .ensures .0) (d .wide2 .ensures .0) (inv .2) _ _
+    (k .row .ensures) (not-true _ (c .if1 .taken))
 
-add-cols : tie.Need-add-cols Inv-loop μ-loop
-add-cols c = search needs
+add-rows : tie.Need-add-rows Inv-loop μ-loop
+add-rows c = search needs
 
 element-copy-out-wide-3 : tie.Need-element-copy-out-wide-3 Inv-loop μ-loop
 element-copy-out-wide-3 c = search needs
@@ -100,11 +100,11 @@ element-copy-out-wide-3 c = search needs
 wide-requires-3 : tie.Need-wide-requires-3 Inv-loop μ-loop
 wide-requires-3 c κs = search needs
 
-mul-cols : tie.Need-mul-cols Inv-loop μ-loop
-mul-cols c = omega (arith, node c)
+mul-rows : tie.Need-mul-rows Inv-loop μ-loop
+mul-rows c = omega (arith, node c)
 
-element-write-cols : tie.Need-element-write-cols Inv-loop μ-loop
-element-write-cols c = omega (arith, node c)
+element-write-rows : tie.Need-element-write-rows Inv-loop μ-loop
+element-write-rows c = omega (arith, node c)
 
 add-end : tie.Need-add-end Inv-loop μ-loop
 add-end c = search needs
@@ -126,8 +126,8 @@ loop-again c =
       omega arith,
       omega arith,
       omega arith,
-      columns-more (inv .3) (inv .0) (l .loop-test .taken) (w .wide .ensures .0) (d .wide2 .ensures .0) (inv .2) (start (l .before) .pre .1 .1)
-          _ _ (c .wide3 .ensures .0) _ (k .column .ensures) (not-false _ (e .if1 .left)),
+      rows-more (inv .3) (inv .0) (l .loop-test .taken) (w .wide .ensures .0) (d .wide2 .ensures .0) (inv .2) (start (l .before) .pre .1 .1)
+          _ _ (c .wide3 .ensures .0) _ (k .row .ensures) (not-false _ (e .if1 .left)),
     )
 
 same-length-2 : tie.Need-same-length-2 Inv-loop μ-loop
@@ -136,10 +136,10 @@ same-length-2 c = search needs
 returns-2 : tie.Need-returns-2 Inv-loop μ-loop
 returns-2 c =
     let inv = c .before .loop .inv in
-    columns-done (inv .1) (c .loop-test .left) (inv .3)
+    rows-done (inv .1) (c .loop-test .left) (inv .3)
 
-pub columns-spec : {M : Type 1} → statement M
-columns-spec =
+pub rows-spec : {M : Type 1} → statement M
+rows-spec =
     tie.close (tie.spec Inv-loop μ-loop begin-requires mul-end loop-holds element-copy-out-wide wide-requires mul-from element-copy-out-from
-    element-copy-out-wide-2 wide-requires-2 column-requires same-length returns add-cols element-copy-out-wide-3 wide-requires-3 mul-cols
-    element-write-cols add-end add-k loop-less loop-again same-length-2 returns-2)
+    element-copy-out-wide-2 wide-requires-2 row-requires same-length returns add-rows element-copy-out-wide-3 wide-requires-3 mul-rows
+    element-write-rows add-end add-k loop-less loop-again same-length-2 returns-2)

@@ -1,4 +1,4 @@
--- The laws of `columns::column`: a column while its darts take their places.
+-- The laws of `images::row`: a row while its darts take their places.
 -- Assumes nothing.
 use Prim.Native.Nat.{ℕ, _+_, _*_, _-_, _≤_, _<_}
 use mathlib.Core.Path.{_≡_, refl, sym, ap, _∙_}
@@ -11,13 +11,13 @@ use lib.ListN.{getD}
 use Rattle.base.proofs.TestLaws.{same-test}
 use Rattle.orbit.specs.Store.{mark, place, next, dartAt, Taken, Kept}
 use Rattle.orbit.specs.Places.{Pushed}
-use Rattle.matching.specs.Opposite.{Longer}
-use Rattle.matching.specs.Columns.{Linked, Column, Columned}
+use Rattle.matching.specs.Retrace.{Longer}
+use Rattle.matching.specs.Images.{Linked, Row, RowMade}
 use Rattle.orbit.proofs.StoreLaws.{pushed-other, pushed-place-other, pushed-here, among-at, among-of}
 
 -- ---- a store with further places
 
--- a column that begins at a place is read there
+-- a row that begins at a place is read there
 pub dart-place : (N : ℕ) (s : List ℕ) (e r base : ℕ) → base ≡ N + e → dartAt s base r ≡ place N s (e + r)
 unfolding dartAt place
 dart-place N s e r base h = let same : base + r ≡ N + (e + r) = omega arith in ap (λ (k : ℕ). getD s k 0) same
@@ -81,20 +81,20 @@ unfolding mark
 mark-read s y w e z = sym e ∙ z
 
 module _ (N : ℕ) (link : ℕ → ℕ) (from : ℕ) (s : List ℕ) (end : ℕ) where
-  pub column-none : Taken N s end → Column N link from s s end 0
-  column-none t = record {
+  pub row-none : Taken N s end → Row N link from s s end 0
+  row-none t = record {
     taken = let same : end + 0 ≡ end = omega arith in rw same t;
     longer = record { places = λ e h. refl; rest = λ k h. refl };
     darts = λ q h. absurd (omega arith);
   }
 
-  module _ (s′ : List ℕ) (r : ℕ) (c : Column N link from s s′ end r) (from-place : N ≤ from) (inside : from + r < N + end) where
+  module _ (s′ : List ℕ) (r : ℕ) (c : Row N link from s s′ end r) (from-place : N ≤ from) (inside : from + r < N + end) where
     read : (x : ℕ) → x ≡ getD s′ (from + r) 0 → x ≡ dartAt s from r
     unfolding dartAt
     read x e = e ∙ longer-dart N s s′ end (c .longer) from r from-place inside
 
-    pub column-slot : (x : ℕ) → x ≡ getD s′ (from + r) 0 → x < N
-    column-slot x e =
+    pub row-slot : (x : ℕ) → x ≡ getD s′ (from + r) 0 → x < N
+    row-slot x e =
         let at : dartAt s′ from r ≡ place N s′ (from - N + r) = dart-place N s′ (from - N) r from (omega arith) in
         let d : dartAt s′ from r ≡ dartAt s from r = longer-dart N s s′ end (c .longer) from r from-place inside in
         let b : place N s′ (from - N + r) < N = c .taken .slot (from - N + r) (omega arith) in
@@ -105,12 +105,12 @@ module _ (N : ℕ) (link : ℕ → ℕ) (from : ℕ) (s : List ℕ) (end : ℕ) 
       at : y ≡ link (dartAt s from r)
       at = b ∙ ap link (read x a)
 
-      pub column-below : (size : ℕ) → r < size → Linked N link s from size → y < N
-      column-below size h o = rw at (o .slot r h)
+      pub row-below : (size : ℕ) → r < size → Linked N link s from size → y < N
+      row-below size h o = rw at (o .slot r h)
 
-      pub column-clash : (size w : ℕ) → r < size → w ≡ getD s′ y 0 → (w ≡ 0 → ⊥) → Columned N link from s s′ end size false
+      pub row-clash : (size w : ℕ) → r < size → w ≡ getD s′ y 0 → (w ≡ 0 → ⊥) → RowMade N link from s s′ end size false
       unfolding mark
-      column-clash size w h e ne = record {
+      row-clash size w h e ne = record {
         done = λ q. absurd (true≢false (sym q));
         clash = λ q. (
           r,
@@ -120,8 +120,8 @@ module _ (N : ℕ) (link : ℕ → ℕ) (from : ℕ) (s : List ℕ) (end : ℕ) 
         );
       }
 
-      pub column-more : (s″ : List ℕ) → y < N → Pushed N s′ (end + r) y s″ → Column N link from s s″ end (r + 1)
-      column-more s″ l p =
+      pub row-more : (s″ : List ℕ) → y < N → Pushed N s′ (end + r) y s″ → Row N link from s s″ end (r + 1)
+      row-more s″ l p =
           let longer : Longer N s′ s″ (end + r) = pushed-longer N s′ s″ (end + r) y l p in
           record {
             taken = let same : end + (r + 1) ≡ end + r + 1 = omega arith in rw same (p .taken);
@@ -131,5 +131,5 @@ module _ (N : ℕ) (link : ℕ → ℕ) (from : ℕ) (s : List ℕ) (end : ℕ) 
                 (λ ne. longer .places (end + q) (omega arith) ∙ c .darts q (omega arith));
           }
 
-  pub column-done : (s′ : List ℕ) (r : ℕ) → Column N link from s s′ end r → (size : ℕ) → r ≤ size → size ≤ r → Columned N link from s s′ end size true
-  column-done s′ r c size h l = record { done = λ q. let same : r ≡ size = omega arith in rw (← same) c; clash = λ q. absurd (true≢false q) }
+  pub row-done : (s′ : List ℕ) (r : ℕ) → Row N link from s s′ end r → (size : ℕ) → r ≤ size → size ≤ r → RowMade N link from s s′ end size true
+  row-done s′ r c size h l = record { done = λ q. let same : r ≡ size = omega arith in rw (← same) c; clash = λ q. absurd (true≢false q) }

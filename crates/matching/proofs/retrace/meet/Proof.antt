@@ -1,23 +1,23 @@
--- `matching::opposite::meet` meets its contract.
+-- `matching::retrace::meet` meets its contract.
 -- Assumes nothing.
 use mathlib.Core.Path.{refl, sym, _∙_}
 use mathlib.Core.Logic.{inl, inr}
 use native.Mathlib.Omega.{arith}
 use borrow.Author.Needs.{needs}
-use Rattle.matching.proofs.ColumnLaws.{mark-read}
-use Rattle.matching.proofs.OppositeLaws.{column-read, mark-some}
-use Rattle.matching.proofs.opposite.meet.Statement.{statement}
-use Rattle.matching.proofs.opposite.meet.Tie as tie
+use Rattle.matching.proofs.ImageRowLaws.{mark-read}
+use Rattle.matching.proofs.RetraceLaws.{row-read, mark-some}
+use Rattle.matching.proofs.retrace.meet.Statement.{statement}
+use Rattle.matching.proofs.retrace.meet.Tie as tie
 
 returns : tie.Need-returns
 returns c =
     let w = c .before in
-    inr (inr (refl, refl, inl (w .before .before .if1 .taken, λ e. c .if2 .taken (column-read _ _ _ _ _ (w .word .ensures) ∙ e))))
+    inr (inr (refl, refl, inl (w .before .before .if1 .taken, λ e. c .if2 .taken (row-read _ _ _ _ _ (w .word .ensures) ∙ e))))
 
 returns-2 : tie.Need-returns-2
 returns-2 c =
     let w = c .before in
-    inl (refl, refl, w .before .before .if1 .taken, sym (column-read _ _ _ _ _ (w .word .ensures)) ∙ c .if2 .left)
+    inl (refl, refl, w .before .before .if1 .taken, sym (row-read _ _ _ _ _ (w .word .ensures)) ∙ c .if2 .left)
 
 returns-3 : tie.Need-returns-3
 returns-3 c =

@@ -1,4 +1,4 @@
--- The column of the second hook. It is made along the links in the walk's order: step 4 × r + p follows the link at position p of the dart for place r.
+-- The row of the second hook. It is made along the links in the walk's order: step 4 × r + p follows the link at position p of the dart for place r.
 -- `opposite` of Match.antt is the same over a path from the dart.
 -- Assumes nothing.
 use Prim.Native.Nat.{ℕ, _+_, _*_, _≤_, _<_}
@@ -21,7 +21,7 @@ pub record Longer (N : ℕ) (s s′ : List ℕ) (end : ℕ) : Type 0 where
   pub places : (e : ℕ) → e < end → place N s′ e ≡ place N s e
   pub rest : (i : ℕ) → 2 * N ≤ i → getD s′ i 0 ≡ getD s i 0
 
--- a column of `end` darts from the places `size` on has y for place q, or has no dart for it yet and y took the place, or neither can be, and the
+-- a row of `end` darts from the places `size` on has y for place q, or has no dart for it yet and y took the place, or neither can be, and the
 -- store stays: another dart stands for q, or y has a place already
 abbrev pub Met : ℕ → List ℕ → ℕ → ℕ → ℕ → ℕ → List ℕ → ℕ → Type 0
 Met N s size end q y s′ end′ =
@@ -35,9 +35,9 @@ pub record Follows (E : Site) (s : List ℕ) (size end r p : ℕ) : Type 0 where
   pub to : next (E .map .slots) s r p < end
   pub is : E .map .link (orbitDim (E .scheme) p) (place (E .map .slots) s (size + r)) ≡ place (E .map .slots) s (size + next (E .map .slots) s r p)
 
--- after the steps below c the first `end` darts of the column stand from the places `size` on: live, the first the one that the call names, and where
--- there is a match, each the image of its pair; the links of those steps lead within the column as they lead within the orbit
-pub record Opposed (E : Site) (s : List ℕ) (size c end : ℕ) : Type 0 where
+-- after the steps below c the first `end` darts of the row stand from the places `size` on: live, the first the one that the call names, and where
+-- there is a match, each the image of its pair; the links of those steps lead within the row as they lead within the orbit
+pub record Standing (E : Site) (s : List ℕ) (size c end : ℕ) : Type 0 where
   pub taken : Taken (E .map .slots) s (size + end)
   pub fits : end ≤ size
   pub alive : (q : ℕ) → q < end → E .map .state (place (E .map .slots) s (size + q)) ≡ 1
@@ -45,12 +45,12 @@ pub record Opposed (E : Site) (s : List ℕ) (size c end : ℕ) : Type 0 where
   pub images : matches E ≡ true → (q : ℕ) → q < end → place (E .map .slots) s (size + q) ≡ image E (place (E .map .slots) s q) (E .scheme .second)
   pub links : (r p : ℕ) → p < E .scheme .places → 4 * r + p < c → Follows E s size end r p
 
--- the columns of the hooks: that of the first is the orbit, that of the second stands behind it, where there is one
+-- the rows of the hooks: that of the first is the orbit, that of the second stands behind it, where there is one
 pub record Hung (E : Site) (s : List ℕ) (size roots : ℕ) : Type 0 where
   pub taken : Taken (E .map .slots) s (roots * size)
-  pub second : roots ≡ 2 → Opposed E s size (4 * size) size
+  pub second : roots ≡ 2 → Standing E s size (4 * size) size
 
--- what the column of the second hook starts from: the orbit in the store, the orbit type, the other dart, and how many hooks there are
+-- what the row of the second hook starts from: the orbit in the store, the orbit type, the other dart, and how many hooks there are
 pub record BeforeHanging (m : Map) (s : List ℕ) (size : ℕ) (dims : List ℕ) (k other roots : ℕ) : Type 0 where
   pub at : At m
   pub walked : WalkedAt (site at) s size
@@ -60,29 +60,29 @@ pub record BeforeHanging (m : Map) (s : List ℕ) (size : ℕ) (dims : List ℕ)
   pub otherIs : other ≡ at .other
   pub rootsAre : roots ≡ rootsOf (at .scheme .second)
 
--- what following the links of the dart for place `head` starts from: the orbit, and the column of a second hook with the darts met so far
+-- what following the links of the dart for place `head` starts from: the orbit, and the row of a second hook with the darts met so far
 pub record Retracing (m : Map) (s : List ℕ) (size : ℕ) (dims : List ℕ) (k head tail : ℕ) : Type 0 where
   pub at : At m
   pub walked : WalkedAt (site at) s size
   pub named : 1 ≤ at .scheme .second
-  pub opposed : Opposed (site at) s size (4 * head) tail
+  pub standing : Standing (site at) s size (4 * head) tail
   pub some : 1 ≤ tail
   pub low : head < size
   pub dimsAre : dims ≡ at .scheme .orbit
   pub placesAre : k ≡ at .scheme .places
 
--- the links of the darts for the places below `head` were followed, and the column, which had `tail` darts, has `end`; or else there is no match, and
+-- the links of the darts for the places below `head` were followed, and the row, which had `tail` darts, has `end`; or else there is no match, and
 -- `end` is 0
 pub record Retraced (E : Site) (s s′ : List ℕ) (size tail head end : ℕ) : Type 0 where
-  pub done : 1 ≤ end → (tail ≤ end) × Opposed E s′ size (4 * head) end × Longer (E .map .slots) s s′ (size + tail)
+  pub done : 1 ≤ end → (tail ≤ end) × Standing E s′ size (4 * head) end × Longer (E .map .slots) s s′ (size + tail)
   pub none : end ≡ 0 → matches E ≡ false
 
--- the column has its dart for every place, and all links were followed; or else there is no match
+-- the row has its dart for every place, and all links were followed; or else there is no match
 pub record RetracedAll (E : Site) (s s′ : List ℕ) (size : ℕ) (whole : Bool) : Type 0 where
-  pub done : whole ≡ true → Opposed E s′ size (4 * size) size × Longer (E .map .slots) s s′ size
+  pub done : whole ≡ true → Standing E s′ size (4 * size) size × Longer (E .map .slots) s s′ size
   pub none : whole ≡ false → matches E ≡ false
 
--- the hooks have their columns, or else there is no match
+-- the hooks have their rows, or else there is no match
 pub record HungAll (m : Map) (s s′ : List ℕ) (size : ℕ) (dims : List ℕ) (k other roots : ℕ) (whole : Bool) : Type 0 where
   pub done : whole ≡ true → (R : BeforeHanging m s size dims k other roots) → Hung (site (R .at)) s′ size roots × Longer (m .slots) s s′ size
   pub none : whole ≡ false → (R : BeforeHanging m s size dims k other roots) → matches (site (R .at)) ≡ false

@@ -1,5 +1,5 @@
--- `rewriting::slots::row` meets its contract. The loop's invariant: whatever was given before, the first a pairs of the dart have their slots too, where
--- a and `rest` are together `many`, and `base` is the begin of the next column.
+-- `rewriting::slots::turn` meets its contract. The loop's invariant: whatever was given before, the first a pairs of the dart have their slots too, where
+-- a and `rest` are together `many`, and `base` is the begin of the next row.
 -- Assumes nothing.
 use Prim.Native.Nat.{ℕ, _+_, _*_, _≤_, _<_}
 use mathlib.Core.Path.{_≡_, refl, _∙_, sym}
@@ -13,9 +13,9 @@ use Rattle.table.specs.Words.{Sized}
 use Rattle.table.proofs.WordLaws.{sized-same}
 use Rattle.orbit.specs.At.{site}
 use Rattle.rewriting.specs.Slots.{Turn, Granting}
-use Rattle.rewriting.proofs.SlotRowLaws.{turn-size, turn-done, turn-cell, turn-room, turn-more}
-use Rattle.rewriting.proofs.slots.row.Statement.{statement}
-use Rattle.rewriting.proofs.slots.row.Tie as tie
+use Rattle.rewriting.proofs.SlotTurnLaws.{turn-size, turn-done, turn-cell, turn-room, turn-more}
+use Rattle.rewriting.proofs.slots.turn.Statement.{statement}
+use Rattle.rewriting.proofs.slots.turn.Tie as tie
 
 abbrev Inv-loop : tie.InvT-loop
 Inv-loop slots table₀ store₀ size many r free from₀ base₀ rest₀ table store from base rest = (a : ℕ) × (a + rest ≡ many) × (base ≡ 2 * slots + a * size)
@@ -119,7 +119,7 @@ same-length-2 c = so-far (c .before) .storeLong ∙ sym (start (c .before) .pre 
 returns : tie.Need-returns Inv-loop μ-loop
 returns c = let l = c .before in λ T. turn-done T (omega (arith, l .loop .inv .1, c .loop-test .left)) (l .loop .inv .4 T)
 
-pub row-spec : {M : Type 1} → statement M
-row-spec =
+pub turn-spec : {M : Type 1} → statement M
+turn-spec =
     tie.close (tie.spec Inv-loop μ-loop mul-base loop-holds lowest-requires add-i mul-revive slice-read-revive revive-requires keep-requires add-from
     add-base sub-rest loop-less loop-again same-length same-length-2 returns)

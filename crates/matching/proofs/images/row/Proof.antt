@@ -1,16 +1,16 @@
--- `matching::columns::column` meets its contract. The loop's invariant: the first r darts of the column have their places.
+-- `matching::images::row` meets its contract. The loop's invariant: the first r darts of the row have their places.
 -- Assumes nothing.
 use Prim.Native.Nat.{_-_, _≤_, _<_}
 use native.Mathlib.Omega.{arith}
 use borrow.Author.Needs.{needs}
 use Rattle.model.specs.Map.{view}
-use Rattle.matching.specs.Columns.{Column}
-use Rattle.matching.proofs.ColumnLaws.{mark-read, column-none, column-slot, column-below, column-clash, column-more, column-done}
-use Rattle.matching.proofs.columns.column.Statement.{statement}
-use Rattle.matching.proofs.columns.column.Tie as tie
+use Rattle.matching.specs.Images.{Row}
+use Rattle.matching.proofs.ImageRowLaws.{mark-read, row-none, row-slot, row-below, row-clash, row-more, row-done}
+use Rattle.matching.proofs.images.row.Statement.{statement}
+use Rattle.matching.proofs.images.row.Tie as tie
 
 abbrev Inv-loop : tie.InvT-loop
-Inv-loop slots table store₀ i from end size r₀ store r = (r ≤ size) × Column slots (view slots table .link i) from store₀ store end r
+Inv-loop slots table store₀ i from end size r₀ store r = (r ≤ size) × Row slots (view slots table .link i) from store₀ store end r
 
 abbrev μ-loop : tie.MeasureT-loop
 μ-loop slots table store₀ i from end size r₀ store r = size - r
@@ -21,11 +21,11 @@ below c =
     let l = c .before .before .before in
     let a = l .before .before .before .before in
     let inside = a .pre .1 .1 .0 in
-    column-below _ _ _ _ _ _ _ (l .before .loop .inv .1) (inside .2) (omega arith) _ _ (c .before .word .ensures) (c .link .ensures) _
+    row-below _ _ _ _ _ _ _ (l .before .loop .inv .1) (inside .2) (omega arith) _ _ (c .before .word .ensures) (c .link .ensures) _
     (l .loop-test .taken) (a .pre .1 .1 .1)
 
 loop-holds : tie.Need-loop-holds Inv-loop μ-loop
-loop-holds c = (omega arith, column-none _ _ _ _ _ (c .before .before .pre .1 .0))
+loop-holds c = (omega arith, row-none _ _ _ _ _ (c .before .before .pre .1 .0))
 
 add-word : tie.Need-add-word Inv-loop μ-loop
 add-word c = search needs
@@ -38,7 +38,7 @@ link-requires c κs =
     let l = c .before .before in
     let a = l .before .before .before .before in
     let inside = a .pre .1 .1 .0 in
-    (a .pre .0, (column-slot _ _ _ _ _ _ _ (l .before .loop .inv .1) (inside .2) (omega arith) _ (c .word .ensures), inside .0))
+    (a .pre .0, (row-slot _ _ _ _ _ _ _ (l .before .loop .inv .1) (inside .2) (omega arith) _ (c .word .ensures), inside .0))
 
 word-requires-2 : tie.Need-word-requires-2 Inv-loop μ-loop
 word-requires-2 c κs = let l = below (c .before) in omega arith
@@ -51,7 +51,7 @@ returns c =
     let k = c .before .before .before in
     let l = k .before .before .before in
     let inside = l .before .before .before .before .pre .1 .1 .0 in
-    column-clash _ _ _ _ _ _ _ (l .before .loop .inv .1) (inside .2) (omega arith) _ _ (k .before .word .ensures) (k .link .ensures) _ _
+    row-clash _ _ _ _ _ _ _ (l .before .loop .inv .1) (inside .2) (omega arith) _ _ (k .before .word .ensures) (k .link .ensures) _ _
     (l .loop-test .taken) (c .before .word2 .ensures) (c .if1 .taken)
 
 add-push : tie.Need-add-push Inv-loop μ-loop
@@ -77,7 +77,7 @@ loop-again c =
     let l = k .before .before .before in
     let inside = l .before .before .before .before .pre .1 .1 .0 in (
       omega arith,
-      column-more _ _ _ _ _ _ _ (l .before .loop .inv .1) (inside .2) (omega arith) _ _ (k .before .word .ensures) (k .link .ensures) _
+      row-more _ _ _ _ _ _ _ (l .before .loop .inv .1) (inside .2) (omega arith) _ _ (k .before .word .ensures) (k .link .ensures) _
           (below k) (p .push .ensures),
     )
 
@@ -87,9 +87,9 @@ same-length-2 c = search needs
 returns-2 : tie.Need-returns-2 Inv-loop μ-loop
 returns-2 c =
     let inv = c .before .loop .inv in
-    column-done _ _ _ _ _ _ _ (inv .1) _ (inv .0) (c .loop-test .left)
+    row-done _ _ _ _ _ _ _ (inv .1) _ (inv .0) (c .loop-test .left)
 
-pub column-spec : {M : Type 1} → statement M
-column-spec =
+pub row-spec : {M : Type 1} → statement M
+row-spec =
     tie.close (tie.spec Inv-loop μ-loop loop-holds add-word word-requires link-requires word-requires-2 same-length returns add-push
     push-requires add-r loop-less loop-again same-length-2 returns-2)

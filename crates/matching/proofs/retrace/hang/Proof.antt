@@ -1,12 +1,12 @@
--- `matching::opposite::opposite` meets its contract.
+-- `matching::retrace::hang` meets its contract.
 -- Assumes nothing.
 use Prim.Native.Nat.{_+_}
 use mathlib.Core.Path.{_≡_}
 use native.Mathlib.Omega.{arith}
 use borrow.Author.Needs.{needs}
-use Rattle.matching.proofs.OppositeLaws.{other-slot, hung-single, ready, hung-none, hung-all}
-use Rattle.matching.proofs.opposite.opposite.Statement.{statement}
-use Rattle.matching.proofs.opposite.opposite.Tie as tie
+use Rattle.matching.proofs.RetraceLaws.{other-slot, hung-single, ready, hung-none, hung-all}
+use Rattle.matching.proofs.retrace.hang.Statement.{statement}
+use Rattle.matching.proofs.retrace.hang.Tie as tie
 
 returns : tie.Need-returns
 returns c = hung-single (c .if1 .taken)
@@ -37,6 +37,6 @@ returns-3 c =
     let a = e .before .before .before in
     hung-all (a .before .before .if1 .left) (a .meet .ensures) (e .if2 .left) (r .retrace .ensures)
 
-pub opposite-spec : {M : Type 1} → statement M
-opposite-spec =
+pub hang-spec : {M : Type 1} → statement M
+hang-spec =
     tie.close (tie.spec returns meet-requires (λ c. search needs) returns-2 retrace-requires (λ c. search needs) returns-3)

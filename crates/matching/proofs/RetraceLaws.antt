@@ -1,4 +1,4 @@
--- The laws of `opposite`: the column of the second hook while its darts take their places, link by link in the walk's order, and why there is no
+-- The laws of the module `retrace`: the row of the second hook while its darts take their places, link by link in the walk's order, and why there is no
 -- match where a dart cannot take its place.
 -- Assumes nothing.
 use Prim.Native.Nat.{ℕ, _+_, _*_, _-_, _≤_, _<_}
@@ -28,8 +28,8 @@ use Rattle.orbit.proofs.StoreLaws.{pushed-here}
 use Rattle.orbit.proofs.WalkLaws.{walked-kept}
 use Rattle.conditions.specs.Tree.{rootsOf}
 use Rattle.conditions.proofs.TreeLaws.{one-root, two-roots, roots-few}
-use Rattle.matching.specs.Opposite.{Longer, Met, Follows, Opposed, Hung, BeforeHanging, Retracing, Retraced, RetracedAll, HungAll}
-use Rattle.matching.proofs.ColumnLaws.{pushed-longer, longer-less, longer-trans, longer-kept}
+use Rattle.matching.specs.Retrace.{Longer, Met, Follows, Standing, Hung, BeforeHanging, Retracing, Retraced, RetracedAll, HungAll}
+use Rattle.matching.proofs.ImageRowLaws.{pushed-longer, longer-less, longer-trans, longer-kept}
 
 -- ---- how many hooks there are
 
@@ -45,10 +45,10 @@ second-named second ne = by-cases (ℕ-discrete second firstHook)
 
 -- ---- `meet`
 
--- x is what is read of the column at place q
-pub column-read : (N : ℕ) (s : List ℕ) (size q x : ℕ) → x ≡ getD s (N + size + q) 0 → x ≡ place N s (size + q)
+-- x is what is read of the row at place q
+pub row-read : (N : ℕ) (s : List ℕ) (size q x : ℕ) → x ≡ getD s (N + size + q) 0 → x ≡ place N s (size + q)
 unfolding place
-column-read N s size q x e = let same : N + size + q ≡ N + (size + q) = omega arith in e ∙ ap (λ (i : ℕ). getD s i 0) same
+row-read N s size q x e = let same : N + size + q ≡ N + (size + q) = omega arith in e ∙ ap (λ (i : ℕ). getD s i 0) same
 
 pub mark-some : (s : List ℕ) (y w : ℕ) → w ≡ getD s y 0 → (w ≡ 0 → ⊥) → 1 ≤ mark s y
 unfolding mark
@@ -72,8 +72,8 @@ module _ (E : Site) where
   abbrev N : ℕ
   N = m .slots
 
-  pub opposed-none : (s : List ℕ) (size : ℕ) → Taken N s size → Opposed E s size (4 * 0) 0
-  opposed-none s size t = record {
+  pub standing-none : (s : List ℕ) (size : ℕ) → Taken N s size → Standing E s size (4 * 0) 0
+  standing-none s size t = record {
     taken = let same : size + 0 ≡ size = omega arith in rw same t;
     fits = omega arith;
     alive = λ q h. absurd (omega arith);
@@ -83,9 +83,9 @@ module _ (E : Site) where
   }
 
   -- dart y takes the next place
-  pub opposed-push : (s : List ℕ) (size c end y : ℕ) → Opposed E s size c end → end < size → LiveDart m y → (end ≡ 0 → y ≡ E .other)
-      → (matches E ≡ true → y ≡ image E (place N s end) (S .second)) → (s′ : List ℕ) → Pushed N s (size + end) y s′ → Opposed E s′ size c (end + 1)
-  opposed-push s size c end y O b l start is s′ p =
+  pub standing-push : (s : List ℕ) (size c end y : ℕ) → Standing E s size c end → end < size → LiveDart m y → (end ≡ 0 → y ≡ E .other)
+      → (matches E ≡ true → y ≡ image E (place N s end) (S .second)) → (s′ : List ℕ) → Pushed N s (size + end) y s′ → Standing E s′ size c (end + 1)
+  standing-push s size c end y O b l start is s′ p =
       let longer : Longer N s s′ (size + end) = pushed-longer N s s′ (size + end) y (l .slot) p in
       let here : place N s′ (size + end) ≡ y = pushed-here N s (size + end) y (O .taken) (l .slot) s′ p in
       let old : (q : ℕ) → q < end → place N s′ (size + q) ≡ place N s (size + q) = λ q h. longer .places (size + q) (omega arith) in
@@ -115,14 +115,14 @@ module _ (E : Site) where
       }
 
   -- other steps were done, with the same darts
-  opposed-links : (s : List ℕ) (size c c′ end : ℕ) → Opposed E s size c end → ((r p : ℕ) → p < S .places → 4 * r + p < c′ → Follows E s size end r p)
-      → Opposed E s size c′ end
-  opposed-links s size c c′ end O f = record { taken = O .taken; fits = O .fits; alive = O .alive; first = O .first; images = O .images; links = f }
+  standing-links : (s : List ℕ) (size c c′ end : ℕ) → Standing E s size c end → ((r p : ℕ) → p < S .places → 4 * r + p < c′ → Follows E s size end r p)
+      → Standing E s size c′ end
+  standing-links s size c c′ end O f = record { taken = O .taken; fits = O .fits; alive = O .alive; first = O .first; images = O .images; links = f }
 
   -- the link at position p of the dart for place `head` was followed
-  pub opposed-step : (s : List ℕ) (size head p end : ℕ) → S .places ≤ 4 → p < 4 → Opposed E s size (4 * head + p) end → Follows E s size end head p
-      → Opposed E s size (4 * head + (p + 1)) end
-  opposed-step s size head p end few l O f = opposed-links s size (4 * head + p) (4 * head + (p + 1)) end O
+  pub standing-step : (s : List ℕ) (size head p end : ℕ) → S .places ≤ 4 → p < 4 → Standing E s size (4 * head + p) end → Follows E s size end head p
+      → Standing E s size (4 * head + (p + 1)) end
+  standing-step s size head p end few l O f = standing-links s size (4 * head + p) (4 * head + (p + 1)) end O
       (λ r q k h. by-cases (decLt (4 * r + q) (4 * head + p))
       (λ old. O .links r q k old)
       (λ new.
@@ -131,8 +131,9 @@ module _ (E : Site) where
       subst (λ (u : ℕ). Follows E s size end u q) (sym row) (subst (Follows E s size end head) (sym position) f)))
 
   -- the links at all positions were followed
-  pub opposed-row : (s : List ℕ) (size head p end : ℕ) → S .places ≤ p → p ≤ 4 → Opposed E s size (4 * head + p) end → Opposed E s size (4 * (head + 1)) end
-  opposed-row s size head p end few l O = opposed-links s size (4 * head + p) (4 * (head + 1)) end O (λ r q k h. O .links r q k (omega arith))
+  pub standing-place : (s : List ℕ) (size head p end : ℕ) → S .places ≤ p → p ≤ 4 → Standing E s size (4 * head + p) end
+      → Standing E s size (4 * (head + 1)) end
+  standing-place s size head p end few l O = standing-links s size (4 * head + p) (4 * (head + 1)) end O (λ r q k h. O .links r q k (omega arith))
 
 module _ {M : Map} (A : At M) {s : List ℕ} {size : ℕ} (W : WalkedAt (site A) s size) where
   abbrev E₁ : Site
@@ -153,8 +154,8 @@ module _ {M : Map} (A : At M) {s : List ℕ} {size : ℕ} (W : WalkedAt (site A)
 
   -- ---- the places come in turn
 
-  module _ {c end : ℕ} (O : Opposed E₁ s size c end) (some : 1 ≤ end) where
-    -- a place stands in the column before its links are followed
+  module _ {c end : ℕ} (O : Standing E₁ s size c end) (some : 1 ≤ end) where
+    -- a place stands in the row before its links are followed
     pub stands : (head : ℕ) → head < size → 4 * head ≤ c → head < end
     stands head b l = by-cases (ℕ-discrete head 0)
         (λ z. omega arith)
@@ -163,7 +164,7 @@ module _ {M : Map} (A : At M) {s : List ℕ} {size : ℕ} (W : WalkedAt (site A)
         let o = O .links (w .from) (w .position) (w .below) (omega (arith, w .before, w .below, places-few A)) in
         omega (arith, o .to, w .leads))
 
-    -- the next link leads to a place that stands in the column, or to the next one
+    -- the next link leads to a place that stands in the row, or to the next one
     pub in-turn : (head p : ℕ) → head < size → p < S .places → c ≡ 4 * head + p → next N₁ s head p ≤ end
     in-turn head p b l e = by-cases (decLt end (next N₁ s head p))
         (λ late.
@@ -172,7 +173,7 @@ module _ {M : Map} (A : At M) {s : List ℕ} {size : ℕ} (W : WalkedAt (site A)
         absurd (omega (arith, o .to, w .leads)))
         (λ near. omega arith)
 
-    -- the link of a dart of the column leads to a live dart
+    -- the link of a dart of the row leads to a live dart
     pub link-live : (q p : ℕ) → q < end → p < S .places → LiveDart m (m .link (orbitDim S p) (place₁ (size + q)))
     link-live q p b l =
         let slot : place₁ (size + q) < N₁ = O .taken .slot (size + q) (omega arith) in
@@ -207,7 +208,7 @@ module _ {M : Map} (A : At M) {s : List ℕ} {size : ℕ} (W : WalkedAt (site A)
         (place-once W u r l b (w .0), w .1)
 
     -- the image for the next place has no place yet
-    image-new : (c end y : ℕ) → Opposed E₁ s size c end → end < size → 1 ≤ h → y < N₁ → y ≡ image E₁ (place₁ end) h → 1 ≤ mark s y → ⊥
+    image-new : (c end y : ℕ) → Standing E₁ s size c end → end < size → 1 ≤ h → y < N₁ → y ≡ image E₁ (place₁ end) h → 1 ≤ mark s y → ⊥
     image-new c end y O b some low is a =
         let e = mark s y - 1 in
         let there = O .taken .found y low a in
@@ -225,7 +226,7 @@ module _ {M : Map} (A : At M) {s : List ℕ} {size : ℕ} (W : WalkedAt (site A)
         absurd (omega (arith, w .0)))
 
   -- where y, which would be the image for place r, cannot stand for it, there is no match
-  pub unmet : (c end r y : ℕ) → Opposed E₁ s size c end → r < size → 1 ≤ h → y < N₁ → (matches E₁ ≡ true → y ≡ image E₁ (place₁ r) h)
+  pub unmet : (c end r y : ℕ) → Standing E₁ s size c end → r < size → 1 ≤ h → y < N₁ → (matches E₁ ≡ true → y ≡ image E₁ (place₁ r) h)
       → ((r < end) × (place₁ (size + r) ≢ y)) ⊎ ((r ≡ end) × (1 ≤ mark s y)) → matches E₁ ≡ false
   unmet c end r y O b some low is u = ⊎-elim
       (λ q. absurd (⊎-elim
@@ -250,20 +251,20 @@ module _ {M : Map} {s : List ℕ} {size : ℕ} {dims : List ℕ} {k head tail : 
   few-positions = omega (arith, T .placesAre, places-few (T .at))
 
   pub head-stands : head < tail
-  head-stands = stands (T .at) (T .walked) (T .opposed) (T .some) head (T .low) (omega arith)
+  head-stands = stands (T .at) (T .walked) (T .standing) (T .some) head (T .low) (omega arith)
 
-  pub expand-first : Opposed E₂ s size (4 * head + 0) tail × Longer N₂ s s (size + tail)
+  pub expand-first : Standing E₂ s size (4 * head + 0) tail × Longer N₂ s s (size + tail)
   expand-first =
       let same : 4 * head + 0 ≡ 4 * head = omega arith in
-      (rw same (T .opposed), record { places = λ e h. refl; rest = λ i h. refl })
+      (rw same (T .standing), record { places = λ e h. refl; rest = λ i h. refl })
 
   -- x is the dart for place `head`
   module _ (x : ℕ) (a : x ≡ getD s (N₂ + size + head) 0) where
     x-is : x ≡ place N₂ s (size + head)
-    x-is = column-read N₂ s size head x a
+    x-is = row-read N₂ s size head x a
 
     pub x-slot : x < N₂
-    x-slot = rw x-is (T .opposed .taken .slot (size + head) (let b = head-stands in omega arith))
+    x-slot = rw x-is (T .standing .taken .slot (size + head) (let b = head-stands in omega arith))
 
     -- i is the dimension at position p
     module _ (p i : ℕ) (b : p < k) (c : i ≡ getD dims p 0) where
@@ -277,10 +278,10 @@ module _ {M : Map} {s : List ℕ} {size : ℕ} {dims : List ℕ} {k head tail : 
       dim-low = omega (arith, i-is, small S₂ (T .at .sound .accepted .shaped), T .at .sound .accepted .shaped .orbitDims p inside)
 
       -- y and q are the dart and the place to which the link leads
-      module _ {s′ : List ℕ} {end : ℕ} (O : Opposed E₂ s′ size (4 * head + p) end) (L : Longer N₂ s s′ (size + tail)) (grown : tail ≤ end)
+      module _ {s′ : List ℕ} {end : ℕ} (O : Standing E₂ s′ size (4 * head + p) end) (L : Longer N₂ s s′ (size + tail)) (grown : tail ≤ end)
           (y q : ℕ) (d : y ≡ m₂ .link i x) (e : q ≡ getD s′ (4 * N₂ + 4 * head + p) 0) where
         walked′ : WalkedAt E₂ s′ size
-        walked′ = still-walked (T .at) (T .walked) (T .opposed .taken) (omega arith) L (O .taken) (omega arith)
+        walked′ = still-walked (T .at) (T .walked) (T .standing .taken) (omega arith) L (O .taken) (omega arith)
 
         some′ : 1 ≤ end
         some′ = omega (arith, T .some)
@@ -311,25 +312,25 @@ module _ {M : Map} {s : List ℕ} {size : ℕ} {dims : List ℕ} {k head tail : 
             ∙ ap (λ (r : ℕ). image E₂ (place N₂ s′ r) (S₂ .second)) (sym q-is)
 
         -- y stands for place q already
-        step-old : q < end → place N₂ s′ (size + q) ≡ y → Opposed E₂ s′ size (4 * head + (p + 1)) end
+        step-old : q < end → place N₂ s′ (size + q) ≡ y → Standing E₂ s′ size (4 * head + (p + 1)) end
         step-old below here =
             let low = head-stands in
-            opposed-step E₂ s′ size head p end (places-few (T .at)) (omega (arith, few-positions)) O record {
+            standing-step E₂ s′ size head p end (places-few (T .at)) (omega (arith, few-positions)) O record {
               from = omega arith;
               to = omega (arith, q-is);
               is = sym y-is ∙ sym here ∙ ap (λ (r : ℕ). place N₂ s′ (size + r)) q-is;
             }
 
         -- y takes the next place, which is q
-        step-new : {s″ : List ℕ} → q ≡ end → Pushed N₂ s′ (size + end) y s″ → Longer N₂ s′ s″ (size + end) → Opposed E₂ s″ size (4 * head + (p + 1)) (end + 1)
+        step-new : {s″ : List ℕ} → q ≡ end → Pushed N₂ s′ (size + end) y s″ → Longer N₂ s′ s″ (size + end) → Standing E₂ s″ size (4 * head + (p + 1)) (end + 1)
         step-new {s″} last pushed more =
             let low = head-stands in
-            let grows : Opposed E₂ s″ size (4 * head + p) (end + 1) =
-            opposed-push E₂ s′ size (4 * head + p) end y O (omega (arith, q-low)) y-live (λ z. absurd (omega (arith, some′)))
+            let grows : Standing E₂ s″ size (4 * head + p) (end + 1) =
+            standing-push E₂ s′ size (4 * head + p) end y O (omega (arith, q-low)) y-live (λ z. absurd (omega (arith, some′)))
             (λ z. y-image z ∙ ap (λ (r : ℕ). image E₂ (place N₂ s′ r) (S₂ .second)) last) s″ pushed in
             let here : place N₂ s″ (size + end) ≡ y = pushed-here N₂ s′ (size + end) y (O .taken) (y-live .slot) s″ pushed in
             let same : next N₂ s″ head p ≡ end = next-longer N₂ s′ s″ (size + end) more head p ∙ sym q-is ∙ last in
-            opposed-step E₂ s″ size head p (end + 1) (places-few (T .at)) (omega (arith, few-positions)) grows record {
+            standing-step E₂ s″ size head p (end + 1) (places-few (T .at)) (omega (arith, few-positions)) grows record {
               from = omega arith;
               to = omega (arith, same);
               is = ap (m₂ .link (orbitDim S₂ p)) (more .places (size + head) (omega arith)) ∙ sym y-is ∙ sym here
@@ -337,7 +338,7 @@ module _ {M : Map} {s : List ℕ} {size : ℕ} {dims : List ℕ} {k head tail : 
             }
 
         pub expand-more : {s″ : List ℕ} {end′ : ℕ} → Met N₂ s′ size end q y s″ end′ → (end′ ≡ 0 → ⊥)
-            → (tail ≤ end′) × (Opposed E₂ s″ size (4 * head + (p + 1)) end′ × Longer N₂ s s″ (size + tail))
+            → (tail ≤ end′) × (Standing E₂ s″ size (4 * head + (p + 1)) end′ × Longer N₂ s s″ (size + tail))
         expand-more (inl v) ne = (omega (arith, v .0), rw (v .0, v .1) (step-old (v .2) (v .3), L))
         expand-more {s″} (inr (inl v)) ne =
             let more = pushed-longer N₂ s′ s″ (size + end) y (y-live .slot) (v .2) in
@@ -350,10 +351,10 @@ module _ {M : Map} {s : List ℕ} {size : ℕ} {dims : List ℕ} {k head tail : 
         expand-none (inr (inl v)) z = absurd (omega (arith, v .0))
         expand-none (inr (inr v)) z = unmet (T .at) walked′ (4 * head + p) end q y O q-low (T .named) y-slot y-image (v .2)
 
-  pub expand-done : {s′ : List ℕ} {p end : ℕ} → Opposed E₂ s′ size (4 * head + p) end → Longer N₂ s s′ (size + tail) → tail ≤ end → p ≡ k
+  pub expand-done : {s′ : List ℕ} {p end : ℕ} → Standing E₂ s′ size (4 * head + p) end → Longer N₂ s s′ (size + tail) → tail ≤ end → p ≡ k
       → Retraced E₂ s s′ size tail (head + 1) end
   expand-done {s′} {p} {end} O L grown e = record {
-    done = λ some. (grown, opposed-row E₂ s′ size head p end (omega (arith, T .placesAre)) (omega (arith, few-positions)) O, L);
+    done = λ some. (grown, standing-place E₂ s′ size head p end (omega (arith, T .placesAre)) (omega (arith, few-positions)) O, L);
     none = λ z. absurd (omega (arith, T .some));
   }
 
@@ -368,23 +369,23 @@ module _ {M : Map} {s : List ℕ} {size : ℕ} {dims : List ℕ} {k tail : ℕ} 
 
   pub retrace-first : Retraced E₃ s s size tail 0 tail
   retrace-first = record {
-    done = λ some. (omega arith, T .opposed, record { places = λ e h. refl; rest = λ i h. refl });
+    done = λ some. (omega arith, T .standing, record { places = λ e h. refl; rest = λ i h. refl });
     none = λ z. absurd (omega (arith, T .some));
   }
 
   module _ {s′ : List ℕ} {head end : ℕ} (D : Retraced E₃ s s′ size tail head end) (some : 1 ≤ end) where
-    abbrev O₃ : Opposed E₃ s′ size (4 * head) end
+    abbrev O₃ : Standing E₃ s′ size (4 * head) end
     O₃ = D .done some .1
 
     abbrev walked₃ : WalkedAt E₃ s′ size
-    walked₃ = still-walked (T .at) (T .walked) (T .opposed .taken) (omega arith) (D .done some .2) (O₃ .taken) (omega (arith, D .done some .0))
+    walked₃ = still-walked (T .at) (T .walked) (T .standing .taken) (omega arith) (D .done some .2) (O₃ .taken) (omega (arith, D .done some .0))
 
     abbrev pub retracing : head < size → Retracing M s′ size dims k head end
     retracing b = record {
       at = T .at;
       walked = walked₃;
       named = T .named;
-      opposed = O₃;
+      standing = O₃;
       some = some;
       low = b;
       dimsAre = T .dimsAre;
@@ -414,7 +415,7 @@ module _ {M : Map} {s : List ℕ} {size : ℕ} {dims : List ℕ} {k tail : ℕ} 
   pub retrace-none : {s′ : List ℕ} {head end : ℕ} → Retraced E₃ s s′ size tail head end → end ≡ 0 → RetracedAll E₃ s s′ size false
   retrace-none D z = record { done = λ q. absurd (true≢false (sym q)); none = λ q. D .none z }
 
--- ---- `opposite`
+-- ---- `hang`
 
 module _ {m : Map} {s : List ℕ} {size : ℕ} {dims : List ℕ} {k other roots : ℕ} (R : BeforeHanging m s size dims k other roots) where
   abbrev E₄ : Site
@@ -439,13 +440,13 @@ module _ {m : Map} {s : List ℕ} {size : ℕ} {dims : List ℕ} {k other roots 
     other-image : matches E₄ ≡ true → other ≡ image E₄ (place N₄ s 0) (R .at .scheme .second)
     other-image q = R .otherIs ∙ first-image (R .at) (R .walked) q
 
-    pub first-met : (tail ≡ 0 → ⊥) → (1 ≤ tail) × (Opposed E₄ s′ size (4 * 0) tail × Longer N₄ s s′ size)
+    pub first-met : (tail ≡ 0 → ⊥) → (1 ≤ tail) × (Standing E₄ s′ size (4 * 0) tail × Longer N₄ s s′ size)
     first-met ne = ⊎-elim
         (λ v. absurd (omega (arith, v .2)))
         (λ w. ⊎-elim
         (λ v.
         let live : LiveDart (E₄ .map) other = subst (LiveDart (E₄ .map)) (sym (R .otherIs)) (R .at .sound .other) in
-        let P = opposed-push E₄ s size (4 * 0) 0 other (opposed-none E₄ s size (R .taken)) (R .walked .some) live (λ z. R .otherIs) other-image s′ (v .2) in
+        let P = standing-push E₄ s size (4 * 0) 0 other (standing-none E₄ s size (R .taken)) (R .walked .some) live (λ z. R .otherIs) other-image s′ (v .2) in
         let more = pushed-longer N₄ s s′ (size + 0) other (live .slot) (v .2) in
         (omega (arith, v .0), (rw (v .0) P, longer-less N₄ s s′ (size + 0) more size (omega arith))))
         (λ v. absurd (ne (v .0)))
@@ -457,7 +458,7 @@ module _ {m : Map} {s : List ℕ} {size : ℕ} {dims : List ℕ} {k other roots 
         (λ v. absurd (omega (arith, v .2)))
         (λ w. ⊎-elim
         (λ v. absurd (omega (arith, v .0)))
-        (λ v. unmet (R .at) (R .walked) (4 * 0) 0 0 other (opposed-none E₄ s size (R .taken)) (R .walked .some) named other-slot other-image (v .2))
+        (λ v. unmet (R .at) (R .walked) (4 * 0) 0 0 other (standing-none E₄ s size (R .taken)) (R .walked .some) named other-slot other-image (v .2))
         w)
         M
 
@@ -467,15 +468,15 @@ module _ {m : Map} {s : List ℕ} {size : ℕ} {dims : List ℕ} {k other roots 
       walked = let f = first-met ne .1 in
           still-walked (R .at) (R .walked) (R .taken) (omega arith) (f .1) (f .0 .taken) (omega arith);
       named = named;
-      opposed = first-met ne .1 .0;
+      standing = first-met ne .1 .0;
       some = first-met ne .0;
       low = R .walked .some;
       dimsAre = R .dimsAre;
       placesAre = R .placesAre;
     }
 
-    -- both hooks have their columns
-    pub hung-both : {s″ : List ℕ} → (tail ≡ 0 → ⊥) → Opposed E₄ s″ size (4 * size) size × Longer N₄ s′ s″ size → Hung E₄ s″ size roots × Longer N₄ s s″ size
+    -- both hooks have their rows
+    pub hung-both : {s″ : List ℕ} → (tail ≡ 0 → ⊥) → Standing E₄ s″ size (4 * size) size × Longer N₄ s′ s″ size → Hung E₄ s″ size roots × Longer N₄ s s″ size
     hung-both {s″} ne D =
         let both : roots ≡ 2 = R .rootsAre ∙ second-named (R .at .scheme .second) (λ z. two (R .rootsAre ∙ z)) .0 in
         let rows : roots * size ≡ size + size = ap (λ (z : ℕ). z * size) both ∙ omega arith in
