@@ -41,7 +41,7 @@ use Rattle.orbit.proofs.WalkLaws.{walked-kept}
 
 -- ---- the ends
 
-pub no-match : {E : Site} {t store store′ cols : List ℕ} {size : ℕ} {answer : Bool} → C.Matched E store store′ cols size answer → answer ≡ false
+pub no-match : {E : Site} {t store store′ rows : List ℕ} {size : ℕ} {answer : Bool} → C.Matched E store store′ rows size answer → answer ≡ false
     → Applied E t (Refused NoMatch) t
 unfolding fitFault someIf _orElse_ there
 no-match {E} m e = let q : matches E ≡ false = sym (m .is) ∙ e in record { answer = rw q refl; table = rw q refl }
@@ -72,9 +72,9 @@ module _ {m : Map} (A : At m) where
 
   -- the match can be looked for, along the trees of the scheme's left arcs; what fits goes on to its end
   module _ {store : List ℕ} {size : ℕ} (w : Walking A store size) {p : Tree} (P : TreeOf (A .scheme) p) where
-    abbrev pub match-ready : {k : ℕ} → k ≡ A .scheme .places → (cols : List ℕ) → length cols ≡ 16
-        → C.Posed m store size (A .scheme .orbit) k (A .other) (p .node) (p .parent) (p .dim) (p .roots) (p .size) (A .scheme .ltargets) cols
-    match-ready places cols wide = record {
+    abbrev pub match-ready : {k : ℕ} → k ≡ A .scheme .places → (rows : List ℕ) → length rows ≡ 16
+        → C.Posed m store size (A .scheme .orbit) k (A .other) (p .node) (p .parent) (p .dim) (p .roots) (p .size) (A .scheme .ltargets) rows
+    match-ready places rows wide = record {
       ready = record {
         at = A;
         walked = w .walked;
@@ -89,9 +89,9 @@ module _ {m : Map} (A : At m) where
       rowsLong = wide;
     }
 
-    abbrev pub settle-ready : {store′ cols′ : List ℕ} {answer : Bool} → C.Matched (site A) store store′ cols′ size answer → answer ≡ true
+    abbrev pub settle-ready : {store′ rows′ : List ℕ} {answer : Bool} → C.Matched (site A) store store′ rows′ size answer → answer ≡ true
         → {c : ℕ} → c ≡ A .scheme .nodes → {room : ℕ} → room ≡ countBelow (m .slots) (unused m)
-        → Settling m store′ c (A .scheme .kinds) (A .scheme .donors) (A .scheme .ltargets) (A .scheme .rtargets) size room cols′
+        → Settling m store′ c (A .scheme .kinds) (A .scheme .donors) (A .scheme .ltargets) (A .scheme .rtargets) size room rows′
     settle-ready {store′} a e n free = record {
       at = A;
       fitting = record {
@@ -111,8 +111,8 @@ module _ {m : Map} (A : At m) where
 
 -- ---- the end of an edit
 
-module _ {m : Map} {store : List ℕ} {c : ℕ} {kinds donors lefts rights : List ℕ} {size room : ℕ} {cols : List ℕ}
-    (P : Settling m store c kinds donors lefts rights size room cols) where
+module _ {m : Map} {store : List ℕ} {c : ℕ} {kinds donors lefts rights : List ℕ} {size room : ℕ} {rows : List ℕ}
+    (P : Settling m store c kinds donors lefts rights size room rows) where
   open Settling P using (at as A, fitting as F)
 
   abbrev E : Site
@@ -161,7 +161,7 @@ module _ {m : Map} {store : List ℕ} {c : ℕ} {kinds donors lefts rights : Lis
       listed-added a l = sym (ap₂ (λ (z : ℕ) (q : List ℕ). nthLowest z (isKind q 3) a) (P .nodes) (P .kinded)) ∙ new .each a l
 
       -- the deleted darts can be taken out
-      abbrev pub room-ready : O.BeforeRoom m store size node many donors kinds c cols
+      abbrev pub room-ready : O.BeforeRoom m store size node many donors kinds c rows
       room-ready = record {
         at = A;
         grant = record { long = F .long; walked = F .walked; every = kind-count new; match = F .match; room = roomy };
@@ -173,7 +173,7 @@ module _ {m : Map} {store : List ℕ} {c : ℕ} {kinds donors lefts rights : Lis
       }
 
       -- then the darts of the added pairs can be given
-      abbrev pub give-ready : {m₁ : Map} {store₁ : List ℕ} → O.Roomy A store size cols m₁ store₁ → G.BeforeGiving (m .slots) m₁ store₁ size node many cols
+      abbrev pub give-ready : {m₁ : Map} {store₁ : List ℕ} → O.Roomy A store size rows m₁ store₁ → G.BeforeGiving (m .slots) m₁ store₁ size node many rows
       give-ready {m₁} {store₁} o = record {
         before = m;
         at = A;
@@ -192,8 +192,8 @@ module _ {m : Map} {store : List ℕ} {c : ℕ} {kinds donors lefts rights : Lis
       }
 
       -- and with them the links can be rewritten
-      abbrev pub link-ready : {m₁ : Map} {store₁ : List ℕ} → O.Roomy A store size cols m₁ store₁ → {m′ : Map} {store′ cols′ : List ℕ}
-          → G.Granted E store₁ m′ store′ cols′ size → L.BeforeRewriting (m .slots) m′ store′ size lefts rights c cols′
+      abbrev pub link-ready : {m₁ : Map} {store₁ : List ℕ} → O.Roomy A store size rows m₁ store₁ → {m′ : Map} {store′ rows′ : List ℕ}
+          → G.Granted E store₁ m′ store′ rows′ size → L.BeforeRewriting (m .slots) m′ store′ size lefts rights c rows′
       link-ready {m₁} {store₁} o {m′} {store′} g = record {
         before = m;
         at = A;

@@ -28,17 +28,17 @@ module _ {m : Map} (A : At m) where
     pub taken : Taken (m .slots) store size
 
   -- it fits: the store holds the darts of the left pairs
-  pub record Fitting (store : List ℕ) (size : ℕ) (cols : List ℕ) : Type 0 where
+  pub record Fitting (store : List ℕ) (size : ℕ) (rows : List ℕ) : Type 0 where
     pub long : length store ≡ 16 * m .slots
     pub walked : WalkedAt (site A) store size
     pub match : matches (site A) ≡ true
-    pub assigned : Assigned (site A) store cols size
-    pub wide : length cols ≡ 16
+    pub assigned : Assigned (site A) store rows size
+    pub wide : length rows ≡ 16
 
 -- what the end of an edit is handed: a match, the scheme's nodes, kinds, donors and arcs, and the number of unused slots
-pub record Settling (m : Map) (store : List ℕ) (c : ℕ) (kinds donors lefts rights : List ℕ) (size room : ℕ) (cols : List ℕ) : Type 0 where
+pub record Settling (m : Map) (store : List ℕ) (c : ℕ) (kinds donors lefts rights : List ℕ) (size room : ℕ) (rows : List ℕ) : Type 0 where
   pub at : At m
-  pub fitting : Fitting at store size cols
+  pub fitting : Fitting at store size rows
   pub nodes : c ≡ at .scheme .nodes
   pub kinded : kinds ≡ at .scheme .kinds
   pub donorsAre : donors ≡ at .scheme .donors

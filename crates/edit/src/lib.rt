@@ -31,12 +31,12 @@ fn settle<'a>(
     rights: &'a [u8; 64],
     size: usize,
     room: usize,
-    cols: &mut [usize; 16],
+    rows: &mut [usize; 16],
 ) -> Answer
     requires { ⌜ Sized slots (now table) ⌝ }
-    requires { ⌜ Settling (view slots (now table)) (now store) c (now kinds) (now donors) (now lefts) (now rights) size room (now cols) ⌝ }
+    requires { ⌜ Settling (view slots (now table)) (now store) c (now kinds) (now donors) (now lefts) (now rights) size room (now rows) ⌝ }
     ensures { λ r. ⌜ ((P : Settling (view slots (now (table .entry))) (now (store .entry)) c (now (kinds .entry)) (now (donors .entry)) (now (lefts .entry))
-        (now (rights .entry)) size room (now (cols .entry)))
+        (now (rights .entry)) size room (now (rows .entry)))
         → Applied (site (P .at)) (now (table .entry)) r (now (table .exit))) ⌝ }
 {
     let gone = of_kind(c, kinds, 1);
@@ -55,10 +55,10 @@ fn settle<'a>(
         donors,
         kinds,
         c,
-        cols,
+        rows,
     );
-    rewriting::slots::give(slots, table, store, size, &new.node, many, cols);
-    rewriting::links::rewrite(slots, table, store, size, lefts, rights, c, cols);
+    rewriting::slots::give(slots, table, store, size, &new.node, many, rows);
+    rewriting::links::rewrite(slots, table, store, size, lefts, rights, c, rows);
     Answer::Edited {
         orbit: size as u32,
         added: (size * many) as u32,
@@ -87,7 +87,7 @@ pub fn apply(
     orbit::store::unmark(slots, store);
     let k = wide(s.places);
     let size = orbit::walk(slots, table, s.orbit, k, store, 0, d);
-    let mut cols = [0usize; 16];
+    let mut rows = [0usize; 16];
     if !matching::assign(
         slots,
         table,
@@ -102,7 +102,7 @@ pub fn apply(
         t.roots,
         t.size,
         &s.ltargets,
-        &mut cols,
+        &mut rows,
     ) {
         return Answer::Refused(Refusal::NoMatch);
     }
@@ -118,6 +118,6 @@ pub fn apply(
         &s.rtargets,
         size,
         room,
-        &mut cols,
+        &mut rows,
     )
 }

@@ -19,11 +19,11 @@ start l = l .before .before .before .before .before .before .before .before .bef
 abbrev places : tie.After-walk → tie.After-wide
 places l = l .before .before .before .before
 
-abbrev walk-done : tie.After-cols → tie.After-walk
+abbrev walk-done : tie.After-rows → tie.After-walk
 walk-done a = a .before .before .before .before .before .before .before .before .before .before .before .before
 
 -- and from the match to the end
-abbrev counted : tie.After-cols2 → tie.After-wide2
+abbrev counted : tie.After-rows2 → tie.After-wide2
 counted e = e .before .before .before .before .before .before .before .before
 
 -- the site
