@@ -46,7 +46,7 @@ pub record Settling (m : Map) (store : List ℕ) (c : ℕ) (kinds donors lefts r
   pub rightCoded : Coded (at .scheme) right rights
   pub free : room ≡ countBelow (m .slots) (unused m)
 
--- the answer r and the table t′ of an edit of the table t at a site, whose faults are `fault`
+-- An edit of the table t at a site came to its end, with the answer r and the table t′; `fault` is the refusal, if any.
 pub record Settled (fault : Option Refusal) (E : Site) (t : List ℕ) (r : Answer) (t′ : List ℕ) : Type 0 where
   pub answer : r ≡ answered (siteDone E) fault
   pub table : t′ ≡ cond (there fault) t (tableOf (edited E))

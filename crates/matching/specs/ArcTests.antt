@@ -32,13 +32,14 @@ unfoldable pub follows : (ℕ → ℕ) → List ℕ → ℕ → ℕ → ℕ → 
 follows link s size from base to = allBelow size (λ r. eqb (link (dartAt s from r)) (dartAt s base (to r)))
 
 module _ (m : Map) (s : List ℕ) (size : ℕ) (dims rows : List ℕ) (j i from : ℕ) where
-  -- the explicit arc of entry j at dimension i, to a node: it is tested from the later of its two rows, and an arc of a tree not at all
+  -- The explicit arc of entry j at dimension i, to a node. It is tested from the end whose row was made later. An arc of a tree is not tested: its row
+  -- was made along it.
   unfoldable pub explicitTest : ℕ → Bool
   explicitTest t = ltb from (getD rows t 0) or eqb (getD dims j 0) i or follows (m .link i) s size from (getD rows t 0) (λ r. r)
 
   -- the first `roots` entries are hooks
   module _ (roots : ℕ) where
-    -- the implicit arc of entry j at dimension i, at a position; those of the hooks hold since their rows were walked along the links
+    -- The implicit arc of entry j at dimension i, at a position. Those of the hooks are not tested: their rows were walked along the links.
     unfoldable pub implicitTest : ℕ → Bool
     implicitTest p = ltb j roots or follows (m .link i) s size from from (λ r. next (m .slots) s r p)
 

@@ -21,22 +21,25 @@ pub record Longer (N : ℕ) (s s′ : List ℕ) (end : ℕ) : Type 0 where
   pub places : (e : ℕ) → e < end → place N s′ e ≡ place N s e
   pub rest : (i : ℕ) → 2 * N ≤ i → getD s′ i 0 ≡ getD s i 0
 
--- a row of `end` darts from the places `size` on has y for place q, or has no dart for it yet and y took the place, or neither can be, and the
--- store stays: another dart stands for q, or y has a place already
+-- What `meet` does with dart y at place q of the second hook's row, which has `end` darts so far. One of three:
+--   q is filled and holds y: nothing changes;
+--   q is the next free place of the row and y has none: y takes it, and the row is one longer;
+--   another dart stands for q, or y has a place already: there is no match, `end′` is 0, and the store is unchanged.
 abbrev pub Met : ℕ → List ℕ → ℕ → ℕ → ℕ → ℕ → List ℕ → ℕ → Type 0
 Met N s size end q y s′ end′ =
     ((end′ ≡ end) × (s′ ≡ s) × (q < end) × (place N s (size + q) ≡ y))
     ⊎ (((end′ ≡ end + 1) × (q ≡ end) × Pushed N s (size + end) y s′)
     ⊎ ((end′ ≡ 0) × (s′ ≡ s) × (((q < end) × (place N s (size + q) ≢ y)) ⊎ ((q ≡ end) × (1 ≤ mark s y)))))
 
--- the link at position p leads from the dart for place r as it leads within the orbit, both places being below `end`
+-- The row has the darts for place r and for the place to which the link at position p leads from r in the orbit, and that link joins them.
 pub record Follows (E : Site) (s : List ℕ) (size end r p : ℕ) : Type 0 where
   pub from : r < end
   pub to : next (E .map .slots) s r p < end
   pub is : E .map .link (orbitDim (E .scheme) p) (place (E .map .slots) s (size + r)) ≡ place (E .map .slots) s (size + next (E .map .slots) s r p)
 
--- after the steps below c the first `end` darts of the row stand from the places `size` on: live, the first the one that the call names, and where
--- there is a match, each the image of its pair; the links of those steps lead within the row as they lead within the orbit
+-- The second hook's row after c steps. It has `end` darts, at the places `size` to `size + end - 1`. All are live, and the first is the call's second
+-- dart. If the scheme matches, each is the image that the match gives it. Every link followed so far joins two darts of the row as it joins their
+-- counterparts in the orbit.
 pub record Standing (E : Site) (s : List ℕ) (size c end : ℕ) : Type 0 where
   pub taken : Taken (E .map .slots) s (size + end)
   pub fits : end ≤ size
@@ -71,8 +74,8 @@ pub record Retracing (m : Map) (s : List ℕ) (size : ℕ) (dims : List ℕ) (k 
   pub dimsAre : dims ≡ at .scheme .orbit
   pub placesAre : k ≡ at .scheme .places
 
--- the links of the darts for the places below `head` were followed, and the row, which had `tail` darts, has `end`; or else there is no match, and
--- `end` is 0
+-- Either the links of the darts for the places below `head` were followed, and the row, which had `tail` darts, has `end`; or there is no match, and
+-- `end` is 0.
 pub record Retraced (E : Site) (s s′ : List ℕ) (size tail head end : ℕ) : Type 0 where
   pub done : 1 ≤ end → (tail ≤ end) × Standing E s′ size (4 * head) end × Longer (E .map .slots) s s′ (size + tail)
   pub none : end ≡ 0 → matches E ≡ false

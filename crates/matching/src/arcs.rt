@@ -61,7 +61,8 @@ fn turned(
     true
 }
 
-// The explicit arc of entry j at dimension i, from the row at `from` to that of node t: tested from the later row, and not where it is the tree's.
+// Tests the explicit arc of entry j at dimension i, from the row at `from` to that of node t. Each arc is met twice, once from each end: it is tested
+// only from the end whose row was made later. The arc along which the row was made needs no test, for it holds by construction.
 fn explicit(
     slots: usize,
     table: &[u32],

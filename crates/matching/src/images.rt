@@ -11,7 +11,7 @@ ghost use Rattle.table.specs.Words.{Sized};
 ghost use Rattle.orbit.specs.Store.{Taken};
 ghost use Rattle.matching.specs.Images.{BeforeMatching, Linked, RowMade, RowsMade};
 
-// A new row from the place `end` on, over the i-links of the row at `from`; false where a dart has a place already.
+// Makes a row from the place `end` on: the darts to which the i-links of the row at `from` lead. It returns false where a dart has a place already.
 fn row(
     slots: usize,
     table: &[u32],
@@ -49,7 +49,7 @@ fn begin(slots: usize, size: usize, nodes: &[u8; 16], roots: usize, rows: &mut [
     rows[wide(nodes[last])] = slots + last * size;
 }
 
-// The rows of all entries of the trees, after those of the hooks; false where two pairs fall on one dart.
+// Makes the rows of all entries of the trees, after those of the hooks. It returns false where two pairs fall on one dart.
 pub(crate) fn rows(
     slots: usize,
     table: &[u32],

@@ -7,8 +7,8 @@ ghost use Rattle.model.specs.Map.{view};
 ghost use Rattle.table.specs.Words.{Sized};
 ghost use Rattle.matching.specs.Assign.{Posed, Answered};
 
-// Whether the scheme of the trees and the codes matches at the orbit in the store, with its second hook at `other`; where it does, the rows of its
-// left nodes.
+// Looks for the match at the orbit in the store, with the second hook at `other`, along the scheme's trees and by the codes of its left arcs. It returns
+// whether there is one; if so, `rows` says where the rows of the left nodes begin.
 pub fn assign<'a>(
     slots: usize,
     table: &[u32],

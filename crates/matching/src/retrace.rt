@@ -1,5 +1,5 @@
-// The darts of the second hook: the one that the call names for the first place of the orbit, and for every other place the dart to which
-// the links lead as they lead there within the orbit. The links are followed in the walk's order, which gives the places in turn.
+// The darts of the second hook, one for each place of the orbit. The first is the one that the call names. The others are found by following, from dart
+// to dart, the links that the walk followed within the orbit. They are followed in the walk's order, so the places come in turn.
 use conditions::arcs::wide;
 use orbit::store::push;
 use orbit::store::word;
@@ -11,8 +11,8 @@ ghost use Rattle.orbit.specs.Store.{Taken};
 ghost use Rattle.orbit.specs.At.{site};
 ghost use Rattle.matching.specs.Retrace.{Met, Retracing, Retraced, RetracedAll, BeforeHanging, HungAll};
 
-// Dart y is to stand for place q of the orbit. It takes the place `end` of the row if that is q, and stands there already if q is an
-// earlier one. It returns the new end, and 0 where another dart stands for q or y has a place already.
+// Puts dart y at place q of the row, which has `end` darts. If q is filled, y must be the dart there. If q is the next place, y takes it, and must not
+// have one already. It returns the new number of darts, or 0 where y cannot stand at q.
 fn meet(slots: usize, store: &mut [u32], size: usize, end: usize, q: usize, y: usize) -> usize
     requires { ⌜ slots ≤ maxSlots ⌝ }
     requires { ⌜ Taken slots (now store) (size + end) ⌝ }
@@ -68,7 +68,7 @@ fn expand(
     end
 }
 
-// Follows the links of the darts for all places, where the row has the first of them. It returns false where there is no match.
+// Follows the links of the darts for all places, in a row that has the first dart. It returns false where there is no match.
 fn retrace(
     slots: usize,
     table: &[u32],
@@ -95,7 +95,7 @@ fn retrace(
     true
 }
 
-// The row of the second hook, where there is one, from the place `size` on; false where there is no match.
+// Makes the row of the second hook, if there is one, from the place `size` on. It returns false where there is no match.
 pub(crate) fn hang(
     slots: usize,
     table: &[u32],

@@ -3,7 +3,7 @@
 --   N .. 2N - 1    the places: first the darts of the orbit, then for each further left node the darts of its pairs
 --   2N .. 3N - 1   the darts of the added pairs, and before a pair has its dart, the tag for it
 --   4N .. 8N - 1   for each orbit dart and each position of the orbit type, the place of the dart to which that link leads
---   8N ..          while the added pairs get their darts, a binary digit for each slot, 32 to a word, set for the orbit darts: two words to 64 slots
+--   8N ..          a binary digit for each slot while the added pairs get their darts: 32 to a word, two words to 64 slots, set for the orbit darts
 -- Nothing is asked of the other words. Assumes nothing.
 use Prim.Native.Nat.{ℕ, _+_, _*_, _-_, _≤_, _<_}
 use mathlib.Core.Path.{_≡_}
@@ -50,8 +50,8 @@ pub record Taken (N : ℕ) (s : List ℕ) (end : ℕ) : Type 0 where
   pub found : (x : ℕ) → x < N → 1 ≤ mark s x → (mark s x ≤ end) × (place N s (mark s x - 1) ≡ x)
   pub total : countBelow N (marked s) ≡ end
 
--- place e was taken over the link at a position of the dart at an earlier place; of the links of the first `passed` places, taken in turn, those that
--- lead to later places come after it
+-- How the walk came to place e. It followed the link at `position` of the dart at the earlier place `from`, and that was the first link that led there:
+-- of the links of the first `passed` places, each that leads to a later place than e was followed after this one.
 pub record Reached (N k : ℕ) (s : List ℕ) (passed e : ℕ) : Type 0 where
   pub from : ℕ
   pub position : ℕ
@@ -60,8 +60,8 @@ pub record Reached (N k : ℕ) (s : List ℕ) (passed e : ℕ) : Type 0 where
   pub leads : next N s from position ≡ e
   pub first : (r : ℕ) → r < passed → (p : ℕ) → p < k → e < next N s r p → 4 * from + position < 4 * r + p
 
--- the first `size` places hold the orbit of d, each dart once, in the order in which the links reach them from d, and `next` its links by place;
--- k and dim are the orbit type
+-- The walk from d is done; k and dim are the orbit type. The first `size` places hold the orbit of d, each dart once, in the order in which the links
+-- reach them from d. `next` has the links of the orbit, from place to place.
 pub record Walked (m : Map) (k : ℕ) (dim : ℕ → ℕ) (d : ℕ) (s : List ℕ) (size : ℕ) : Type 0 where
   pub some : 1 ≤ size
   pub fits : size ≤ m .slots
@@ -86,7 +86,7 @@ pub record Kept (N : ℕ) (s s′ : List ℕ) (size : ℕ) : Type 0 where
 module _ (E : Site) where
   open Site E using (map as m, scheme as S)
 
-  -- the darts of the left pairs stand in rows, of which `rows` has the begin for each node
+  -- the darts of the left pairs stand in rows, one for each left node: `rows` says where the row of a node begins
   pub record Assigned (s rows : List ℕ) (size : ℕ) : Type 0 where
     pub inside : (v : ℕ) → v < S .nodes → has S left v ≡ true → (m .slots ≤ getD rows v 0) × (getD rows v 0 + size ≤ 2 * m .slots)
     pub dart : (v r : ℕ) → v < S .nodes → has S left v ≡ true → r < size → dartAt s (getD rows v 0) r ≡ image E (place (m .slots) s r) v

@@ -26,7 +26,7 @@ pub record MoreTaken (N : ℕ) (s : List ℕ) (end : ℕ) (s′ : List ℕ) (end
   pub longer : end ≤ end′
   pub places : (e : ℕ) → e < end → place N s′ e ≡ place N s e
 
--- slot y has a place, which the word `at` names and which is the new one where there is one
+-- slot y has a place, and the word `at` names it. If a place was taken, it is that one.
 pub record Followed (N : ℕ) (s : List ℕ) (end at y : ℕ) (s′ : List ℕ) (end′ : ℕ) : Type 0 where
   pub grown : MoreTaken N s end s′ end′
   pub new : (e : ℕ) → end ≤ e → e < end′ → getD s′ at 0 ≡ e

@@ -19,7 +19,7 @@ use Rattle.rewriting.specs.Darts.{HoldsSlots, Darts, Given}
 
 -- ---- what is written
 
--- the place of which an arc with that code takes the dart at place r
+-- where the partner of the dart at place r stands in its row: at r by the code of a node, and by a position, where that link of the orbit leads
 unfoldable pub placeBy : ℕ → List ℕ → ℕ → ℕ → ℕ
 placeBy N store code r = cond (ltb code 16) r (next N store r (code - 16))
 
@@ -28,7 +28,7 @@ unfoldable pub overwritten : (ℕ → ℕ) → (ℕ → ℕ) → ℕ → (ℕ �
 overwritten at v n = steps n (λ r l. setAt l (at r) (v r))
 
 module _ (N : ℕ) (store : List ℕ) (size : ℕ) (rows : List ℕ) where
-  -- the links of one dimension, where those of the darts of the node whose row of the store begins at `base` are written by the code of an arc
+  -- The links of one dimension once an arc is followed: those of the darts in the row at `base` are written, as the arc's code says.
   unfoldable pub followed : ℕ → ℕ → (ℕ → ℕ) → ℕ → ℕ
   followed base code l =
       cond (ltb code 16) (overwritten (dartAt store base) (dartAt store (getD rows code 0)) size l)
@@ -38,7 +38,7 @@ module _ (N : ℕ) (store : List ℕ) (size : ℕ) (rows : List ℕ) where
   unfoldable pub relinked : List ℕ → ℕ → Map → Map
   relinked codes n = steps n (λ k m. withField m (Link (k % 4)) (followed (getD rows (k / 4) 0) (getD codes k 0) (m .link (k % 4))))
 
--- the code of an arc of the right side, and that of no arc where the left side has the same: its links stand already
+-- the code of an arc of the right side; that of no arc if the left side has the same, for then its links stand already
 unfoldable pub changed : ℕ → ℕ → ℕ
 changed before after = cond (eqb before after) 255 after
 

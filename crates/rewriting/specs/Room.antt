@@ -25,7 +25,7 @@ pub record Noted (tag : ℕ → ℕ) (s : List ℕ) (from to n : ℕ) (s′ : Li
   pub at : (r : ℕ) → r < n → getD s′ (to + r) 0 ≡ tag (dartAt s from r)
   pub kept : (i : ℕ) → (i < to) ⊎ (to + n ≤ i) → getD s′ i 0 ≡ getD s i 0
 
--- the first `many` of `nodes` have donors whose darts stand in rows, before the words where their own darts will stand
+-- Each of the first `many` of `nodes` has a donor. The donor's darts stand in a row, and all these rows lie before the words for the new darts.
 pub record Donating (N : ℕ) (s : List ℕ) (size : ℕ) (nodes : List ℕ) (many : ℕ) (donors rows : List ℕ) : Type 0 where
   pub few : many ≤ 16
   pub slots : N ≤ maxSlots

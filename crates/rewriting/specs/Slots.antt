@@ -73,8 +73,8 @@ module _ {m₀ : Map} (A : At m₀) where
     pub isAdded : added S v ≡ true
     pub early : rank E u v < done
 
-  -- the first `done` added pairs have their slots, all below `free`, and the store has the tags for the others: the map is m′ and the store s. Before
-  -- the first pair these were the map without the deleted darts and s₀
+  -- The giving of slots, with the map m′ and the store s. It began with the map without the deleted darts, and with s₀. The first `done` added pairs have
+  -- their slots, all below `free`. For each of the others the store has its tag.
   pub record Granting (s₀ : List ℕ) (size done free : ℕ) (m′ : Map) (s : List ℕ) : Type 0 where
     pub storeLong : length s ≡ length s₀
     pub taken : countBelow free (isFree E (image E)) ≡ done
@@ -87,7 +87,7 @@ module _ {m₀ : Map} (A : At m₀) where
     pub dart : (u v : ℕ) → Due done u v → dartAt s (rowStart (m .slots) size (countBelow v (added S))) (mark s₀ u - 1) ≡ dartOf E u v
     pub kept : (i : ℕ) → (i < 2 * m .slots) ⊎ (3 * m .slots ≤ i) → getD s i 0 ≡ getD s₀ i 0
 
--- the pairs of the orbit dart at place r, which is `dart`, come next; how it all stood before the edit, and before the first slot was given, is in the fields
+-- The pairs of `dart`, the orbit dart at place r, come next. `before` is the map before the edit, and `store` the store before the first slot was given.
 pub record Turn (N : ℕ) (m : Map) (s : List ℕ) (size many r free : ℕ) : Type 0 where
   pub before : Map
   pub at : At (ofSlots N before)
@@ -136,7 +136,7 @@ pub record Digits (N : ℕ) (s₀ : List ℕ) (r : ℕ) (s : List ℕ) : Type 0 
   pub behind : Behind N s₀ s
   pub at : (w : ℕ) → w < digitWords N → getD s (8 * N + w) 0 ≡ binary 32 (λ k. early N s₀ r (32 * w + k))
 
--- the pairs of the orbit darts from 64 × w to 64 × w + 63 come next, with a digit for each; the other fields are as in `Turn`
+-- The pairs of the orbit darts from 64 × w to 64 × w + 63 come next; `number` has a digit for each. The other fields are as in `Turn`.
 pub record Block (N : ℕ) (m : Map) (s : List ℕ) (size many w number free : ℕ) : Type 0 where
   pub before : Map
   pub at : At (ofSlots N before)

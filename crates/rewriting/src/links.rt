@@ -16,7 +16,8 @@ ghost use Rattle.rewriting.specs.Links.{placeBy, overwritten, followed, 
 ghost use Rattle.rewriting.specs.Links.{Turnable, Legible, Rows, Codes, BeforeRewriting};
 ghost use Rattle.rewriting.specs.Darts.{HoldsSlots};
 
-// The place of which an arc takes the dart at place r: r itself where its code is a node, and by a position, that to which the link leads.
+// Where the partner of the dart at place r stands in its row. An explicit arc (a code below 16) joins darts of the same orbit dart, so it is r. An
+// implicit arc at position p joins the darts of neighbours, so it is the place to which the orbit's link p leads from r.
 fn place(slots: usize, store: &[u32], code: usize, r: usize) -> usize
     requires { ⌜ (16 ≤ code → 4 * slots + 4 * r + (code - 16) < length (now store)) ⌝ }
     ensures { λ q. ⌜ q ≡ placeBy slots (now (store .entry)) code r ⌝ }
@@ -27,7 +28,7 @@ fn place(slots: usize, store: &[u32], code: usize, r: usize) -> usize
     word(store, 4 * slots + 4 * r + (code - 16))
 }
 
-// The i-links of the darts of one node become the darts of a node, in the row at `to`, each at its place by the arc's code.
+// Writes the i-links of the darts in the row at `from`: each becomes its partner in the row at `to`.
 fn join(
     slots: usize,
     table: &mut [u32],
@@ -54,7 +55,7 @@ fn join(
     }
 }
 
-// The i-links of the darts of the node whose row of the store begins at `base`, by the code of an arc.
+// Writes the i-links of the darts in the row at `base`, as the code of their arc says.
 fn follow(
     slots: usize,
     table: &mut [u32],
@@ -79,7 +80,7 @@ fn follow(
     }
 }
 
-// The links of the darts of all pairs, by the codes of the right arcs.
+// Writes the links of the darts of all pairs, as the codes of the right arcs say.
 fn relink(
     slots: usize,
     table: &mut [u32],
@@ -111,7 +112,7 @@ fn relink(
     }
 }
 
-// The code of an arc of the right side, and that of no arc where the left side has the same.
+// The code of an arc of the right side; that of no arc if the left side has the same.
 fn change(before: u8, after: u8) -> u8
     ensures { λ r. ⌜ r ≡ changed before after ⌝ }
 {

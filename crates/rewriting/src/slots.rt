@@ -1,5 +1,5 @@
-// The darts of the added pairs: each takes the lowest slot that is left of those unused in the table without the deleted darts, by orbit dart and then
-// by node, and the tag of the dart of its donor.
+// The darts of the added pairs. They come by orbit dart and then by node. Each takes the lowest slot that is left of those unused once the deleted darts
+// are gone, and the tag of the dart of its donor.
 use orbit::store::keep;
 use orbit::store::word;
 use table::words::put_link;
@@ -49,8 +49,8 @@ fn revive(slots: usize, table: &mut [u32], y: usize, v: u32)
     put_tag(slots, table, y, v);
 }
 
-// The darts of the orbit dart at place r with each added node. The answer is the slot past the last that was taken.
-// Until a pair has its dart, the store holds the tag for it in the same word: the slot of the donor may be taken already.
+// Gives slots to the pairs of the orbit dart at place r, one for each added node. It returns the slot past the last that was taken.
+// Until a pair has its dart, the same word of the store holds the tag for it, for the donor's slot may be taken already.
 fn turn(
     slots: usize,
     table: &mut [u32],
@@ -81,7 +81,7 @@ fn turn(
     from
 }
 
-// The rows of the added nodes.
+// Says where the rows of the added nodes begin.
 fn row_starts(slots: usize, size: usize, added: &[u8; 16], many: usize, rows: &mut [usize; 16])
     requires { ⌜ Apart slots size (now added) many ⌝ }
     requires { ⌜ length (now rows) ≡ 16 ⌝ }
@@ -140,7 +140,7 @@ fn pair(low: u32, high: u32) -> u64
     low as u64 + high as u64 * 4294967296
 }
 
-// The darts of all pairs of the orbit darts from 64 * w on whose digits are set in `digits`, ascending. The answer is as in `turn`.
+// Gives slots to the pairs of the orbit darts of one block, ascending: dart 64 * w + t is one where digit t is set. It returns what `turn` does.
 fn block(
     slots: usize,
     table: &mut [u32],
@@ -169,7 +169,7 @@ fn block(
     from
 }
 
-// The darts of all added pairs, where the store has the digits of the orbit.
+// Gives slots to all added pairs, block by block, where the store has the digits of the orbit.
 fn blocks(slots: usize, table: &mut [u32], store: &mut [u32], size: usize, many: usize)
     requires { ⌜ Sized slots (now table) ⌝ }
     requires { ⌜ BeforeBlocks slots (view slots (now table)) (now store) size many ⌝ }
@@ -188,7 +188,7 @@ fn blocks(slots: usize, table: &mut [u32], store: &mut [u32], size: usize, many:
     }
 }
 
-// Gives each added pair its dart, in the table and in the store, and `rows` the rows of the added nodes.
+// Gives each added pair its dart, in the table and in the store, and enters the rows of the added nodes in `rows`.
 pub fn give(
     slots: usize,
     table: &mut [u32],
