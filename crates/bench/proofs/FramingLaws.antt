@@ -10,31 +10,23 @@ use lib.ListN.{length}
 use borrow.Author.Tests.{leb-true, eqb-true, le-leb, eq-eqb}
 use Rattle.base.specs.Digits.{numberAt}
 use Rattle.base.proofs.TestLaws.{and-left, and-right, and-of, true-or-false}
-use Rattle.model.specs.File.{twoAt}
 use Rattle.program.specs.Opening.{longestFile}
-use Rattle.program.proofs.OpeningLaws.{two-of}
 use Rattle.bench.specs.Bench.{mapLength, schemeLength, dartCount, framed, longestScheme, mostDarts}
-use Rattle.bench.specs.Input.{countAt, Laid, FramingOf}
+use Rattle.bench.specs.Input.{Laid, FramingOf}
 use Rattle.bench.specs.declared.framing.Framing.{Framing}
 use Rattle.bench.specs.declared.framing.Framing.the-variants.{Framed, Fault}
 use Rattle.bench.specs.declared.framing.Layout.{Layout}
 
-pub count-of : (b : List ℕ) (at v : ℕ) → v ≡ numberAt 2 b at → v ≡ countAt b at
-unfolding countAt
-count-of b at v e = two-of b at v e
-
-module _ (b : List ℕ) (map scheme darts : ℕ) (x : map ≡ countAt b 0) (y : scheme ≡ countAt b (2 + map)) (z : darts ≡ countAt b (4 + map + scheme)) where
+module _ (b : List ℕ) (map scheme darts : ℕ) (x : map ≡ numberAt 2 b 0) (y : scheme ≡ numberAt 2 b (2 + map))
+    (z : darts ≡ numberAt 2 b (4 + map + scheme)) where
   pub map-length : mapLength b ≡ map
-  unfolding countAt
   map-length = sym x
 
   pub scheme-length : schemeLength b ≡ scheme
-  unfolding countAt
-  scheme-length = ap (λ (k : ℕ). twoAt b (2 + k)) map-length ∙ sym y
+  scheme-length = ap (λ (k : ℕ). numberAt 2 b (2 + k)) map-length ∙ sym y
 
   pub dart-count : dartCount b ≡ darts
-  unfolding countAt
-  dart-count = ap₂ (λ (j k : ℕ). twoAt b (4 + j + k)) map-length scheme-length ∙ sym z
+  dart-count = ap₂ (λ (j k : ℕ). numberAt 2 b (4 + j + k)) map-length scheme-length ∙ sym z
 
   pub fault : (map ≤ longestFile → scheme ≤ longestScheme → darts ≤ mostDarts → length b ≡ 6 + map + scheme + 2 * darts → ⊥) → framed b ≡ false
   unfolding framed

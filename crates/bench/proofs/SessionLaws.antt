@@ -11,12 +11,11 @@ use lib.ListN.{length, take, drop, replicate, length-replicate, replicate-append
 use lib.Seq.{take-at}
 use Rattle.base.specs.Test.{_and_}
 use Rattle.base.specs.Below.{countBelow}
-use Rattle.base.specs.Digits.{numberAt}
 use Rattle.base.specs.Lists.{joined}
+use Rattle.base.specs.Digits.{numberAt}
 use Rattle.base.proofs.BelowLaws.{count-step}
 use Rattle.base.proofs.ListLaws.{joined-step}
 use Rattle.model.specs.Map.{tableSize, maxSlots}
-use Rattle.model.specs.File.{twoAt}
 use Rattle.model.specs.Calls.{zeros, sizesOk, editAnswer, editTable, editStore}
 use Rattle.bench.specs.Bench.{mapLength, schemeLength, dartLine, dartAt, answerAt, mapBytes, schemeBytes, mapDimension, mapSlots}
 use Rattle.bench.specs.Bench.{tableAfter}
@@ -29,10 +28,10 @@ use Rattle.numbers.proofs.PlaceLaws.{put-then}
 use Rattle.demands.specs.Promises.{MapEdited}
 use Rattle.program.specs.Opening.{openTable, MapOpen}
 use Rattle.program.proofs.OpeningLaws.{open-long, open-words}
-use Rattle.bench.specs.Input.{countAt, Laid}
+use Rattle.bench.specs.Input.{Laid}
 use Rattle.bench.specs.Session.{Stands, dartLines}
 use Rattle.bench.specs.declared.framing.Layout.{Layout}
-use Rattle.bench.proofs.FramingLaws.{count-of, map-length, scheme-length}
+use Rattle.bench.proofs.FramingLaws.{map-length, scheme-length}
 use Rattle.bench.proofs.ShortLaws.{line-short}
 
 -- ---- the parts of the input
@@ -60,10 +59,10 @@ module _ (b : List ℕ) (l : Layout) (k : Laid b l) where
 
   -- the k-th dart stands where the reader comes to it
   pub dart-here : (j v from : ℕ) → from ≡ 6 + l .map + l .scheme + 2 * j → v ≡ numberAt 2 b from → v ≡ dartAt b j
-  unfolding dartAt countAt
+  unfolding dartAt
   dart-here j v from e f =
-      count-of b from v f ∙ ap (λ (i : ℕ). twoAt b i) e
-      ∙ ap₂ (λ (i m : ℕ). twoAt b (6 + i + m + 2 * j)) (sym is-map) (sym is-scheme)
+      f ∙ ap (λ (i : ℕ). numberAt 2 b i) e
+      ∙ ap₂ (λ (i m : ℕ). numberAt 2 b (6 + i + m + 2 * j)) (sym is-map) (sym is-scheme)
 
 -- ---- the map is open
 

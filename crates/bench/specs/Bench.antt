@@ -8,9 +8,9 @@ use lib.Dec.{eqb, leb}
 use Rattle.base.specs.Test.{_and_}
 use Rattle.base.specs.Below.{countBelow}
 use Rattle.base.specs.Lists.{joined}
+use Rattle.base.specs.Digits.{numberAt}
 use Rattle.model.specs.Answer.{number, values}
 use Rattle.model.specs.Map.{view, live, unused}
-use Rattle.model.specs.File.{twoAt}
 use Rattle.model.specs.Calls.{editAnswer, editTable}
 use Rattle.model.specs.declared.Darts.the-variants.{One}
 use Rattle.model.specs.declared.Answer.{Answer}
@@ -50,13 +50,13 @@ mostDarts = 1024
 
 module _ (b : List ℕ) where
   abbrev pub mapLength : ℕ
-  mapLength = twoAt b 0
+  mapLength = numberAt 2 b 0
 
   abbrev pub schemeLength : ℕ
-  schemeLength = twoAt b (2 + mapLength)
+  schemeLength = numberAt 2 b (2 + mapLength)
 
   abbrev pub dartCount : ℕ
-  dartCount = twoAt b (4 + mapLength + schemeLength)
+  dartCount = numberAt 2 b (4 + mapLength + schemeLength)
 
   unfoldable pub mapBytes : List ℕ
   mapBytes = take mapLength (drop 2 b)
@@ -65,7 +65,7 @@ module _ (b : List ℕ) where
   schemeBytes = take schemeLength (drop (4 + mapLength) b)
 
   unfoldable pub dartAt : ℕ → ℕ
-  dartAt k = twoAt b (6 + mapLength + schemeLength + 2 * k)
+  dartAt k = numberAt 2 b (6 + mapLength + schemeLength + 2 * k)
 
   -- the counts are within their limits, and nothing is missing or left over
   unfoldable pub framed : Bool

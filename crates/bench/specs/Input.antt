@@ -5,22 +5,18 @@ use mathlib.Core.Path.{_≡_}
 use mathlib.Core.Bool.{false}
 use mathlib.Core.List.{List}
 use lib.ListN.{length}
-use Rattle.model.specs.File.{twoAt}
+use Rattle.base.specs.Digits.{numberAt}
 use Rattle.program.specs.Opening.{longestFile}
 use Rattle.bench.specs.Bench.{framed, longestScheme, mostDarts}
 use Rattle.bench.specs.declared.framing.Layout.{Layout}
 use Rattle.bench.specs.declared.framing.Framing.{Framing}
 use Rattle.bench.specs.declared.framing.Framing.the-variants.{Framed, Fault}
 
--- the two-byte number at a place
-unfoldable pub countAt : List ℕ → ℕ → ℕ
-countAt b at = twoAt b at
-
 -- l has the counts of b, which are within their limits, and nothing is missing or left over
 pub record Laid (b : List ℕ) (l : Layout) : Type 0 where
-  pub map : l .map ≡ countAt b 0
-  pub scheme : l .scheme ≡ countAt b (2 + l .map)
-  pub darts : l .darts ≡ countAt b (4 + l .map + l .scheme)
+  pub map : l .map ≡ numberAt 2 b 0
+  pub scheme : l .scheme ≡ numberAt 2 b (2 + l .map)
+  pub darts : l .darts ≡ numberAt 2 b (4 + l .map + l .scheme)
   pub mapFits : l .map ≤ longestFile
   pub schemeFits : l .scheme ≤ longestScheme
   pub dartsFit : l .darts ≤ mostDarts

@@ -388,6 +388,7 @@ not-strict D = no-seven 2 8 e8 brokenFile (stored [])
 
 -- E's file has no dart at slot 7
 not-there : (k : ℕ) → k < darts eFile → slotAt eFile k ≡ 7 → ⊥
+unfolding computes
 not-there zero h e = omega arith
 not-there (suc zero) h e = omega arith
 not-there (suc (suc k)) h e = omega arith

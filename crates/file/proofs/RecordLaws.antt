@@ -14,8 +14,8 @@ use Rattle.model.specs.Map.{Field, State, Link, Tag, dimension, fieldAt, put}
 use Rattle.model.proofs.MapLaws.{state-not-tag, state-not-link, tag-not-link, put-same, put-other}
 use Rattle.table.specs.Words.{Sized}
 use Rattle.table.proofs.WordLaws.{put-sized}
-use Rattle.file.specs.Form.{slotOf}
-use Rattle.file.specs.Records.{Formed, Linked, linkOf, linkWord, linkPlace, tagPlace, rowOf, putRow, putLinks}
+use Rattle.model.specs.File.{slotsFrom, tagsFrom, linksFrom, dartsIn, slotIn, tagIn, linkIn}
+use Rattle.file.specs.Records.{Formed, Linked, linkOf, linkWord, rowOf, putRow, putLinks}
 use Rattle.file.specs.declared.records.Links.{Links}
 
 -- ---- the links of a dart
@@ -25,14 +25,14 @@ unfolding putLinks
 links-sized N t x g zero s = s
 links-sized N t x g (suc k) s = put-sized (putLinks t x g k) (Link k) x (g k) N (links-sized N t x g k s)
 
-module _ (n : ℕ) (b : List ℕ) (at x : ℕ) where
+module _ (w n : ℕ) (b : List ℕ) (at x : ℕ) where
   -- a number that is read at the i-th place of the links
-  pub link-here : (i p v : ℕ) → i ≤ n → p ≡ at + 2 * i → v ≡ numberAt 2 b p → v ≡ linkWord n b at x i
+  pub link-here : (i p v : ℕ) → i ≤ n → p ≡ at + w * i → v ≡ numberAt w b p → v ≡ linkWord w n b at x i
   unfolding linkWord
   link-here i p v h e f = rw (le-leb i n h, ← e) f
 
   -- with n = 2 the last is x itself
-  pub link-flat : n ≡ 2 → x ≡ linkWord n b at x 3
+  pub link-flat : n ≡ 2 → x ≡ linkWord w n b at x 3
   unfolding linkWord
   link-flat e = rw e refl
 
@@ -81,21 +81,25 @@ module _ (t : List ℕ) (x : ℕ) (g : Field → ℕ) where
   row-same N s h Tag l = put-same _ Tag x (g Tag) (omega arith) N (links-sized N _ x _ 4 (put-sized t State x (g State) N s) .long) h
 
 -- the words of the k-th dart, as they are put
-pub entered : (n : ℕ) (b : List ℕ) (k x v at tagged : ℕ) (l : Links) (t t1 t2 t3 : List ℕ)
-    → x ≡ slotOf b k → at ≡ linkPlace n b k → v ≡ numberAt 4 b tagged → tagged ≡ tagPlace b k → Linked n b at x l
-    → t1 ≡ put t State x 1 → t2 ≡ putLinks t1 x (linkOf l) 4 → t3 ≡ put t2 Tag x v → t3 ≡ putRow t (slotOf b k) (rowOf n b k)
-unfolding putRow rowOf putLinks linkOf
-entered n b k x v at tagged l t t1 t2 t3 e f g h u p q r = rw (r, q, p, u .a0, u .a1, u .a2, u .a3, g, h, f, e) refl
+pub entered : (w n : ℕ) (b : List ℕ) (k x v at tagged : ℕ) (l : Links) (t t1 t2 t3 : List ℕ)
+    → x ≡ slotIn w b k → at ≡ linksFrom w (dartsIn w b) + w + w * ((n + 1) * k) → v ≡ numberAt 4 b tagged
+    → tagged ≡ tagsFrom w (dartsIn w b) + w + 4 * k → Linked w n b at x l
+    → t1 ≡ put t State x 1 → t2 ≡ putLinks t1 x (linkOf l) 4 → t3 ≡ put t2 Tag x v → t3 ≡ putRow t (slotIn w b k) (rowOf w n b k)
+unfolding putRow rowOf putLinks linkOf linkWord linkIn tagIn
+entered w n b k x v at tagged l t t1 t2 t3 e f g h u p q r = rw (r, q, p, u .a0, u .a1, u .a2, u .a3, g, h, f, e) refl
 
 -- the links of a dart stand within the bytes, and its slot is below the number of slots
-module _ (n N : ℕ) (b : List ℕ) (F : Formed n N b) (L k : ℕ) (e : L ≡ numberAt 2 b 3) (h : k < L) where
-  size : length b ≡ 9 + 6 * L + 2 * ((n + 1) * L)
+module _ (w n N : ℕ) (b : List ℕ) (F : Formed w n N b) (L k : ℕ) (e : L ≡ dartsIn w b) (h : k < L) where
+  size : length b ≡ linksFrom w L + w + w * ((n + 1) * L)
   size = rw (F .size, e) (omega arith)
 
-  pub links-room : 9 + 6 * L + 2 * ((n + 1) * k) + 2 * (n + 1) ≤ length b
-  links-room = let l : k + 1 ≤ L = omega arith in omega (arith, size, mul-le-mul-left (n + 1) l)
+  pub links-room : linksFrom w L + w + w * ((n + 1) * k) + w * (n + 1) ≤ length b
+  links-room = let l : k + 1 ≤ L = omega arith in omega (arith, size, mul-le-mul-left w (mul-le-mul-left (n + 1) l))
+
+  pub slot-room : slotsFrom w + w + w * k + w ≤ slotsFrom w + w + w * L
+  slot-room = let l : k + 1 ≤ L = omega arith in omega (arith, mul-le-mul-left w l)
 
   -- the slot that was read is below the number of slots
-  pub slot-below : (x : ℕ) → x ≡ numberAt 2 b (5 + 2 * k) → (x ≡ slotOf b k) × (x < N)
-  unfolding slotOf
-  slot-below x f = (f, rw f (F .below k (rw (← e) h)))
+  pub slot-below : (x at : ℕ) → at ≡ slotsFrom w + w + w * k → x ≡ numberAt w b at → (x ≡ slotIn w b k) × (x < N)
+  unfolding slotIn
+  slot-below x at q f = let g : x ≡ slotIn w b k = f ∙ ap (numberAt w b) q in (g, rw g (F .below k (rw (← e) h)))

@@ -8,20 +8,19 @@ use lib.ListN.{length}
 use lib.Dec.{eqb, leb}
 use Rattle.base.specs.First.{least}
 use Rattle.base.specs.Digits.{numberAt}
-use Rattle.model.specs.File.{atPlace}
+use Rattle.model.specs.File.{sizeIn, atPlace, dartsIn, slotIn, tagIn, linkIn}
 use Rattle.model.specs.Map.{Field, State, Link, Tag, put}
-use Rattle.file.specs.Form.{fileSize, slotOf}
 use Rattle.file.specs.declared.records.Links.{Links}
 
 -- what the form says of the darts
-pub record Formed (n N : ℕ) (b : List ℕ) : Type 0 where
-  pub size : length b ≡ fileSize n (numberAt 2 b 3)
-  pub below : (k : ℕ) → k < numberAt 2 b 3 → slotOf b k < N
-  pub ascends : (j k : ℕ) → j < k → k < numberAt 2 b 3 → slotOf b j < slotOf b k
+pub record Formed (w n N : ℕ) (b : List ℕ) : Type 0 where
+  pub size : length b ≡ sizeIn w n (dartsIn w b)
+  pub below : (k : ℕ) → k < dartsIn w b → slotIn w b k < N
+  pub ascends : (j k : ℕ) → j < k → k < dartsIn w b → slotIn w b j < slotIn w b k
 
 -- αi of x, where its links stand from `at` on
-unfoldable pub linkWord : ℕ → List ℕ → ℕ → ℕ → ℕ → ℕ
-linkWord n b at x i = cond (leb i n) (numberAt 2 b (at + 2 * i)) x
+unfoldable pub linkWord : ℕ → ℕ → List ℕ → ℕ → ℕ → ℕ → ℕ
+linkWord w n b at x i = cond (leb i n) (numberAt w b (at + w * i)) x
 
 unfoldable pub linkOf : Links → ℕ → ℕ
 linkOf l zero = l .a0
@@ -30,24 +29,17 @@ linkOf l (suc (suc zero)) = l .a2
 linkOf l (suc (suc (suc i))) = l .a3
 
 -- l has the links of x
-pub record Linked (n : ℕ) (b : List ℕ) (at x : ℕ) (l : Links) : Type 0 where
-  pub a0 : l .a0 ≡ linkWord n b at x 0
-  pub a1 : l .a1 ≡ linkWord n b at x 1
-  pub a2 : l .a2 ≡ linkWord n b at x 2
-  pub a3 : l .a3 ≡ linkWord n b at x 3
-
--- where the links and the tag of the k-th dart stand
-unfoldable pub linkPlace : ℕ → List ℕ → ℕ → ℕ
-linkPlace n b k = 9 + 6 * numberAt 2 b 3 + 2 * ((n + 1) * k)
-
-unfoldable pub tagPlace : List ℕ → ℕ → ℕ
-tagPlace b k = 7 + 2 * numberAt 2 b 3 + 4 * k
+pub record Linked (w n : ℕ) (b : List ℕ) (at x : ℕ) (l : Links) : Type 0 where
+  pub a0 : l .a0 ≡ linkWord w n b at x 0
+  pub a1 : l .a1 ≡ linkWord w n b at x 1
+  pub a2 : l .a2 ≡ linkWord w n b at x 2
+  pub a3 : l .a3 ≡ linkWord w n b at x 3
 
 -- the words of the k-th dart
-unfoldable pub rowOf : ℕ → List ℕ → ℕ → Field → ℕ
-rowOf n b k State = 1
-rowOf n b k (Link i) = linkWord n b (linkPlace n b k) (slotOf b k) i
-rowOf n b k Tag = numberAt 4 b (tagPlace b k)
+unfoldable pub rowOf : ℕ → ℕ → List ℕ → ℕ → Field → ℕ
+rowOf w n b k State = 1
+rowOf w n b k (Link i) = cond (leb i n) (linkIn w b n k i) (slotIn w b k)
+rowOf w n b k Tag = tagIn w b k
 
 -- t with g 0 to g (k - 1) as the first k links of x
 unfoldable pub putLinks : List ℕ → ℕ → (ℕ → ℕ) → ℕ → List ℕ
@@ -59,5 +51,5 @@ unfoldable pub putRow : List ℕ → ℕ → (Field → ℕ) → List ℕ
 putRow t x g = put (putLinks (put t State x (g State)) x (λ i. g (Link i)) 4) Tag x (g Tag)
 
 -- a word of x once the first k darts of the file are entered
-unfoldable pub wordOf : ℕ → List ℕ → ℕ → ℕ → Field → ℕ
-wordOf n b k x f = atPlace (least k (λ o. eqb (slotOf b o) x)) (λ o. rowOf n b o f)
+unfoldable pub wordOf : ℕ → ℕ → List ℕ → ℕ → ℕ → Field → ℕ
+wordOf w n b k x f = atPlace (least k (λ o. eqb (slotIn w b o) x)) (λ o. rowOf w n b o f)

@@ -1,17 +1,17 @@
-// The records of a file's darts, entered into a table.
+// The records of a file's darts, entered into a table. The file's numbers have w bytes.
+use crate::places::links_from;
+use crate::places::tags_from;
 use numbers::Cursor;
 use table::words::put_link;
 use table::words::put_state;
 use table::words::put_tag;
 ghost use mathlib.Core.Path.{_≡_};
-ghost use mathlib.Core.Logic.{_⊎_};
 ghost use Prim.Native.Nat.{_+_, _*_, _≤_, _<_};
 ghost use lib.ListN.{length, replicate};
-ghost use Rattle.base.specs.Digits.{numberAt};
 ghost use Rattle.model.specs.Map.{tableSize, tableOf, maxSlots};
-ghost use Rattle.model.specs.File.{fileMap};
+ghost use Rattle.model.specs.File.{dartsIn, slotIn, mapIn};
 ghost use Rattle.table.specs.Words.{Sized};
-ghost use Rattle.file.specs.Form.{slotOf};
+ghost use Rattle.file.specs.Form.{Kind};
 ghost use Rattle.file.specs.Records.{Formed, Linked, linkOf, rowOf, putRow, putLinks};
 
 // The links of a dart, by dimension.
@@ -23,16 +23,16 @@ struct Links {
 }
 
 // The links of x, from the next numbers. With n = 2 its own slot is the last.
-fn read_links(n: u32, x: u32, b: &[u8], from: Cursor) -> Links
-    requires { ⌜ (n ≡ 2) ⊎ (n ≡ 3) ⌝ }
-    requires { ⌜ from .at + 2 * (n + 1) ≤ length (now b) ⌝ }
-    ensures { λ r. ⌜ Linked n (now (b .entry)) (from .at) x r ⌝ }
+fn read_links(w: usize, n: u32, x: u32, b: &[u8], from: Cursor) -> Links
+    requires { ⌜ Kind w n ⌝ }
+    requires { ⌜ from .at + w * (n + 1) ≤ length (now b) ⌝ }
+    ensures { λ r. ⌜ Linked w n (now (b .entry)) (from .at) x r ⌝ }
 {
-    let first = from.two(b);
+    let first = from.number(w, b);
     let from1 = first.next;
-    let second = from1.two(b);
+    let second = from1.number(w, b);
     let from2 = second.next;
-    let third = from2.two(b);
+    let third = from2.number(w, b);
     if n == 2 {
         return Links {
             a0: first.value,
@@ -42,7 +42,7 @@ fn read_links(n: u32, x: u32, b: &[u8], from: Cursor) -> Links
         };
     }
     let from3 = third.next;
-    let fourth = from3.two(b);
+    let fourth = from3.number(w, b);
     Links {
         a0: first.value,
         a1: second.value,
@@ -64,21 +64,23 @@ fn put_links(slots: usize, table: &mut [u32], x: usize, l: Links)
 }
 
 // The record of the k-th dart of the file. It is read before any word of it is put, so that its words can be moved together.
-fn enter(n: u32, slots: usize, table: &mut [u32], b: &[u8], darts: usize, k: usize)
-    requires { ⌜ (n ≡ 2) ⊎ (n ≡ 3) ⌝ }
+fn enter(w: usize, n: u32, slots: usize, table: &mut [u32], b: &[u8], darts: usize, k: usize)
+    requires { ⌜ Kind w n ⌝ }
     requires { ⌜ Sized slots (now table) ⌝ }
-    requires { ⌜ Formed n slots (now b) ⌝ }
-    requires { ⌜ (darts ≡ numberAt 2 (now b) 3) × (k < darts) ⌝ }
-    ensures { λ _. ⌜ now (table .exit) ≡ putRow (now (table .entry)) (slotOf (now (b .entry)) k) (rowOf n (now (b .entry)) k) ⌝ }
+    requires { ⌜ Formed w n slots (now b) ⌝ }
+    requires { ⌜ (darts ≡ dartsIn w (now b)) × (k < darts) ⌝ }
+    ensures { λ _. ⌜ now (table .exit) ≡ putRow (now (table .entry)) (slotIn w (now (b .entry)) k) (rowOf w n (now (b .entry)) k) ⌝ }
 {
-    let at = Cursor { at: 5 + 2 * k };
-    let slot = at.two(b);
-    let first = Cursor {
-        at: 9 + 6 * darts + 2 * ((n as usize + 1) * k),
+    let at = Cursor {
+        at: 1 + 2 * w + w * k,
     };
-    let row = read_links(n, slot.value, b, first);
+    let slot = at.number(w, b);
+    let first = Cursor {
+        at: links_from(w, darts) + w + w * ((n as usize + 1) * k),
+    };
+    let row = read_links(w, n, slot.value, b, first);
     let last = Cursor {
-        at: 7 + 2 * darts + 4 * k,
+        at: tags_from(w, darts) + w + 4 * k,
     };
     let tag = last.four(b);
     let x = slot.value as usize;
@@ -88,16 +90,16 @@ fn enter(n: u32, slots: usize, table: &mut [u32], b: &[u8], darts: usize, k: usi
 }
 
 // The darts of a file in its form, entered into a table that is all zero.
-pub fn fill(n: u32, slots: usize, table: &mut [u32], b: &[u8], darts: usize)
-    requires { ⌜ (n ≡ 2) ⊎ (n ≡ 3) ⌝ }
+pub fn fill(w: usize, n: u32, slots: usize, table: &mut [u32], b: &[u8], darts: usize)
+    requires { ⌜ Kind w n ⌝ }
     requires { ⌜ (slots ≤ maxSlots) × (now table ≡ replicate (tableSize slots) 0) ⌝ }
-    requires { ⌜ Formed n slots (now b) ⌝ }
-    requires { ⌜ darts ≡ numberAt 2 (now b) 3 ⌝ }
-    ensures { λ _. ⌜ now (table .exit) ≡ tableOf (fileMap n slots (now (b .entry))) ⌝ }
+    requires { ⌜ Formed w n slots (now b) ⌝ }
+    requires { ⌜ darts ≡ dartsIn w (now b) ⌝ }
+    ensures { λ _. ⌜ now (table .exit) ≡ tableOf (mapIn w n slots (now (b .entry))) ⌝ }
 {
     let mut k = 0;
     while k < darts {
-        enter(n, slots, table, b, darts, k);
+        enter(w, n, slots, table, b, darts, k);
         k += 1;
     }
 }

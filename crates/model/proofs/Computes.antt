@@ -4,6 +4,7 @@ use Rattle.base.specs.Test.{_and_, _or_, _⇒_}
 use Rattle.base.specs.Below.{allBelow, anyBelow, countBelow}
 use Rattle.base.specs.First.{someIf, _orElse_, there, first, least, nthLowest}
 use Rattle.base.specs.Lists.{list, listFrom, joined}
+use Rattle.base.specs.Digits.{bytesOf, numberAt}
 use Rattle.model.specs.Map.{fieldAt, tableOf}
 use Rattle.model.specs.WellFormed as W
 use Rattle.model.specs.Reach.{next, rounds, paths}
@@ -28,7 +29,8 @@ unfolding _and_ _or_ _⇒_ someIf _orElse_ there allBelow anyBelow countBelow fi
     N.smallest N.reachedBelow N.cells N.sizesBelow N.allBut N.counts
     M.walk M.opposite M.image M.arcHolds M.eachPair M.onlyPair M.matches E.freed E.isFree E.leftWord E.afterDeletion E.freeSlot E.rank
     E.orbitSize E.addedDarts E.deletedDarts E.roomOf E.dartOf E.pairOf E.newLink E.newWord E.edited
-    F.liveDarts F.section F.file F.fileForm F.placeOf F.fileMap A.mapFault A.tableFault A.checkTable A.bytesFault A.checkScheme A.fitFault
+    bytesOf numberAt F.liveDarts F.section F.fileIn F.slotIn F.tagIn F.linkIn F.placeIn F.formIn F.mapIn F.fileMap
+    A.mapFault A.tableFault A.checkTable A.bytesFault A.checkScheme A.fitFault
     A.siteFault A.editFaultAt A.siteDone A.editFault A.editAnswer A.editTable A.editStore
     A.outputFaultAt A.countFault A.countAnswer A.countStore A.countOut A.loadFaultAt A.loadFault A.loadAnswer A.loaded A.loadTable
     A.writeFault A.writeAnswer A.writeOut

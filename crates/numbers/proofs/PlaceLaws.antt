@@ -2,6 +2,7 @@
 -- Assumes nothing.
 use Prim.Native.Nat.{ℕ, _+_, _*_, _/_, _%_, _^_, _≤_, _<_}
 use mathlib.Core.Path.{_≡_, refl, sym, ap, _∙_}
+use mathlib.Core.Logic.{inl, inr}
 use mathlib.Core.List.{List, _++_}
 use native.Mathlib.Nat.{mul-le-mul-left}
 use native.Mathlib.Omega.{arith}
@@ -11,10 +12,23 @@ use lib.Seq.{length-sets}
 use Rattle.base.specs.Digits.{bytesOf, numberAt}
 use Rattle.base.proofs.DigitLaws.{length-bytes, number-join, bytes-join}
 use Rattle.base.proofs.ListLaws.{sets-sets}
-use Rattle.numbers.specs.Places.{Taken, Put}
+use Rattle.numbers.specs.Places.{Width, Taken, Put}
 use Rattle.numbers.specs.declared.Number.{Number}
 
+-- ---- the width that is chosen
+
+pub four-wide : {w : ℕ} → Width w → (w ≡ 2 → ⊥) → w ≡ 4
+four-wide (inl e) ne = absurd (ne e)
+four-wide (inr e) ne = e
+
+pub wide-few : {w : ℕ} → Width w → (2 ≤ w) × (w ≤ 4)
+wide-few (inl e) = (omega arith, omega arith)
+wide-few (inr e) = (omega arith, omega arith)
+
 -- ---- read
+
+pub taken-wide : (w v : ℕ) (b : List ℕ) (at : ℕ) (r : Number) → w ≡ v → Taken v b at r → Taken w b at r
+taken-wide w v b at r e x = rw e x
 
 pub taken-one : (b : List ℕ) (at v : ℕ) → v ≡ getD b at 0 → v < 256 → Taken 1 b at (record { value = v; next = record { at = at + 1 } })
 unfolding numberAt
@@ -37,6 +51,9 @@ put-then l at a l' p b l'' q x y = record {
   bytes = rw (y .bytes, x .bytes, x .after) (sets-sets l at a b);
   after = rw (y .after, x .after, length-append a b) (omega arith);
 }
+
+pub put-wide : (w v : ℕ) (l : List ℕ) (at u : ℕ) (l' : List ℕ) (p : ℕ) → w ≡ v → Put l at (bytesOf v u) l' p → Put l at (bytesOf w u) l' p
+put-wide w v l at u l' p e x = rw e x
 
 pub put-length : (l : List ℕ) (at : ℕ) (vs l' : List ℕ) (q : ℕ) → Put l at vs l' q → length l' ≡ length l
 put-length l at vs l' q x = ap length (x .bytes) ∙ length-sets l at vs

@@ -2,11 +2,16 @@
 -- Assumes nothing.
 use Prim.Native.Nat.{ℕ, _+_, _^_, _<_}
 use mathlib.Core.Path.{_≡_}
+use mathlib.Core.Logic.{_⊎_}
 use mathlib.Core.List.{List}
 use lib.ListN.{length}
 use lib.Seq.{sets}
 use Rattle.base.specs.Digits.{numberAt}
 use Rattle.numbers.specs.declared.Number.{Number}
+
+-- the widths of numbers that are chosen as the program runs
+abbrev pub Width : ℕ → Type 0
+Width w = (w ≡ 2) ⊎ (w ≡ 4)
 
 -- r is the number in the `width` bytes of b from `at` on, and the place after them
 pub record Taken (width : ℕ) (b : List ℕ) (at : ℕ) (r : Number) : Type 0 where

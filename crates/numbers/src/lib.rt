@@ -3,7 +3,7 @@ ghost use mathlib.Core.Path.{_≡_};
 ghost use Prim.Native.Nat.{_+_, _≤_};
 ghost use lib.ListN.{length};
 ghost use Rattle.base.specs.Digits.{bytesOf};
-ghost use Rattle.numbers.specs.Places.{Taken, Put};
+ghost use Rattle.numbers.specs.Places.{Width, Taken, Put};
 
 pub struct Cursor {
     pub at: usize,
@@ -64,6 +64,18 @@ impl Cursor {
         }
     }
 
+    // The number in w bytes.
+    pub fn number(self, w: usize, b: &[u8]) -> Number
+        requires { ⌜ Width w ⌝ }
+        requires { ⌜ self .at + w ≤ length (now b) ⌝ }
+        ensures { λ r. ⌜ Taken w (now (b .entry)) (self .at) r ⌝ }
+    {
+        if w == 2 {
+            return self.two(b);
+        }
+        self.four(b)
+    }
+
     // The lowest byte of v.
     pub fn put_one(self, out: &mut [u8], v: u32) -> Cursor
         requires { ⌜ self .at + 1 ≤ length (now out) ⌝ }
@@ -90,5 +102,17 @@ impl Cursor {
     {
         let next = self.put_two(out, v);
         next.put_two(out, v / 65536)
+    }
+
+    // The lowest w bytes of v.
+    pub fn put(self, w: usize, out: &mut [u8], v: u32) -> Cursor
+        requires { ⌜ Width w ⌝ }
+        requires { ⌜ self .at + w ≤ length (now out) ⌝ }
+        ensures { λ r. ⌜ Put (now (out .entry)) (self .at) (bytesOf w v) (now (out .exit)) (r .at) ⌝ }
+    {
+        if w == 2 {
+            return self.put_two(out, v);
+        }
+        self.put_four(out, v)
     }
 }

@@ -16,7 +16,6 @@ use Rattle.base.specs.Digits.{numberAt}
 use Rattle.base.proofs.TestLaws.{impossible, and-of, and-no-left, and-no-right}
 use Rattle.model.specs.Answer.{number, answered}
 use Rattle.model.specs.Map.{tableSize, maxSlots}
-use Rattle.model.specs.File.{twoAt}
 use Rattle.model.specs.Calls.{sizesOk, checkTable, loadFaultAt, loadFault, loadAnswer, loadTable}
 use Rattle.model.specs.declared.Answer.{Answer}
 use Rattle.model.specs.declared.Answer.the-variants.{Done, Refused as refusal}
@@ -46,13 +45,9 @@ module _ (n N : ℕ) (t u b : List ℕ) (e : length t ≡ length u) where
 
 -- ---- n and N
 
-pub two-of : (b : List ℕ) (at v : ℕ) → v ≡ numberAt 2 b at → v ≡ twoAt b at
-unfolding numberAt
-two-of b at v e = rw e (omega arith)
-
 pub named-of : (f : List ℕ) (n N : ℕ) → 3 ≤ length f → n ≡ numberAt 1 f 0 → N ≡ numberAt 2 f 1 → Named f n N
 unfolding numberAt fileDimension fileSlots
-named-of f n N h e g = record { long = h; dimension = rw e (omega arith); slots = two-of f 1 N g }
+named-of f n N h e g = record { long = h; dimension = rw e (omega arith); slots = g }
 
 -- ---- the answer, case by case
 

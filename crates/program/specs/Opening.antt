@@ -7,9 +7,9 @@ use mathlib.Core.List.{List, _++_}
 use lib.ListN.{length, getD, take, drop, replicate}
 use lib.Dec.{eqb, leb}
 use Rattle.base.specs.Test.{_and_}
+use Rattle.base.specs.Digits.{numberAt}
 use Rattle.model.specs.Answer.{number}
 use Rattle.model.specs.Map.{tableSize, maxSlots}
-use Rattle.model.specs.File.{twoAt}
 use Rattle.model.specs.Calls.{checkTable, loadAnswer, loadTable}
 use Rattle.model.specs.declared.Answer.{Answer}
 use Rattle.model.specs.declared.Answer.the-variants.{Refused as refusal}
@@ -31,7 +31,7 @@ module _ (f : List ℕ) where
   fileDimension = getD f 0 0
 
   unfoldable pub fileSlots : ℕ
-  fileSlots = twoAt f 1
+  fileSlots = numberAt 2 f 1
 
   -- what a load into an empty table answers, and the table that it leaves
   unfoldable pub fileLoaded : Answer

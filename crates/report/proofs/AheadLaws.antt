@@ -9,8 +9,8 @@ use lib.ListN.{length}
 use lib.Dec.{leb}
 use borrow.Author.Tests.{le-leb, lt-leb, eq-eqb, ne-eqb}
 use Rattle.base.specs.Test.{_and_}
+use Rattle.base.specs.Digits.{numberAt}
 use Rattle.base.proofs.TestLaws.{and-of, and-no-left, and-no-right}
-use Rattle.model.specs.File.{twoAt}
 use Rattle.numbers.specs.Places.{Put}
 use Rattle.program.specs.Lines.{refusedLine}
 use Rattle.program.specs.Opening.{longestFile}
@@ -73,7 +73,7 @@ some-left : (left : ℕ) → (left ≡ 0 → ⊥) → left ≡ suc (left - 1)
 some-left left ne = omega arith
 
 module _ (left : ℕ) (some : left ≡ 0 → ⊥) (tail : List ℕ) where
-  state-left : stateAhead left tail ≡ cond (lengthAhead tail) (File (left - 1) (twoAt tail 0)) End
+  state-left : stateAhead left tail ≡ cond (lengthAhead tail) (File (left - 1) (numberAt 2 tail 0)) End
   unfolding stateAhead
   state-left = ap (λ (k : ℕ). stateAhead k tail) (some-left left some)
 
@@ -90,11 +90,11 @@ module _ (left : ℕ) (some : left ≡ 0 → ⊥) (tail : List ℕ) where
     unfolding lengthAhead
     ahead-missing h = no-length (and-no-left _ (lt-leb 2 (length tail) h))
 
-    module _ (long : ℕ) (is : long ≡ twoAt tail 0) where
+    module _ (long : ℕ) (is : long ≡ numberAt 2 tail 0) where
       -- it is above its limit
       pub ahead-long : longestFile < long → (r : Fed) (out′ : List ℕ) → RefusedAs sums out at r out′ → AheadAs left sums tail out at r out′
       unfolding lengthAhead
-      ahead-long h = no-length (and-no-right (leb 2 (length tail)) (lt-leb (twoAt tail 0) longestFile (rw is at h)))
+      ahead-long h = no-length (and-no-right (leb 2 (length tail)) (lt-leb (numberAt 2 tail 0) longestFile (rw is at h)))
 
       pub ahead-file : Room left sums → 2 ≤ length tail → long ≤ longestFile
           → AheadAs left sums tail out at (record { state = File (left - 1) long; sums = sums; printed = at }) out
@@ -107,8 +107,8 @@ module _ (left : ℕ) (some : left ≡ 0 → ⊥) (tail : List ℕ) where
         short = omega arith;
       }
         where
-          there : (leb 2 (length tail) and leb (twoAt tail 0) longestFile) ≡ true
-          there = and-of (le-leb 2 (length tail) two) (le-leb (twoAt tail 0) longestFile (rw is at h))
+          there : (leb 2 (length tail) and leb (numberAt 2 tail 0) longestFile) ≡ true
+          there = and-of (le-leb 2 (length tail) two) (le-leb (numberAt 2 tail 0) longestFile (rw is at h))
 
           some-more : left ≡ left - 1 + 1
           some-more = omega arith

@@ -8,8 +8,8 @@ use mathlib.Core.List.{List}
 use native.Mathlib.Omega.{arith}
 use lib.ListN.{length, drop}
 use lib.Dec.{leb}
+use Rattle.base.specs.Digits.{numberAt}
 use Rattle.base.proofs.TestLaws.{true-or-false}
-use Rattle.model.specs.File.{twoAt}
 use Rattle.program.specs.Opening.{longestFile}
 use Rattle.report.specs.Steps.{wants, lengthAhead, stateAhead, stateAfter}
 use Rattle.report.specs.Promises.{mostMaps, Room, Within, Ready, mostSteps, FedAs}
@@ -33,7 +33,7 @@ unfolding stateAhead
 few-ahead zero tail sums r = omega arith
 few-ahead (suc left) tail sums r = go (lengthAhead tail) r
   where
-    go : (t : Bool) → Ready (cond t (File left (twoAt tail 0)) End) sums → mostSteps (cond t (File left (twoAt tail 0)) End) ≤ mostMaps
+    go : (t : Bool) → Ready (cond t (File left (numberAt 2 tail 0)) End) sums → mostSteps (cond t (File left (numberAt 2 tail 0)) End) ≤ mostMaps
     go true r = few-maps (left + 1) sums (r .1)
     go false r = omega arith
 
@@ -41,8 +41,9 @@ fewer-after : (s : State) (p sums : List ℕ) → Ready (stateAfter s p) sums �
 unfolding stateAfter
 fewer-after Start p sums r ne = go (leb 2 (length p)) r
   where
-    go : (t : Bool) → Ready (cond t (stateAhead (twoAt p 0) (drop 2 p)) End) sums → mostSteps (cond t (stateAhead (twoAt p 0) (drop 2 p)) End) < mostMaps + 1
-    go true r = omega (arith, few-ahead (twoAt p 0) (drop 2 p) sums r)
+    go : (t : Bool) → Ready (cond t (stateAhead (numberAt 2 p 0) (drop 2 p)) End) sums
+        → mostSteps (cond t (stateAhead (numberAt 2 p 0) (drop 2 p)) End) < mostMaps + 1
+    go true r = omega (arith, few-ahead (numberAt 2 p 0) (drop 2 p) sums r)
     go false r = omega arith
 fewer-after (File left long) p sums r ne = go (leb long (length p))
   where

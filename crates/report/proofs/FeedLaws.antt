@@ -7,8 +7,8 @@ use native.Mathlib.Omega.{arith}
 use lib.ListN.{length, take, drop, length-replicate, length-drop}
 use lib.Seq.{take-all}
 use borrow.Author.Tests.{le-leb, lt-leb}
+use Rattle.base.specs.Digits.{numberAt}
 use Rattle.base.proofs.ListLaws.{getD-replicate-all}
-use Rattle.model.specs.File.{twoAt}
 use Rattle.model.specs.Calls.{countSize}
 use Rattle.numbers.proofs.PlaceLaws.{put-then}
 use Rattle.program.specs.Lines.{refusedLine}
@@ -57,12 +57,12 @@ module _ (sums p out : List ℕ) (r : Fed) (out′ : List ℕ) where
       let no = lt-leb 2 (length p) h in
       step-refused Start sums p out r out′ (rw no refl) (rw no refl) refl x
 
-  pub start-ahead : (maps : ℕ) (tail : List ℕ) → 2 ≤ length p → maps ≡ twoAt p 0 → tail ≡ drop 2 p → AheadAs maps sums tail out 0 r out′
+  pub start-ahead : (maps : ℕ) (tail : List ℕ) → 2 ≤ length p → maps ≡ numberAt 2 p 0 → tail ≡ drop 2 p → AheadAs maps sums tail out 0 r out′
       → FedAs Start sums p out r out′
   unfolding stateAfter linesAfter withFile
   start-ahead maps tail h e f x =
       let yes = le-leb 2 (length p) h in
-      let y : AheadAs (twoAt p 0) sums (drop 2 p) out 0 r out′ = rw (e, f) at x in
+      let y : AheadAs (numberAt 2 p 0) sums (drop 2 p) out 0 r out′ = rw (e, f) at x in
       record {
         state = rw yes (y .state);
         total = y .total;

@@ -11,9 +11,9 @@ use lib.Seq.{take-add, drop-at, length-take-le, take-take, drop-drop, getD-take,
 use lib.Dec.{eqb, leb}
 use borrow.Author.Tests.{le-leb, leb-true}
 use Rattle.base.specs.Test.{_and_}
+use Rattle.base.specs.Digits.{numberAt}
 use Rattle.base.proofs.TestLaws.{and-of, and-left, and-right, and-no-left, true-or-false, eqb-same, same-test}
 use Rattle.base.proofs.ListLaws.{sets-start}
-use Rattle.model.specs.File.{twoAt}
 use Rattle.numbers.specs.Places.{Put}
 use Rattle.program.specs.Lines.{refusedLine}
 use Rattle.program.specs.Opening.{longestFile}
@@ -39,8 +39,9 @@ piece-long k j b = same-test _ _
     (λ t. le-leb k _ (omega (arith, leb-true k _ t, length-take (k + j) b)))
 
 -- the number in its first two bytes is that of the input, also where they are missing
-two-start : (j : ℕ) (b : List ℕ) → twoAt (take (2 + j) b) 0 ≡ twoAt b 0
-two-start j b = ap₂ (λ (l h : ℕ). l + 256 * h) (getD-take (2 + j) b 0 0 (omega arith)) (getD-take (2 + j) b 1 0 (omega arith))
+two-start : (j : ℕ) (b : List ℕ) → numberAt 2 (take (2 + j) b) 0 ≡ numberAt 2 b 0
+unfolding numberAt
+two-start j b = ap₂ (λ (l h : ℕ). l + 256 * (h + 256 * 0)) (getD-take (2 + j) b 0 0 (omega arith)) (getD-take (2 + j) b 1 0 (omega arith))
 
 -- ---- the end
 
@@ -73,7 +74,7 @@ file-steps left k after long sums rest = ⊎-elim
     (true-or-false (leb long (length rest)))
 
 -- the length of the next map stands at the end of the piece before, or what there is of it
-length-tail : (rest : List ℕ) → lengthAhead (take 2 rest) ≡ (leb 2 (length rest) and leb (twoAt rest 0) longestFile)
+length-tail : (rest : List ℕ) → lengthAhead (take 2 rest) ≡ (leb 2 (length rest) and leb (numberAt 2 rest 0) longestFile)
 unfolding lengthAhead
 length-tail rest = rw (piece-long 2 0 rest, two-start 0 rest) refl
 
@@ -81,16 +82,16 @@ none-tail : (rest : List ℕ) → eqb (length (take 2 rest)) 0 ≡ eqb (length r
 none-tail rest = eqb-same (length (take 2 rest)) 0 (length rest) 0 (λ e. omega (arith, e, length-take 2 rest)) (λ e. omega (arith, e, length-take 2 rest))
 
 -- where the length is there, the file is whole just if as many bytes come after it
-whole-is : (rest : List ℕ) → (leb 2 (length rest) and leb (twoAt rest 0) longestFile) ≡ true → whole rest ≡ leb (twoAt rest 0) (length (drop 2 rest))
+whole-is : (rest : List ℕ) → (leb 2 (length rest) and leb (numberAt 2 rest 0) longestFile) ≡ true → whole rest ≡ leb (numberAt 2 rest 0) (length (drop 2 rest))
 unfolding whole
 whole-is rest t = same-test _ _
     (λ w.
-    let fits : 2 + twoAt rest 0 ≤ length rest = leb-true _ _ (and-right _ _ w) in
-    le-leb (twoAt rest 0) (length (drop 2 rest)) (omega (arith, length-drop 2 rest)))
+    let fits : 2 + numberAt 2 rest 0 ≤ length rest = leb-true _ _ (and-right _ _ w) in
+    le-leb (numberAt 2 rest 0) (length (drop 2 rest)) (omega (arith, length-drop 2 rest)))
     (λ w.
     let two : 2 ≤ length rest = leb-true _ _ (and-left _ _ t) in
-    let fits : twoAt rest 0 ≤ length (drop 2 rest) = leb-true _ _ w in
-    and-of t (le-leb (2 + twoAt rest 0) (length rest) (omega (arith, length-drop 2 rest))))
+    let fits : numberAt 2 rest 0 ≤ length (drop 2 rest) = leb-true _ _ w in
+    and-of t (le-leb (2 + numberAt 2 rest 0) (length rest) (omega (arith, length-drop 2 rest))))
 
 -- the steps print the maps that are left, and end the report
 ahead-steps : (left k : ℕ) → left ≤ k → (sums rest : List ℕ)
@@ -102,23 +103,23 @@ ahead-steps (suc left) zero h sums rest = absurd (omega arith)
 ahead-steps (suc left) (suc k) h sums rest = ⊎-elim
     (λ t.
     let there : lengthAhead (take 2 rest) ≡ true = length-tail rest ∙ t in
-    rw (there, two-start 0 rest, whole-is rest t, ← drop-drop (twoAt rest 0) 2 rest)
-    (file-steps left k (ahead-steps left k (omega arith)) (twoAt rest 0) sums (drop 2 rest)))
+    rw (there, two-start 0 rest, whole-is rest t, ← drop-drop (numberAt 2 rest 0) 2 rest)
+    (file-steps left k (ahead-steps left k (omega arith)) (numberAt 2 rest 0) sums (drop 2 rest)))
     (λ t.
     let missing : lengthAhead (take 2 rest) ≡ false = length-tail rest ∙ t in
-    rw (missing, and-no-left (leb (2 + twoAt rest 0) (length rest)) t) (last-steps (refusedLine 11) (suc k) sums (drop 2 rest)))
-    (true-or-false (leb 2 (length rest) and leb (twoAt rest 0) longestFile))
+    rw (missing, and-no-left (leb (2 + numberAt 2 rest 0) (length rest)) t) (last-steps (refusedLine 11) (suc k) sums (drop 2 rest)))
+    (true-or-false (leb 2 (length rest) and leb (numberAt 2 rest 0) longestFile))
 
 -- ---- all of the input
 
 -- one step for the number of maps and one for each map are enough, and more change nothing
-pub steps-report : (b : List ℕ) (k : ℕ) → twoAt b 0 < k → stepsFrom k Start none b ≡ reported b
+pub steps-report : (b : List ℕ) (k : ℕ) → numberAt 2 b 0 < k → stepsFrom k Start none b ≡ reported b
 unfolding stepsFrom linesAfter stateAfter withFile reported
 steps-report b zero h = absurd (omega arith)
 steps-report b (suc k) h = ⊎-elim
     (λ t.
     let there : leb 2 (length (take 4 b)) ≡ true = piece-long 2 2 b ∙ t in
-    rw (there, t, two-start 2 b, piece-rest 2 2 b (leb-true _ _ t), ← drop-drop 2 2 b) (ahead-steps (twoAt b 0) k (omega arith) none (drop 2 b)))
+    rw (there, t, two-start 2 b, piece-rest 2 2 b (leb-true _ _ t), ← drop-drop 2 2 b) (ahead-steps (numberAt 2 b 0) k (omega arith) none (drop 2 b)))
     (λ t.
     let missing : leb 2 (length (take 4 b)) ≡ false = piece-long 2 2 b ∙ t in
     rw (missing, t) (last-steps (refusedLine 11) k none (drop 4 b)))
@@ -153,4 +154,4 @@ run-steps {s} {sums} {b} (fed {out = out} room x rest) =
 pub run-report : {b l : List ℕ} → Run Start none b l → l ≡ reported b
 run-report {b} r =
     let x = run-steps r in
-    sym (x .1 (twoAt b 0 + 1)) ∙ steps-report b (x .0 + (twoAt b 0 + 1)) (omega arith)
+    sym (x .1 (numberAt 2 b 0 + 1)) ∙ steps-report b (x .0 + (numberAt 2 b 0 + 1)) (omega arith)

@@ -7,9 +7,9 @@ use lib.ListN.{length, getD, take, drop, replicate}
 use lib.Dec.{eqb, leb}
 use Rattle.base.specs.Test.{_and_}
 use Rattle.base.specs.Lists.{list}
+use Rattle.base.specs.Digits.{numberAt}
 use Rattle.model.specs.Answer.{number}
 use Rattle.model.specs.Map.{view}
-use Rattle.model.specs.File.{twoAt}
 use Rattle.model.specs.Count.{counts}
 use Rattle.model.specs.Calls.{countSize}
 use Rattle.program.specs.Lines.{decimal, space, lineFeed, refusedLine}
@@ -49,13 +49,13 @@ module _ (f : List ℕ) where
 module _ (b : List ℕ) where
   -- the input starts with a length within its limit, and that many bytes come after it
   unfoldable pub whole : Bool
-  whole = leb 2 (length b) and leb (twoAt b 0) longestFile and leb (2 + twoAt b 0) (length b)
+  whole = leb 2 (length b) and leb (numberAt 2 b 0) longestFile and leb (2 + numberAt 2 b 0) (length b)
 
   unfoldable pub firstFile : List ℕ
-  firstFile = take (twoAt b 0) (drop 2 b)
+  firstFile = take (numberAt 2 b 0) (drop 2 b)
 
   unfoldable pub behindFirst : List ℕ
-  behindFirst = drop (2 + twoAt b 0) b
+  behindFirst = drop (2 + numberAt 2 b 0) b
 
 -- what is printed for k maps, after which nothing may come, where `sums` are those of the maps before; a fault ends the report, and the lines
 -- before it stay
@@ -64,4 +64,4 @@ mapsFrom zero sums b = cond (eqb (length b) 0) (countLine sums) (refusedLine 11)
 mapsFrom (suc k) sums b = cond (whole b) (mapLine (firstFile b) ++ mapsFrom k (summed (firstFile b) sums) (behindFirst b)) (refusedLine 11)
 
 unfoldable pub reported : List ℕ → List ℕ
-reported b = cond (leb 2 (length b)) (mapsFrom (twoAt b 0) (replicate countSize 0) (drop 2 b)) (refusedLine 11)
+reported b = cond (leb 2 (length b)) (mapsFrom (numberAt 2 b 0) (replicate countSize 0) (drop 2 b)) (refusedLine 11)

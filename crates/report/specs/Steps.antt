@@ -7,7 +7,7 @@ use mathlib.Core.List.{List, [], _++_}
 use lib.ListN.{length, take, drop, replicate}
 use lib.Dec.{eqb, leb}
 use Rattle.base.specs.Test.{_and_}
-use Rattle.model.specs.File.{twoAt}
+use Rattle.base.specs.Digits.{numberAt}
 use Rattle.program.specs.Lines.{refusedLine}
 use Rattle.program.specs.Opening.{longestFile, fileSlots, openTable}
 use Rattle.report.specs.Report.{countLine, accepted, mapLine, summed}
@@ -24,11 +24,11 @@ wants End = 0
 
 -- the length of the next map is there, and within its limit
 unfoldable pub lengthAhead : List ℕ → Bool
-lengthAhead tail = leb 2 (length tail) and leb (twoAt tail 0) longestFile
+lengthAhead tail = leb 2 (length tail) and leb (numberAt 2 tail 0) longestFile
 
 unfoldable pub stateAhead : ℕ → List ℕ → State
 stateAhead zero tail = End
-stateAhead (suc left) tail = cond (lengthAhead tail) (File left (twoAt tail 0)) End
+stateAhead (suc left) tail = cond (lengthAhead tail) (File left (numberAt 2 tail 0)) End
 
 unfoldable pub linesAhead : ℕ → List ℕ → List ℕ → List ℕ
 linesAhead zero sums tail = cond (eqb (length tail) 0) (countLine sums) (refusedLine 11)
@@ -37,13 +37,13 @@ linesAhead (suc left) sums tail = cond (lengthAhead tail) [] (refusedLine 11)
 -- ---- a step, with the piece p of the input that was got
 
 unfoldable pub stateAfter : State → List ℕ → State
-stateAfter Start p = cond (leb 2 (length p)) (stateAhead (twoAt p 0) (drop 2 p)) End
+stateAfter Start p = cond (leb 2 (length p)) (stateAhead (numberAt 2 p 0) (drop 2 p)) End
 stateAfter (File left long) p = cond (leb long (length p)) (stateAhead left (drop long p)) End
 stateAfter End p = End
 
 -- what the step prints, where `sums` are those of the maps before it
 unfoldable pub linesAfter : State → List ℕ → List ℕ → List ℕ
-linesAfter Start p sums = cond (leb 2 (length p)) (linesAhead (twoAt p 0) sums (drop 2 p)) (refusedLine 11)
+linesAfter Start p sums = cond (leb 2 (length p)) (linesAhead (numberAt 2 p 0) sums (drop 2 p)) (refusedLine 11)
 linesAfter (File left long) p sums = cond (leb long (length p))
     (mapLine (take long p) ++ linesAhead left (summed (take long p) sums) (drop long p)) (refusedLine 11)
 linesAfter End p sums = []

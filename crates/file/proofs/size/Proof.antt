@@ -1,33 +1,21 @@
 -- `file::size` meets its contract.
 -- Assumes nothing.
 use Prim.Native.Nat.{_+_, _*_, _≤_}
+use mathlib.Core.Logic.{inl}
 use mathlib.Core.Path.{refl}
 use native.Mathlib.Nat.{mul-le-mul}
 use native.Mathlib.Omega.{arith}
-use borrow.Author.Needs.{needs}
 use Rattle.file.proofs.size.Statement.{statement}
 use Rattle.file.proofs.size.Tie as tie
 
-few : (c : tie.Start) → c .args .darts * (6 + 2 * (c .args .n + 1)) ≤ 65535 * 14
-few c = let r : 6 + 2 * (c .args .n + 1) ≤ 14 = omega (arith, c .pre .0) in mul-le-mul (c .pre .1) r
-
-add-result : tie.Need-add-result
-add-result c = search needs
-
-mul-result : tie.Need-mul-result
-mul-result c = search needs
-
-add-result-2 : tie.Need-add-result-2
-add-result-2 c = search needs
-
-mul-result-2 : tie.Need-mul-result-2
-mul-result-2 c = omega (arith, few c)
-
-add-result-3 : tie.Need-add-result-3
-add-result-3 c = omega (arith, few c)
+size-in-requires : tie.Need-size-in-requires
+size-in-requires c κs = (inl refl, c .pre .0, omega (arith, c .pre .1))
 
 returns : tie.Need-returns
-returns c = (refl, omega (arith, few c))
+returns c =
+    let a = c .before .pre in
+    let r : 6 + 2 * (c .before .args .n + 1) ≤ 14 = omega (arith, a .0) in
+    (c .size-in .ensures, rw (c .size-in .ensures) (omega (arith, mul-le-mul (a .1) r)))
 
 pub size-spec : {M : Type 1} → statement M
-size-spec = tie.close (tie.spec add-result mul-result add-result-2 mul-result-2 add-result-3 returns)
+size-spec = tie.close (tie.spec size-in-requires returns)

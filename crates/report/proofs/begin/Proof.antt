@@ -4,7 +4,6 @@ use Prim.Native.Nat.{_≤_}
 use native.Mathlib.Omega.{arith}
 use borrow.Author.Needs.{needs}
 use denote.Ref.{now}
-use Rattle.program.proofs.OpeningLaws.{two-of}
 use Rattle.report.specs.Promises.{mostMaps}
 use Rattle.report.proofs.FeedLaws.{behind, room-none, start-short, start-ahead}
 use Rattle.report.proofs.begin.Statement.{statement}
@@ -24,7 +23,8 @@ returns-2 : tie.Need-returns-2
 returns-2 c =
     let a = c .before .before in
     let w = a .before .before .before .before in
-    start-ahead _ _ _ _ _ _ _ (w .before .if1 .left) (two-of _ _ _ (w .two .ensures .value)) (behind (now (w .before .before .before .before .args .piece)) 2) (a .ahead .ensures)
+    start-ahead _ _ _ _ _ _ _ (w .before .if1 .left) (w .two .ensures .value)
+    (behind (now (w .before .before .before .before .args .piece)) 2) (a .ahead .ensures)
 
 pub begin-spec : {M : Type 1} → statement M
 begin-spec =

@@ -9,7 +9,7 @@ use borrow.Author.Needs.{needs}
 use denote.Ref.{now}
 use Rattle.program.specs.Opening.{longestFile}
 use Rattle.bench.specs.Bench.{framed, longestScheme, mostDarts}
-use Rattle.bench.proofs.FramingLaws.{count-of, fault}
+use Rattle.bench.proofs.FramingLaws.{fault}
 use Rattle.bench.proofs.framing.frame.Statement.{statement}
 use Rattle.bench.proofs.framing.frame.Tie as tie
 
@@ -20,8 +20,8 @@ ended : (c : tie.After-two3) → let second = c .before .before .before in let f
     → framed (now (first .before .before .before .args .input)) ≡ false
 ended c f =
     let second = c .before .before .before in
-    fault _ _ _ _ (count-of _ _ _ (second .before .before .before .two .ensures .value)) (count-of _ _ _ (second .two2 .ensures .value))
-    (count-of _ _ _ (c .two3 .ensures .value)) f
+    fault _ _ _ _ (second .before .before .before .two .ensures .value) (second .two2 .ensures .value)
+    (c .two3 .ensures .value) f
 
 returns : tie.Need-returns
 returns c = fault (now (c .before .before .args .input)) _ _ _ refl refl refl (λ x y z w. absurd (omega arith))
@@ -36,7 +36,7 @@ cast-map : tie.Need-cast-map
 cast-map c = search needs
 
 returns-2 : tie.Need-returns-2
-returns-2 c = fault _ _ _ _ (count-of _ _ _ (c .before .before .two .ensures .value)) refl refl (λ x y z w. absurd (omega arith))
+returns-2 c = fault _ _ _ _ (c .before .before .two .ensures .value) refl refl (λ x y z w. absurd (omega arith))
 
 add-if3 : tie.Need-add-if3
 add-if3 c = search needs
@@ -50,7 +50,7 @@ cast-scheme c = search needs
 returns-3 : tie.Need-returns-3
 returns-3 c =
     let second = c .before .before in
-    fault _ _ _ _ (count-of _ _ _ (second .before .before .before .two .ensures .value)) (count-of _ _ _ (second .two2 .ensures .value)) refl
+    fault _ _ _ _ (second .before .before .before .two .ensures .value) (second .two2 .ensures .value) refl
     (λ x y z w. absurd (omega arith))
 
 add-if4 : tie.Need-add-if4
@@ -88,9 +88,9 @@ returns-8 c =
     let third = c .before .before .before .before .before in
     let second = third .before .before .before in
     record {
-      map = count-of _ _ _ (second .before .before .before .two .ensures .value);
-      scheme = count-of _ _ _ (second .two2 .ensures .value);
-      darts = count-of _ _ _ (third .two3 .ensures .value);
+      map = second .before .before .before .two .ensures .value;
+      scheme = second .two2 .ensures .value;
+      darts = third .two3 .ensures .value;
       mapFits = omega arith;
       schemeFits = omega arith;
       dartsFit = omega arith;

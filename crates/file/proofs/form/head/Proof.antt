@@ -15,8 +15,8 @@ returns : tie.Need-returns
 unfolding headOk
 returns c = pair-no _ _ _ _ (c .before .before .one .ensures .value) (c .if1 .taken)
 
-two-requires : tie.Need-two-requires
-two-requires c κs = search needs
+number-requires : tie.Need-number-requires
+number-requires c κs = search needs
 
 cast-result : tie.Need-cast-result
 cast-result c = search needs
@@ -25,8 +25,8 @@ returns-2 : tie.Need-returns-2
 unfolding headOk
 returns-2 c =
     let l = c .before .before .before in
-    let second = c .before .two .ensures in
-    pair-is _ _ _ _ _ _ (l .before .before .one .ensures .value) (l .if1 .left) (second .value ∙ ap (numberAt 2 _) (l .before .before .one .ensures .next))
+    let second = c .before .number .ensures in
+    pair-is _ _ _ _ _ _ (l .before .before .one .ensures .value) (l .if1 .left) (second .value ∙ ap (numberAt _ _) (l .before .before .one .ensures .next))
 
 pub head-spec : {M : Type 1} → statement M
-head-spec = tie.close (tie.spec one-requires returns two-requires cast-result returns-2)
+head-spec = tie.close (tie.spec one-requires returns number-requires cast-result returns-2)

@@ -1,7 +1,7 @@
 -- `file::records::put_links` meets its contract.
 -- Assumes nothing.
-use borrow.Author.Needs.{needs}
 use Rattle.file.proofs.RecordLaws.{links-put}
+use borrow.Author.Needs.{needs}
 use Rattle.file.proofs.records.put_links.Statement.{statement}
 use Rattle.file.proofs.records.put_links.Tie as tie
 

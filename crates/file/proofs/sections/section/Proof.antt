@@ -15,25 +15,21 @@ use Rattle.file.proofs.sections.section.Statement.{statement}
 use Rattle.file.proofs.sections.section.Tie as tie
 
 abbrev Inv-loop : tie.InvT-loop
-Inv-loop part n slots table live out₀ at₀ x₀ out at x =
-    (x ≤ slots) × Put out₀ (at₀ .at) (dartsBytes n (view slots table) part x) out (at .at)
+Inv-loop part w n slots table live out₀ at₀ x₀ out at x = (x ≤ slots) × Put out₀ (at₀ .at) (dartsBytes w n (view slots table) part x) out (at .at)
 
 abbrev μ-loop : tie.MeasureT-loop
-μ-loop part n slots table live out₀ at₀ x₀ out at x = slots - x
+μ-loop part w n slots table live out₀ at₀ x₀ out at x = slots - x
 
-cast-put-two : tie.Need-cast-put-two Inv-loop μ-loop
-cast-put-two c =
+cast-put : tie.Need-cast-put Inv-loop μ-loop
+cast-put c =
     let a = c .before .before .before in
     omega (arith, few-live (a .args .n) (view (a .args .slots) (now (a .args .table))) _ (a .pre .1 .1 .0))
 
-put-two-requires : tie.Need-put-two-requires Inv-loop μ-loop
-put-two-requires c κs = omega arith
+put-requires : tie.Need-put-requires Inv-loop μ-loop
+put-requires c κs = let a = c .before .before .before in (a .pre .0 .width, omega arith)
 
 loop-holds : tie.Need-loop-holds Inv-loop μ-loop
-loop-holds c = (omega arith, darts-none _ _ _ _ _)
-
-state-requires : tie.Need-state-requires Inv-loop μ-loop
-state-requires c κs = search needs
+loop-holds c = (omega arith, darts-none _ _ _ _ _ _)
 
 dart-requires : tie.Need-dart-requires Inv-loop μ-loop
 dart-requires c κs =
@@ -46,8 +42,8 @@ dart-requires c κs =
         a .pre .1 .0,
         (
           s .before .loop-test .taken,
-          darts-room _ _ _ _ _ _ _ _ (l .loop .inv .1) _ (s .state .ensures) (c .before .if1 .taken)
-              (s .before .loop-test .taken) _ (a .pre .1 .1 .0) (put-room 2 _ _ _ _ _ (put .put-two .ensures) _ (omega arith)),
+          darts-room _ _ _ _ _ _ _ _ _ (l .loop .inv .1) _ (s .state .ensures) (c .before .if1 .taken)
+              (s .before .loop-test .taken) _ (a .pre .1 .1 .0) (put-room _ _ _ _ _ _ (put .put .ensures) _ (omega arith)),
         ),
       ),
     )
@@ -63,21 +59,21 @@ loop-again c =
     let s = c .before in
     let inv = s .before .before .loop .inv in
     ⊎-elim
-    (λ w. (omega arith, rw (w .5, w .6) (darts-live _ _ _ _ _ _ _ _ (inv .1) _ (s .state .ensures) (w .0 .taken) _ _ (w .2 .ensures))))
-    (λ w. (omega arith, rw (w .1, w .2) (darts-dead _ _ _ _ _ _ _ _ (inv .1) _ (s .state .ensures) (w .0 .left))))
+    (λ y. (omega arith, rw (y .5, y .6) (darts-live _ _ _ _ _ _ _ _ _ (inv .1) _ (s .state .ensures) (y .0 .taken) _ _ (y .2 .ensures))))
+    (λ y. (omega arith, rw (y .1, y .2) (darts-dead _ _ _ _ _ _ _ _ _ (inv .1) _ (s .state .ensures) (y .0 .left))))
     (c .if1 .came)
 
 same-length : tie.Need-same-length Inv-loop μ-loop
-same-length c = let l = c .before in put-length _ _ _ _ _ (l .loop .inv .1) ∙ put-length _ _ _ _ _ (l .before .before .before .put-two .ensures)
+same-length c = let l = c .before in put-length _ _ _ _ _ (l .loop .inv .1) ∙ put-length _ _ _ _ _ (l .before .before .before .put .ensures)
 
 returns : tie.Need-returns Inv-loop μ-loop
 returns c =
     let l = c .before in
     let put = l .before .before .before in
     let a = put .before .before .before .before in
-    darts-all _ _ _ _ _ _ _ _ _ _ _ (a .pre .1 .1 .0) (omega arith) (put .put-two .ensures) (l .loop .inv .1)
+    darts-all _ _ _ _ _ _ _ _ _ _ _ _ (a .pre .1 .1 .0) (omega arith) (put .put .ensures) (l .loop .inv .1)
 
 pub section-spec : {M : Type 1} → statement M
 section-spec =
-    tie.close (tie.spec Inv-loop μ-loop cast-put-two put-two-requires loop-holds state-requires dart-requires add-x loop-less loop-again
+    tie.close (tie.spec Inv-loop μ-loop cast-put put-requires loop-holds (λ c κs. search needs) dart-requires add-x loop-less loop-again
     same-length returns)

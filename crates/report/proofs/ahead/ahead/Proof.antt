@@ -6,9 +6,8 @@ use native.Mathlib.Omega.{arith}
 use lib.ListN.{length}
 use borrow.Author.Needs.{needs}
 use denote.Ref.{now}
-use Rattle.model.specs.File.{twoAt}
+use Rattle.base.specs.Digits.{numberAt}
 use Rattle.program.specs.Opening.{longestFile}
-use Rattle.program.proofs.OpeningLaws.{two-of}
 use Rattle.report.proofs.AheadLaws.{none-left, room-left, ahead-missing, ahead-long, ahead-file}
 use Rattle.report.proofs.ahead.ahead.Statement.{statement}
 use Rattle.report.proofs.ahead.ahead.Tie as tie
@@ -27,8 +26,8 @@ returns-2 c =
     ahead-missing _ (t .before .if1 .left) _ _ _ _ short _ _ (r .refuse .ensures)
 
 -- the length that was read
-long-is : (c : tie.After-two) → c .two .result .value ≡ twoAt (now (c .before .before .before .before .before .args .tail)) 0
-long-is c = two-of _ _ _ (c .two .ensures .value)
+long-is : (c : tie.After-two) → c .two .result .value ≡ numberAt 2 (now (c .before .before .before .before .before .args .tail)) 0
+long-is c = c .two .ensures .value
 
 returns-3 : tie.Need-returns-3
 returns-3 c =
