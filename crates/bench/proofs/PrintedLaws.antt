@@ -12,9 +12,9 @@ use Rattle.base.specs.Below.{countBelow}
 use Rattle.base.proofs.BelowLaws.{count-le}
 use Rattle.base.proofs.ListLaws.{sets-start}
 use Rattle.model.specs.Answer.{number}
-use Rattle.model.specs.Map.{view, live, unused, maxSlots}
+use Rattle.model.specs.Map.{view, live, unused}
 use Rattle.program.specs.Lines.{refusedLine}
-use Rattle.program.specs.Opening.{MapOpen}
+use Rattle.program.specs.Opening.{mostSlots, MapOpen}
 use Rattle.program.proofs.LineLaws.{refused-few}
 use Rattle.bench.specs.Bench.{mostDarts, lastLine, mapBytes, framed, mapSlots, mapAnswer, tableAfter, runLines, printed}
 use Rattle.numbers.specs.Places.{Put}
@@ -60,7 +60,7 @@ module _ (b : List ℕ) (l : Layout) (laid : Laid b l) where
 -- ---- written
 
 -- as many as are counted are few
-pub tally-few : (N : ℕ) (p : ℕ → Bool) (x : ℕ) → x ≡ countBelow N p → N ≤ maxSlots → x ≤ maxSlots
+pub tally-few : (N : ℕ) (p : ℕ → Bool) (x : ℕ) → x ≡ countBelow N p → N ≤ mostSlots → x ≤ mostSlots
 tally-few N p x e h = omega (arith, e, count-le N p)
 
 pub edits-room : (b : List ℕ) (l : Layout) (out : List ℕ) → Laid b l → longest ≤ length out → 23 * l .darts ≤ length out
@@ -73,11 +73,11 @@ module _ (b out : List ℕ) where
   pub refused-room : (k : ℕ) → k < 100 → longest ≤ length out → 0 + length (refusedLine k) ≤ length out
   refused-room k h room = omega (arith, refused-few k h, room)
 
-  pub last-room : (at darts x y : ℕ) → at ≤ 23 * darts → darts ≤ mostDarts → x ≤ maxSlots → y ≤ maxSlots → longest ≤ length out
+  pub last-room : (at darts x y : ℕ) → at ≤ 23 * darts → darts ≤ mostDarts → x ≤ mostSlots → y ≤ mostSlots → longest ≤ length out
       → at + length (lastLine x y) ≤ length out
   last-room at darts x y h k u w room = omega (arith, last-few x y u w, room)
 
-  pub wrote-run : (lines out₁ : List ℕ) (at darts x y : ℕ) (out′ : List ℕ) (r : ℕ) → at ≤ 23 * darts → darts ≤ mostDarts → x ≤ maxSlots → y ≤ maxSlots
+  pub wrote-run : (lines out₁ : List ℕ) (at darts x y : ℕ) (out′ : List ℕ) (r : ℕ) → at ≤ 23 * darts → darts ≤ mostDarts → x ≤ mostSlots → y ≤ mostSlots
       → printed b ≡ lines ++ lastLine x y → Put out 0 lines out₁ at → Put out₁ at (lastLine x y) out′ r → Wrote b out r out′
   wrote-run lines out₁ at darts x y out′ r h k u w e p q = record {
     bytes = rw e (put-then _ _ _ _ _ _ _ _ p q);

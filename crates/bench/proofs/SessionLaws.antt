@@ -15,7 +15,7 @@ use Rattle.base.specs.Lists.{joined}
 use Rattle.base.specs.Digits.{numberAt}
 use Rattle.base.proofs.BelowLaws.{count-step}
 use Rattle.base.proofs.ListLaws.{joined-step}
-use Rattle.model.specs.Map.{tableSize, maxSlots}
+use Rattle.model.specs.Map.{tableSize}
 use Rattle.model.specs.Calls.{zeros, sizesOk, editAnswer, editTable, editStore}
 use Rattle.bench.specs.Bench.{mapLength, schemeLength, dartLine, dartAt, answerAt, mapBytes, schemeBytes, mapDimension, mapSlots}
 use Rattle.bench.specs.Bench.{tableAfter}
@@ -26,7 +26,7 @@ use Rattle.demands.proofs.OneOutcome.{answer-of, table-of, store-of}
 use Rattle.numbers.specs.Places.{Put}
 use Rattle.numbers.proofs.PlaceLaws.{put-then}
 use Rattle.demands.specs.Promises.{MapEdited}
-use Rattle.program.specs.Opening.{openTable, MapOpen}
+use Rattle.program.specs.Opening.{mostSlots, openTable, MapOpen}
 use Rattle.program.proofs.OpeningLaws.{open-long, open-words}
 use Rattle.bench.specs.Input.{Laid}
 use Rattle.bench.specs.Session.{Stands, dartLines}
@@ -72,7 +72,7 @@ module _ (b : List ℕ) (n N : ℕ) (m : MapOpen (mapBytes b) n N) where
   stands-long t s x = ap length (x .table) ∙ open-long (mapBytes b) n N m
 
   -- the start of a table that a file was opened in, and a store that is empty
-  pub stands-open : (f t u s : List ℕ) (w : ℕ) → f ≡ mapBytes b → length t ≡ tableSize maxSlots → u ≡ openTable f t → w ≡ tableSize N
+  pub stands-open : (f t u s : List ℕ) (w : ℕ) → f ≡ mapBytes b → length t ≡ tableSize mostSlots → u ≡ openTable f t → w ≡ tableSize N
       → s ≡ replicate (16 * N) 0 → Stands b N 0 (take w u) s
   unfolding tableAfter
   stands-open f t u s w e long g h store = record {
@@ -122,7 +122,7 @@ module _ (b : List ℕ) (l : Layout) (laid : Laid b l) (n N : ℕ) (m : MapOpen 
 
   module _ (a : Answer) (edit : a ≡ editAnswer n N t s (schemeBytes b) (One v)) (small : v < 65536) where
     line-few : length (dartLine v a) ≤ 23
-    line-few = rw edit (line-short n N t s (schemeBytes b) v (omega arith))
+    line-few = rw edit (line-short n N (m .few) t s (schemeBytes b) v (omega arith))
 
     -- there is room for the line
     pub line-room : k < l .darts → 23 * l .darts ≤ length out → at + length (dartLine v a) ≤ length out

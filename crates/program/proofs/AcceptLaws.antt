@@ -1,4 +1,5 @@
--- The refusals of a map file that is opened: 11 where it names no n and N, and then, by its load and the check, 1, 11 and 7 in this order.
+-- The refusals of a map file that is opened: 11 where it names no n and N, 1 where the programs do not take its N, and then, by its load and the
+-- check, 1, 11 and 7 in this order.
 -- Assumes nothing.
 use Prim.Native.Nat.{ℕ}
 use mathlib.Core.Path.{_≡_, refl, ap, _∙_}
@@ -17,7 +18,7 @@ use Rattle.model.specs.declared.Answer.the-variants.{Done, Refused}
 use Rattle.model.specs.declared.Refusal.the-variants.{BadCall, BadTable, BadFile}
 use Rattle.model.proofs.AlikeLaws.{words-formed}
 use Rattle.model.proofs.HoldsLaws.{dimension-small, load-table, load-slotted}
-use Rattle.program.specs.Opening.{emptyTable, fileDimension, fileSlots, fileLoaded, fileTable, openAnswer}
+use Rattle.program.specs.Opening.{mostSlots, emptyTable, fileDimension, fileSlots, fileLoaded, fileTable, openAnswer}
 
 -- the first of three refusals
 abbrev firstOf : Bool → Bool → Bool → Answer
@@ -55,13 +56,15 @@ module _ (f : List ℕ) where
   taken-refusals = composed (sizesOk n N (emptyTable N)) (fileForm n N f) (wellFormed n (fileMap n N f)) _ (check-loaded n N (emptyTable N) f)
 
   -- written out, to be read beside the order of the rules
-  pub open-refusals : openAnswer f ≡ answered Done (someIf (not (leb 3 (length f))) BadFile orElse someIf (not (sizesOk n N (emptyTable N))) BadCall
-      orElse someIf (not (fileForm n N f)) BadFile orElse someIf (not (wellFormed n (fileMap n N f))) BadTable)
+  pub open-refusals : openAnswer f ≡ answered Done (someIf (not (leb 3 (length f))) BadFile orElse someIf (not (leb N mostSlots)) BadCall
+      orElse someIf (not (sizesOk n N (emptyTable N))) BadCall orElse someIf (not (fileForm n N f)) BadFile
+      orElse someIf (not (wellFormed n (fileMap n N f))) BadTable)
   unfolding openAnswer someIf _orElse_
-  open-refusals = go (leb 3 (length f))
+  open-refusals = go (leb 3 (length f)) (leb N mostSlots)
     where
-      go : (long : Bool) → cond long (cond (eqb (number (fileLoaded f)) 0) (checkTable n N (fileTable f)) (fileLoaded f)) (Refused BadFile)
-          ≡ answered Done (someIf (not long) BadFile orElse someIf (not (sizesOk n N (emptyTable N))) BadCall
+      go : (long few : Bool) → cond long (cond few (cond (eqb (number (fileLoaded f)) 0) (checkTable n N (fileTable f)) (fileLoaded f)) (Refused BadCall)) (Refused BadFile)
+          ≡ answered Done (someIf (not long) BadFile orElse someIf (not few) BadCall orElse someIf (not (sizesOk n N (emptyTable N))) BadCall
           orElse someIf (not (fileForm n N f)) BadFile orElse someIf (not (wellFormed n (fileMap n N f))) BadTable)
-      go true = taken-refusals
-      go false = refl
+      go true true = taken-refusals
+      go true false = refl
+      go false few = refl

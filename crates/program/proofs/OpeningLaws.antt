@@ -10,23 +10,21 @@ use native.Mathlib.Omega.{arith}
 use lib.Dec.{eqb, leb}
 use lib.ListN.{length, take, drop, length-replicate}
 use lib.Seq.{length-take-le, take-at}
-use borrow.Author.Tests.{le-leb, lt-leb, eq-eqb, ne-eqb, eqb-false}
+use borrow.Author.Tests.{le-leb, lt-leb, leb-true, eq-eqb, ne-eqb, eqb-false}
 use Rattle.base.specs.Test.{_and_, _or_}
 use Rattle.base.specs.Digits.{numberAt}
-use Rattle.base.proofs.TestLaws.{impossible, and-of, and-no-left, and-no-right}
+use Rattle.base.proofs.TestLaws.{and-of, and-no-left, and-no-right}
 use Rattle.model.specs.Answer.{number, answered}
 use Rattle.model.specs.Map.{tableSize, maxSlots}
-use Rattle.model.specs.Calls.{sizesOk, checkTable, loadFaultAt, loadFault, loadAnswer, loadTable}
+use Rattle.model.specs.Calls.{checkTable, loadFaultAt, loadFault, loadAnswer, loadTable}
 use Rattle.model.specs.declared.Answer.{Answer}
 use Rattle.model.specs.declared.Answer.the-variants.{Done, Refused as refusal}
-use Rattle.model.specs.declared.Refusal.the-variants.{BadFile}
+use Rattle.model.specs.declared.Refusal.the-variants.{BadCall, BadFile}
 use Rattle.model.proofs.HoldsLaws.{table-length, load-slotted}
-use Rattle.model.proofs.SizeLaws.{sizes-iff}
 use Rattle.demands.specs.Promises.{TableChecked, FileLoaded}
 use Rattle.demands.proofs.OneOutcome.{answer-of, table-of}
 use Rattle.demands.proofs.RefusalLaws.{load-done}
-use Rattle.kernel.proofs.FileCallLaws.{load-1}
-use Rattle.program.specs.Opening.{emptyTable, fileDimension, fileSlots, fileLoaded, fileTable, openAnswer, openTable}
+use Rattle.program.specs.Opening.{mostSlots, emptyTable, fileDimension, fileSlots, fileLoaded, fileTable, openAnswer, openTable}
 use Rattle.program.specs.Opening.{Named, MapOpen, OpenedAs}
 use Rattle.program.specs.declared.opening.Opened.{Opened}
 use Rattle.program.specs.declared.opening.Opened.the-variants.{Map, Refused}
@@ -56,15 +54,15 @@ module _ (f : List ℕ) where
   unfolding openAnswer
   short-answer h = rw (lt-leb 3 (length f) h) refl
 
-  module _ (long : 3 ≤ length f) where
+  module _ (long : 3 ≤ length f) (few : fileSlots f ≤ mostSlots) where
     -- a map that is not loaded is not checked
     refused-answer : (number (fileLoaded f) ≡ 0 → ⊥) → openAnswer f ≡ fileLoaded f
     unfolding openAnswer
-    refused-answer ne = rw (le-leb 3 (length f) long, ne-eqb _ _ ne) refl
+    refused-answer ne = rw (le-leb 3 (length f) long, le-leb (fileSlots f) mostSlots few, ne-eqb _ _ ne) refl
 
     checked-answer : number (fileLoaded f) ≡ 0 → openAnswer f ≡ checkTable (fileDimension f) (fileSlots f) (fileTable f)
     unfolding openAnswer
-    checked-answer z = rw (le-leb 3 (length f) long, eq-eqb _ _ z) refl
+    checked-answer z = rw (le-leb 3 (length f) long, le-leb (fileSlots f) mostSlots few, eq-eqb _ _ z) refl
 
 module _ (f : List ℕ) (n N : ℕ) (named : Named f n N) where
   -- ---- the map is loaded in a table for its slots, and checked
@@ -85,12 +83,15 @@ module _ (f : List ℕ) (n N : ℕ) (named : Named f n N) where
         table-as n N t (emptyTable N) f blank-long (ap number load-file ∙ z)
         ∙ ap₂ (λ (i j : ℕ). loadTable i j (emptyTable j) f) (named .dimension) (named .slots)
 
-    module _ (r : Answer) (t′ : List ℕ) (x : FileLoaded n N t f r t′) (k : ℕ) (e : k ≡ number r) where
+    module _ (few : N ≤ mostSlots) (r : Answer) (t′ : List ℕ) (x : FileLoaded n N t f r t′) (k : ℕ) (e : k ≡ number r) where
+      few-file : fileSlots f ≤ mostSlots
+      few-file = rw (← named .slots) few
+
       number-file : k ≡ number (fileLoaded f)
       number-file = e ∙ ap number (answer-of x ∙ load-file)
 
       pub load-refused : (k ≡ 0 → ⊥) → k ≡ number (openAnswer f)
-      load-refused ne = number-file ∙ ap number (sym (refused-answer f (named .long) (λ z. ne (number-file ∙ z))))
+      load-refused ne = number-file ∙ ap number (sym (refused-answer f (named .long) few-file (λ z. ne (number-file ∙ z))))
 
       pub load-checked : (c : Answer) (j : ℕ) → k ≡ 0 → TableChecked n N t′ c → j ≡ number c → j ≡ number (openAnswer f)
       load-checked c j z y g =
@@ -98,53 +99,63 @@ module _ (f : List ℕ) (n N : ℕ) (named : Named f n N) where
           let checked : checkTable n N t′ ≡ checkTable (fileDimension f) (fileSlots f) (fileTable f) =
           ap (checkTable n N) (table-of x ∙ table-file zero)
           ∙ ap₂ (λ (i j : ℕ). checkTable i j (fileTable f)) (named .dimension) (named .slots) in
-          g ∙ ap number (answer-of y ∙ checked ∙ sym (checked-answer f (named .long) zero))
+          g ∙ ap number (answer-of y ∙ checked ∙ sym (checked-answer f (named .long) few-file zero))
 
   -- ---- the table
 
   -- more slots than a table has
-  pub many-answer : maxSlots < N → 1 ≡ number (openAnswer f)
-  unfolding fileLoaded
+  pub many-answer : mostSlots < N → 1 ≡ number (openAnswer f)
+  unfolding openAnswer
   many-answer h =
-      let i = fileDimension f in
-      let j = fileSlots f in
-      let over : sizesOk i j (emptyTable j) ≡ false = impossible _ (λ e. omega (arith, sizes-iff i j (emptyTable j) .0 e .few, named .slots)) in
-      let one : 1 ≡ number (fileLoaded f) = ap number (answer-of (load-1 i j (emptyTable j) f over)) in
-      one ∙ ap number (sym (refused-answer f (named .long) (λ z. absurd (omega (arith, one, z)))))
+      let over : leb (fileSlots f) mostSlots ≡ false = lt-leb (fileSlots f) mostSlots (omega (arith, named .slots)) in
+      rw (le-leb 3 (length f) (named .long), over) refl
 
-  pub many-table : (t : List ℕ) → maxSlots < N → t ≡ openTable f t
+  pub many-table : (t : List ℕ) → mostSlots < N → t ≡ openTable f t
   unfolding openTable
   many-table t h =
-      let over : leb (fileSlots f) maxSlots ≡ false = lt-leb (fileSlots f) maxSlots (omega (arith, named .slots)) in
+      let over : leb (fileSlots f) mostSlots ≡ false = lt-leb (fileSlots f) mostSlots (omega (arith, named .slots)) in
       rw (and-no-right (leb 3 (length f)) over) refl
 
-  pub taken-table : (t p : List ℕ) (w : ℕ) → N ≤ maxSlots → w ≡ tableSize N → p ≡ loadTable n N (take w t) f → p ++ drop w t ≡ openTable f t
+  pub taken-table : (t p : List ℕ) (w : ℕ) → N ≤ mostSlots → w ≡ tableSize N → p ≡ loadTable n N (take w t) f → p ++ drop w t ≡ openTable f t
   unfolding openTable
   taken-table t p w h e g =
-      let few : leb (fileSlots f) maxSlots ≡ true = le-leb (fileSlots f) maxSlots (omega (arith, named .slots)) in
+      let few : leb (fileSlots f) mostSlots ≡ true = le-leb (fileSlots f) mostSlots (omega (arith, named .slots)) in
       rw (and-of (le-leb 3 (length f) (named .long)) few, g, e, ← named .dimension, ← named .slots) refl
 
 pub short-table : (f t : List ℕ) → length f < 3 → t ≡ openTable f t
 unfolding openTable
-short-table f t h = rw (and-no-left (leb (fileSlots f) maxSlots) (lt-leb 3 (length f) h)) refl
+short-table f t h = rw (and-no-left (leb (fileSlots f) mostSlots) (lt-leb 3 (length f) h)) refl
 
 -- ---- where the map is open
 
 -- a file that is not refused has passed the check
 pub open-checked : (f : List ℕ) → number (openAnswer f) ≡ 0 → number (checkTable (fileDimension f) (fileSlots f) (fileTable f)) ≡ 0
 unfolding openAnswer
-open-checked f z = go (leb 3 (length f)) (eqb (number (fileLoaded f)) 0) (checkTable (fileDimension f) (fileSlots f) (fileTable f)) (fileLoaded f)
-    (eqb-false (number (fileLoaded f)) 0) z
+open-checked f z = go (leb 3 (length f)) (leb (fileSlots f) mostSlots) (eqb (number (fileLoaded f)) 0)
+    (checkTable (fileDimension f) (fileSlots f) (fileTable f)) (fileLoaded f) (eqb-false (number (fileLoaded f)) 0) z
   where
-    go : (long done : Bool) (c l : Answer) → (done ≡ false → number l ≡ 0 → ⊥) → number (cond long (cond done c l) (refusal BadFile)) ≡ 0 → number c ≡ 0
-    go true true c l ne z = z
-    go true false c l ne z = absurd (ne refl z)
-    go false done c l ne z = absurd (omega (arith, z))
+    go : (long few done : Bool) (c l : Answer) → (done ≡ false → number l ≡ 0 → ⊥)
+        → number (cond long (cond few (cond done c l) (refusal BadCall)) (refusal BadFile)) ≡ 0 → number c ≡ 0
+    go true true true c l ne z = z
+    go true true false c l ne z = absurd (ne refl z)
+    go true false done c l ne z = absurd (omega (arith, z))
+    go false few done c l ne z = absurd (omega (arith, z))
+
+-- and names no more slots than the programs take
+pub open-few : (f : List ℕ) → number (openAnswer f) ≡ 0 → fileSlots f ≤ mostSlots
+unfolding openAnswer
+open-few f z = go (leb 3 (length f)) (leb (fileSlots f) mostSlots) _ (leb-true (fileSlots f) mostSlots) z
+  where
+    go : (long few : Bool) (c : Answer) → (few ≡ true → fileSlots f ≤ mostSlots) → number (cond long (cond few c (refusal BadCall)) (refusal BadFile)) ≡ 0
+        → fileSlots f ≤ mostSlots
+    go true true c h z = h refl
+    go true false c h z = absurd (omega (arith, z))
+    go false few c h z = absurd (omega (arith, z))
 
 module _ (f : List ℕ) (n N : ℕ) (m : MapOpen f n N) where
   open-loaded : number (fileLoaded f) ≡ 0
   open-loaded = by-cases (ℕ-discrete (number (fileLoaded f)) 0) (λ z. z)
-      (λ ne. absurd (ne (ap number (sym (refused-answer f (m .named .long) ne)) ∙ m .done)))
+      (λ ne. absurd (ne (ap number (sym (refused-answer f (m .named .long) (rw (← m .named .slots) (m .few)) ne)) ∙ m .done)))
 
   pub open-long : length (fileTable f) ≡ tableSize N
   open-long =
@@ -154,7 +165,7 @@ module _ (f : List ℕ) (n N : ℕ) (m : MapOpen f n N) where
       ∙ table-length n N (loadTable n N (emptyTable N) f) (load-slotted n N (emptyTable N) f sizes .sizes)
 
   -- the table of the map stands at the start, whatever the table held before
-  pub open-words : (t : List ℕ) → length t ≡ tableSize maxSlots → take (tableSize N) (openTable f t) ≡ fileTable f
+  pub open-words : (t : List ℕ) → length t ≡ tableSize mostSlots → take (tableSize N) (openTable f t) ≡ fileTable f
   open-words t e =
       let part = take (tableSize N) t in
       let sized : length part ≡ tableSize N = length-take-le (tableSize N) t (omega (arith, e, m .few)) in

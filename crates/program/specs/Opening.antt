@@ -9,15 +9,19 @@ use lib.Dec.{eqb, leb}
 use Rattle.base.specs.Test.{_and_}
 use Rattle.base.specs.Digits.{numberAt}
 use Rattle.model.specs.Answer.{number}
-use Rattle.model.specs.Map.{tableSize, maxSlots}
+use Rattle.model.specs.Map.{tableSize}
 use Rattle.model.specs.Calls.{checkTable, loadAnswer, loadTable}
 use Rattle.model.specs.declared.Answer.{Answer}
 use Rattle.model.specs.declared.Answer.the-variants.{Refused as refusal}
-use Rattle.model.specs.declared.Refusal.the-variants.{BadFile}
+use Rattle.model.specs.declared.Refusal.the-variants.{BadCall, BadFile}
 use Rattle.program.specs.declared.opening.Opened.{Opened}
 use Rattle.program.specs.declared.opening.Opened.the-variants.{Map, Refused}
 
--- the greatest length of a map file
+-- the greatest number of slots that the programs take
+abbrev pub mostSlots : ℕ
+mostSlots = 1024
+
+-- the greatest length of a map file that they take
 abbrev pub longestFile : ℕ
 longestFile = 14345
 
@@ -40,15 +44,16 @@ module _ (f : List ℕ) where
   unfoldable pub fileTable : List ℕ
   fileTable = loadTable fileDimension fileSlots (emptyTable fileSlots) f
 
-  -- a file of under three bytes names no n and N; of any other, what the check of the table answers where the map is loaded, else what the load
-  -- answers
+  -- a file of under three bytes names no n and N, and one may name an N that the programs do not take; of any other, what the check of the table
+  -- answers where the map is loaded, else what the load answers
   unfoldable pub openAnswer : Answer
-  openAnswer = cond (leb 3 (length f)) (cond (eqb (number fileLoaded) 0) (checkTable fileDimension fileSlots fileTable) fileLoaded) (refusal BadFile)
+  openAnswer = cond (leb 3 (length f)) (cond (leb fileSlots mostSlots)
+      (cond (eqb (number fileLoaded) 0) (checkTable fileDimension fileSlots fileTable) fileLoaded) (refusal BadCall)) (refusal BadFile)
 
-  -- what a table t of `maxSlots` slots holds afterwards: what the load leaves of its first N records, and the rest unchanged; all of it where the
+  -- what a table t of `mostSlots` slots holds afterwards: what the load leaves of its first N records, and the rest unchanged; all of it where the
   -- file names no N or one that is too large
   unfoldable pub openTable : List ℕ → List ℕ
-  openTable t = cond (leb 3 (length f) and leb fileSlots maxSlots)
+  openTable t = cond (leb 3 (length f) and leb fileSlots mostSlots)
       (loadTable fileDimension fileSlots (take (tableSize fileSlots) t) f ++ drop (tableSize fileSlots) t) t
 
 -- the file is long enough to name n and N, and names these
@@ -60,7 +65,7 @@ pub record Named (f : List ℕ) (n N : ℕ) : Type 0 where
 -- the file's map is open: it is loaded and checked
 pub record MapOpen (f : List ℕ) (n N : ℕ) : Type 0 where
   pub named : Named f n N
-  pub few : N ≤ maxSlots
+  pub few : N ≤ mostSlots
   pub done : number (openAnswer f) ≡ 0
 
 -- r is what the opening of the file finds: its map, or the number of the refusal

@@ -1,24 +1,27 @@
 // Opening a map file by the n and the number of slots that it names itself.
 use crate::answer::number;
-use model::MAX_SLOTS;
 use numbers::Cursor;
 use table::words::RECORD;
 use table::words::size;
 ghost use mathlib.Core.Path.{_≡_};
+ghost use Prim.Native.Nat.{_≤_};
 ghost use lib.ListN.{length};
 ghost use Rattle.model.specs.Answer.{number as numberOf};
-ghost use Rattle.model.specs.Map.{tableSize, maxSlots};
+ghost use Rattle.model.specs.Map.{tableSize};
 ghost use Rattle.model.specs.Calls.{loadTable};
-ghost use Rattle.program.specs.Opening.{Named, openAnswer, openTable, OpenedAs};
+ghost use Rattle.program.specs.Opening.{mostSlots, Named, openAnswer, openTable, OpenedAs};
 
-// The greatest length of a map file.
+// The greatest number of slots that the programs take.
+const MOST_SLOTS: u32 = 1024;
+
+// The greatest length of a map file that they take.
 pub const LONGEST_FILE: usize = 14345;
 
 // The words of a table for the greatest number of slots.
-pub const TABLE: usize = RECORD * MAX_SLOTS as usize;
+pub const TABLE: usize = RECORD * MOST_SLOTS as usize;
 
 // The words of a working store for the greatest number of slots.
-pub const STORE: usize = 16 * MAX_SLOTS as usize;
+pub const STORE: usize = 16 * MOST_SLOTS as usize;
 
 // A map that is open, or the number of the refusal.
 pub enum Opened {
@@ -28,7 +31,7 @@ pub enum Opened {
 
 // Loads the file's map in a table for its slots, and checks it where it is loaded; gives the number of the answer.
 fn load(file: &[u8], n: u32, slots: u32, table: &mut [u32]) -> u32
-    requires { ⌜ Named (now file) n slots ⌝ }
+    requires { ⌜ Named (now file) n slots × (slots ≤ mostSlots) ⌝ }
     requires { ⌜ length (now table) ≡ tableSize slots ⌝ }
     ensures { λ r. ⌜ r ≡ numberOf (openAnswer (now (file .entry))) ⌝ }
     ensures { λ _. ⌜ now (table .exit) ≡ loadTable n slots (now (table .entry)) (now (file .entry)) ⌝ }
@@ -43,7 +46,7 @@ fn load(file: &[u8], n: u32, slots: u32, table: &mut [u32]) -> u32
 // Loads the file's map at the start of a table for the greatest number of slots, by the n and the number of slots that the file names, and
 // checks it.
 pub fn open(file: &[u8], table: &mut [u32]) -> Opened
-    requires { ⌜ length (now table) ≡ tableSize maxSlots ⌝ }
+    requires { ⌜ length (now table) ≡ tableSize mostSlots ⌝ }
     ensures { λ r. ⌜ OpenedAs (now (file .entry)) r ⌝ }
     ensures { λ _. ⌜ now (table .exit) ≡ openTable (now (file .entry)) (now (table .entry)) ⌝ }
 {
@@ -55,7 +58,7 @@ pub fn open(file: &[u8], table: &mut [u32]) -> Opened
     let n = first.value;
     let next = first.next;
     let slots = next.two(file).value;
-    if MAX_SLOTS < slots {
+    if MOST_SLOTS < slots {
         return Opened::Refused(1);
     }
     let words = size(slots);

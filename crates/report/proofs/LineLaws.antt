@@ -5,10 +5,10 @@ use mathlib.Core.Path.{_≡_}
 use mathlib.Core.List.{List, _++_, append-assoc}
 use native.Mathlib.Omega.{arith}
 use lib.ListN.{length, getD, length-append}
-use Rattle.model.specs.Map.{maxSlots}
 use Rattle.program.specs.Lines.{decimal, space, lineFeed}
 use Rattle.program.proofs.DecimalLaws.{decimal-short}
 use Rattle.program.proofs.LineLaws.{digits}
+use Rattle.program.specs.Opening.{mostSlots}
 use Rattle.report.specs.Report.{countLine}
 use Rattle.report.specs.Promises.{mostMaps, longestLine, Room, Few}
 
@@ -27,7 +27,7 @@ unfolding countLine
 count-length c = simp length-append (omega arith)
 
 -- six numbers that are no greater than the greatest total
-pub count-short : (c : List ℕ) → ((i : ℕ) → getD c i 0 ≤ maxSlots * mostMaps) → length (countLine c) ≤ longestLine
+pub count-short : (c : List ℕ) → ((i : ℕ) → getD c i 0 ≤ mostSlots * mostMaps) → length (countLine c) ≤ longestLine
 count-short c few =
     let eight : (i : ℕ) → digits (getD c i 0) ≤ 8 = λ i. decimal-short 7 (getD c i 0) (omega (arith, few i)) in
     omega (arith, count-length c, eight 0, eight 1, eight 2, eight 3, eight 4, eight 5)

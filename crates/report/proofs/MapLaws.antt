@@ -13,22 +13,21 @@ use Rattle.base.proofs.TestLaws.{and-of, true-or-false}
 use Rattle.base.proofs.BelowLaws.{le-or-lt}
 use Rattle.base.proofs.ListLaws.{getD-list, length-list}
 use Rattle.model.specs.Answer.{number}
-use Rattle.model.specs.Map.{Map, view, tableSize, maxSlots}
+use Rattle.model.specs.Map.{Map, view, tableSize}
 use Rattle.model.specs.Count.{counts}
 use Rattle.model.specs.Calls.{countSize, checkTable, mapFault, outputFaultAt, countFault, countStore, countOut}
 use Rattle.model.specs.declared.Answer.{Answer}
 use Rattle.model.proofs.AnswerLaws.{number-few}
 use Rattle.model.proofs.CountLaws.{counts-few, counts-six}
 use Rattle.model.proofs.HoldsLaws.{holds-iff}
-use Rattle.model.proofs.SizeLaws.{sizes-iff}
 use Rattle.model.proofs.WellFormedLaws.{wellFormed-iff}
 use Rattle.demands.specs.Promises.{MapCounted}
 use Rattle.demands.proofs.OneOutcome.{store-of, output-of}
 use Rattle.numbers.specs.Places.{Put}
 use Rattle.program.specs.Lines.{refusedLine}
-use Rattle.program.specs.Opening.{fileDimension, fileSlots, fileTable, openAnswer, openTable, MapOpen}
+use Rattle.program.specs.Opening.{mostSlots, fileDimension, fileSlots, fileTable, openAnswer, openTable, MapOpen}
 use Rattle.program.proofs.LineLaws.{refused-few}
-use Rattle.program.proofs.OpeningLaws.{open-words, open-checked}
+use Rattle.program.proofs.OpeningLaws.{open-words, open-checked, open-few}
 use Rattle.report.specs.Report.{countLine, sum, accepted, fileCounts, mapLine, summed}
 use Rattle.report.specs.Steps.{storeCounted}
 use Rattle.report.specs.Promises.{longestLine, Room, Few, Lined, MapWorked}
@@ -36,7 +35,7 @@ use Rattle.report.proofs.LineLaws.{few-short}
 
 -- ---- the numbers of a map
 
-pub few-of : (n : ℕ) (m : Map) (c : List ℕ) → c ≡ counts n m → m .slots ≤ maxSlots → Few c
+pub few-of : (n : ℕ) (m : Map) (c : List ℕ) → c ≡ counts n m → m .slots ≤ mostSlots → Few c
 few-of n m c e h = rw e (record { six = counts-six n m; few = λ i. omega (arith, counts-few n m i, h) })
 
 -- a map that is well-formed is counted, and its store comes back zero
@@ -66,9 +65,7 @@ module _ (f : List ℕ) where
 
   few-counts : accepted f ≡ true → Few (fileCounts f)
   unfolding accepted fileCounts
-  few-counts a =
-      let h = holds-iff (fileDimension f) (fileSlots f) (fileTable f) .1 (open-checked f (eqb-true _ _ a)) in
-      few-of (fileDimension f) (view (fileSlots f) (fileTable f)) _ refl (sizes-iff (fileDimension f) (fileSlots f) (fileTable f) .0 (h .sizes) .few)
+  few-counts a = few-of (fileDimension f) (view (fileSlots f) (fileTable f)) _ refl (open-few f (eqb-true _ _ a))
 
 -- ---- the file is refused
 
@@ -118,7 +115,7 @@ room-summed f left sums room = ⊎-elim
 
 -- ---- its map is open
 
-module _ (f : List ℕ) (n N : ℕ) (m : MapOpen f n N) (t t′ : List ℕ) (long : length t ≡ tableSize maxSlots) (left : t′ ≡ openTable f t)
+module _ (f : List ℕ) (n N : ℕ) (m : MapOpen f n N) (t t′ : List ℕ) (long : length t ≡ tableSize mostSlots) (left : t′ ≡ openTable f t)
     (w : ℕ) (size : w ≡ tableSize N) where
   -- the words of the map
   map-words : take w t′ ≡ fileTable f

@@ -4,11 +4,10 @@ use Prim.Native.Nat.{ℕ, _+_, _*_, _≤_}
 use mathlib.Core.Path.{_≡_}
 use mathlib.Core.List.{List, [], _++_}
 use lib.ListN.{length, getD, take, drop, replicate}
-use Rattle.model.specs.Map.{maxSlots}
 use Rattle.model.specs.Calls.{countSize}
 use Rattle.numbers.specs.Places.{Put}
 use Rattle.program.specs.Lines.{refusedLine}
-use Rattle.program.specs.Opening.{longestFile, openTable}
+use Rattle.program.specs.Opening.{mostSlots, longestFile, openTable}
 use Rattle.report.specs.Report.{mapLine, summed}
 use Rattle.report.specs.Steps.{wants, stateAhead, linesAhead, stateAfter, linesAfter, sumsAfter, tableAfter, storeCounted, storeAfter}
 use Rattle.report.specs.declared.State.{State}
@@ -29,12 +28,12 @@ none = replicate countSize 0
 -- six sums that have room for `left` maps more: no map adds more than its slots, so no total is above 65,535 × 1,024
 pub record Room (left : ℕ) (sums : List ℕ) : Type 0 where
   pub six : length sums ≡ countSize
-  pub few : (i : ℕ) → getD sums i 0 + maxSlots * left ≤ maxSlots * mostMaps
+  pub few : (i : ℕ) → getD sums i 0 + mostSlots * left ≤ mostSlots * mostMaps
 
 -- six numbers of a map, which are not above the slots that it may have
 pub record Few (c : List ℕ) : Type 0 where
   pub six : length c ≡ countSize
-  pub few : (i : ℕ) → getD c i 0 ≤ maxSlots
+  pub few : (i : ℕ) → getD c i 0 ≤ mostSlots
 
 -- a file that is wanted is within its limit
 abbrev pub Within : State → Type 0

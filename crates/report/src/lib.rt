@@ -11,8 +11,8 @@ use numbers::Cursor;
 ghost use mathlib.Core.Path.{_≡_};
 ghost use Prim.Native.Nat.{_+_, _*_, _≤_};
 ghost use lib.ListN.{length};
-ghost use Rattle.model.specs.Map.{tableSize, maxSlots};
-ghost use Rattle.program.specs.Opening.{longestFile};
+ghost use Rattle.model.specs.Map.{tableSize};
+ghost use Rattle.program.specs.Opening.{mostSlots, longestFile};
 ghost use Rattle.report.specs.Steps.{wants};
 ghost use Rattle.report.specs.Promises.{none, longestLine, Room, Within, Ready, FedAs, Worked};
 
@@ -69,8 +69,8 @@ fn file(
 ) -> Fed
     requires { ⌜ Room (left + 1) sums ⌝ }
     requires { ⌜ long ≤ longestFile ⌝ }
-    requires { ⌜ length (now table) ≡ tableSize maxSlots ⌝ }
-    requires { ⌜ length (now store) ≡ 16 * maxSlots ⌝ }
+    requires { ⌜ length (now table) ≡ tableSize mostSlots ⌝ }
+    requires { ⌜ length (now store) ≡ 16 * mostSlots ⌝ }
     requires { ⌜ 2 * longestLine ≤ length (now out) ⌝ }
     ensures { λ r. ⌜ FedAs (State.File left long) sums (now (piece .entry)) (now (out .entry)) r (now (out .exit)) ⌝ }
     ensures { λ _. ⌜ Worked (State.File left long) (now (piece .entry)) (now (table .entry)) (now (store .entry)) (now (table .exit)) (now (store .exit)) ⌝ }
@@ -94,8 +94,8 @@ pub fn feed(
     out: &mut [u8],
 ) -> Fed
     requires { ⌜ Ready s sums ⌝ }
-    requires { ⌜ length (now table) ≡ tableSize maxSlots ⌝ }
-    requires { ⌜ length (now store) ≡ 16 * maxSlots ⌝ }
+    requires { ⌜ length (now table) ≡ tableSize mostSlots ⌝ }
+    requires { ⌜ length (now store) ≡ 16 * mostSlots ⌝ }
     requires { ⌜ 2 * longestLine ≤ length (now out) ⌝ }
     ensures { λ r. ⌜ FedAs s sums (now (piece .entry)) (now (out .entry)) r (now (out .exit)) ⌝ }
     ensures { λ _. ⌜ Worked s (now (piece .entry)) (now (table .entry)) (now (store .entry)) (now (table .exit)) (now (store .exit)) ⌝ }

@@ -8,9 +8,10 @@ ghost use mathlib.Core.Path.{_≡_};
 ghost use Prim.Native.Nat.{_*_, _≤_};
 ghost use lib.ListN.{length, replicate};
 ghost use Rattle.model.specs.Answer.{number};
-ghost use Rattle.model.specs.Map.{view, tableSize, maxSlots};
+ghost use Rattle.model.specs.Map.{view, tableSize};
 ghost use Rattle.model.specs.Count.{counts as countsOf};
 ghost use Rattle.model.specs.Calls.{checkTable};
+ghost use Rattle.program.specs.Opening.{mostSlots};
 ghost use Rattle.report.specs.Report.{sum as sumOf};
 ghost use Rattle.report.specs.Promises.{longestLine, Room, Few, Lined, MapWorked};
 
@@ -56,8 +57,8 @@ pub fn map_line(
     out: &mut [u8],
 ) -> Line
     requires { ⌜ Room 1 sums ⌝ }
-    requires { ⌜ length (now table) ≡ tableSize maxSlots ⌝ }
-    requires { ⌜ length (now store) ≡ 16 * maxSlots ⌝ }
+    requires { ⌜ length (now table) ≡ tableSize mostSlots ⌝ }
+    requires { ⌜ length (now store) ≡ 16 * mostSlots ⌝ }
     requires { ⌜ longestLine ≤ length (now out) ⌝ }
     ensures { λ r. ⌜ Lined (now (file .entry)) sums (now (out .entry)) r (now (out .exit)) ⌝ }
     ensures { λ _. ⌜ MapWorked (now (file .entry)) (now (table .entry)) (now (store .entry)) (now (table .exit)) (now (store .exit)) ⌝ }

@@ -8,10 +8,10 @@ use lib.Seq.{length-take-le}
 use borrow.Author.Needs.{needs}
 use denote.Ref.{now}
 use Rattle.model.specs.Answer.{number}
-use Rattle.model.specs.Map.{tableSize, maxSlots}
+use Rattle.model.specs.Map.{tableSize}
 use Rattle.model.specs.declared.Answer.{Answer}
 use Rattle.model.proofs.AnswerLaws.{number-few}
-use Rattle.program.specs.Opening.{MapOpen}
+use Rattle.program.specs.Opening.{mostSlots, MapOpen}
 use Rattle.program.proofs.OpeningLaws.{open-of, refused-of}
 use Rattle.bench.specs.Bench.{mapBytes, mapAnswer}
 use Rattle.bench.specs.Input.{Laid}
@@ -24,11 +24,17 @@ use Rattle.bench.proofs.run.Tie as tie
 laid : (c : tie.After-layout) → Laid (now (c .before .before .before .before .before .args .input)) (c .layout .given .0 .0)
 laid c = laid-of _ _ _ (c .layout .given .1) (c .before .before .frame .ensures)
 
-refused : (c : tie.After-k) → let k = c .k .given .0 .0 in (k ≡ number (mapAnswer (now (c .before .before .before .before .before .before .before .before .before .before .before .before .before .args .input)))) × (k ≡ 0 → ⊥)
-refused c = refused-of _ _ _ _ (map-part _ _ (laid (c .before .before .before .before .before .before .before .before))) (c .k .given .1) (c .before .before .before .«open» .ensures .0)
+refused : (c : tie.After-k) → let l = c .before .before .before .before .before .before .before .before in let k = c .k .given .0 .0 in
+    (k ≡ number (mapAnswer (now (l .before .before .before .before .before .args .input)))) × (k ≡ 0 → ⊥)
+refused c =
+    let l = c .before .before .before .before .before .before .before .before in
+    refused-of _ _ _ _ (map-part _ _ (laid l)) (c .k .given .1) (c .before .before .before .«open» .ensures .0)
 
-opened : (c : tie.After-n) → MapOpen (mapBytes (now (c .before .before .before .before .before .before .before .before .before .before .before .before .before .args .input))) (c .n .given .0 .0) (c .n .given .0 .1 .0)
-opened c = open-of _ _ _ _ _ (map-part _ _ (laid (c .before .before .before .before .before .before .before .before))) (c .n .given .1) (c .before .before .before .«open» .ensures .0)
+opened : (c : tie.After-n) → let l = c .before .before .before .before .before .before .before .before in
+    MapOpen (mapBytes (now (l .before .before .before .before .before .args .input))) (c .n .given .0 .0) (c .n .given .0 .1 .0)
+opened c =
+    let l = c .before .before .before .before .before .before .before .before in
+    open-of _ _ _ _ _ (map-part _ _ (laid l)) (c .n .given .1) (c .before .before .before .«open» .ensures .0)
 
 few : (a : Answer) (k : ℕ) → k ≡ number a → k < 100
 few a k e = omega (arith, e, number-few a)
@@ -98,16 +104,16 @@ array-borrow-prefix-store : tie.Need-array-borrow-prefix-store
 array-borrow-prefix-store c = omega (arith, opened (c .before .before .before) .few)
 
 slice-aggregate-session-2 : tie.Need-slice-aggregate-session-2
-slice-aggregate-session-2 c = let m = opened (c .before .before .before .before) in blank-length _ (16 * maxSlots) (omega (arith, m .few))
+slice-aggregate-session-2 c = let m = opened (c .before .before .before .before) in blank-length _ (16 * mostSlots) (omega (arith, m .few))
 
 session-requires : tie.Need-session-requires
 session-requires c κs =
     let n = c .before .before .before .before .before in
     let m = opened n in
     let l = n .before .before .before .before .before .before .before .before in
-    let blank = blank-part (16 * n .n .given .0 .1 .0) (16 * maxSlots) (omega (arith, m .few)) in
-    let table = stands-open _ _ _ m _ _ _ _ _ (map-part _ _ (laid l)) (length-replicate {A = ℕ} (tableSize maxSlots) 0) (n .before .before .before .«open» .ensures .1)
-    (c .before .before .before .size .ensures) blank in
+    let blank = blank-part (16 * n .n .given .0 .1 .0) (16 * mostSlots) (omega (arith, m .few)) in
+    let table = stands-open _ _ _ m _ _ _ _ _ (map-part _ _ (laid l)) (length-replicate {A = ℕ} (tableSize mostSlots) 0)
+    (n .before .before .before .«open» .ensures .1) (c .before .before .before .size .ensures) blank in
     (laid l, (m, (table, l .before .before .before .before .before .pre)))
 
 returns-3 : tie.Need-returns-3

@@ -7,11 +7,12 @@ use native.Mathlib.Omega.{arith}
 use lib.ListN.{length, length-append, length-replicate}
 use lib.Seq.{length-take-le, length-front}
 use borrow.Author.Needs.{needs}
-use Rattle.model.specs.Map.{tableSize, maxSlots}
+use Rattle.model.specs.Map.{tableSize}
 use Rattle.report.specs.Steps.{wants}
 use Rattle.report.specs.Promises.{Ready, mostSteps}
 use Rattle.report.specs.declared.State.{State}
 use Rattle.report.proofs.EndLaws.{fewer, ready-within, wants-few}
+use Rattle.program.specs.Opening.{mostSlots}
 use Rattle.report_main.proofs.main.Statement.{statement}
 use Rattle.report_main.proofs.main.Tie as tie
 
@@ -19,8 +20,8 @@ use Rattle.report_main.proofs.main.Tie as tie
 record Going (input out table store : List ℕ) (state : State) (sums : List ℕ) (want : ℕ) : Type 0 where
   bytes : length input ≡ 65536
   lines : length out ≡ 4096
-  words : length table ≡ tableSize maxSlots
-  places : length store ≡ 16 * maxSlots
+  words : length table ≡ tableSize mostSlots
+  places : length store ≡ 16 * mostSlots
   wanted : want ≡ wants state
   ready : Ready state sums
 
@@ -34,8 +35,8 @@ loop-holds : tie.Need-loop-holds Inv-loop μ-loop
 loop-holds c = record {
   bytes = sym (c .before .before .large-buffer .ensures);
   lines = sym (c .before .buffer .ensures);
-  words = length-replicate {A = ℕ} (tableSize maxSlots) 0;
-  places = length-replicate {A = ℕ} (16 * maxSlots) 0;
+  words = length-replicate {A = ℕ} (tableSize mostSlots) 0;
+  places = length-replicate {A = ℕ} (16 * mostSlots) 0;
   wanted = c .wanted .ensures;
   ready = refl;
 }

@@ -16,7 +16,7 @@ use Rattle.bench.proofs.session.session.Tie as tie
 sized : (e : tie.After-edits) → Sized (e .before .before .before .before .before .before .before .before .args .slots) (e .edits .last .1 .1 .1 .1 .0)
 sized e =
     let s = e .before .before .before .before .before .before .before .before in
-    record { few = s .pre .1 .0 .few; long = e .edits .kept .1 .1 .1 .1 .0 ∙ stands-long _ _ _ (s .pre .1 .0) _ _ (s .pre .1 .1 .0) }
+    record { few = omega (arith, s .pre .1 .0 .few); long = e .edits .kept .1 .1 .1 .1 .0 ∙ stands-long _ _ _ (s .pre .1 .0) _ _ (s .pre .1 .1 .0) }
 
 edits-requires : tie.Need-edits-requires
 edits-requires c κs =

@@ -15,8 +15,10 @@ number-requires c κs = search needs
 returns : tie.Need-returns
 returns c =
     let l = c .before .before .before .before in
-    let s = l .before .before .before .before in
-    (load-refused _ _ _ (s .pre .0) _ (s .pre .1) _ _ (l .load .ensures) _ (c .before .number .ensures) (c .if1 .taken), table-of (l .load .ensures))
+    let s = l .before .before .before .before in (
+      load-refused _ _ _ (s .pre .0 .0) _ (s .pre .1) (s .pre .0 .1) _ _ (l .load .ensures) _ (c .before .number .ensures) (c .if1 .taken),
+      table-of (l .load .ensures),
+    )
 
 check-table-requires : tie.Need-check-table-requires
 check-table-requires c κs = search needs
@@ -29,7 +31,7 @@ returns-2 c =
     let e = c .before .before .before in
     let l = e .before .before .before .before in
     let s = l .before .before .before .before in (
-      load-checked _ _ _ (s .pre .0) _ (s .pre .1) _ _ (l .load .ensures) _ (e .before .number .ensures) _ _ (e .if1 .left)
+      load-checked _ _ _ (s .pre .0 .0) _ (s .pre .1) (s .pre .0 .1) _ _ (l .load .ensures) _ (e .before .number .ensures) _ _ (e .if1 .left)
           (c .before .check-table .ensures) (c .number2 .ensures),
       table-of (l .load .ensures),
     )

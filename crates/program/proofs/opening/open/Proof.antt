@@ -47,7 +47,7 @@ slice-aggregate-load : tie.Need-slice-aggregate-load
 slice-aggregate-load c = lent (c .before)
 
 load-requires : tie.Need-load-requires
-load-requires c κs = (named (c .before .before .before), sym (lent (c .before)) ∙ c .before .size .ensures)
+load-requires c κs = ((named (c .before .before .before), c .before .before .if2 .left), sym (lent (c .before)) ∙ c .before .size .ensures)
 
 returns-3 : tie.Need-returns-3
 returns-3 c =
