@@ -1,17 +1,19 @@
--- The framing: the counts that were read are those of the input, and what breaks a limit or the length is a fault.
+-- The framing: the counts that were read are those of the input, and what breaks a limit or the length is a fault, also where the input is cut.
 -- Assumes nothing.
-use Prim.Native.Nat.{ℕ, _+_, _*_, _≤_}
-use mathlib.Core.Path.{_≡_, sym, ap, ap₂, _∙_, subst}
+use Prim.Native.Nat.{ℕ, _+_, _*_, _≤_, _<_}
+use mathlib.Core.Path.{_≡_, refl, sym, ap, ap₂, _∙_, subst}
 use mathlib.Core.Logic.{⊎-elim}
 use mathlib.Core.Bool.{true, false}
 use mathlib.Core.List.{List}
 use native.Mathlib.Omega.{arith}
-use lib.ListN.{length}
+use lib.ListN.{length, take}
+use lib.Seq.{take-all, length-take-le}
 use borrow.Author.Tests.{leb-true, eqb-true, le-leb, eq-eqb}
 use Rattle.base.specs.Digits.{numberAt}
-use Rattle.base.proofs.TestLaws.{and-left, and-right, and-of, true-or-false}
+use Rattle.base.proofs.TestLaws.{and-left, and-right, and-of, true-or-false, impossible}
+use Rattle.base.proofs.BelowLaws.{le-or-lt}
 use Rattle.program.specs.Opening.{longestFile}
-use Rattle.bench.specs.Bench.{mapLength, schemeLength, dartCount, framed, longestScheme, mostDarts}
+use Rattle.bench.specs.Bench.{mapLength, schemeLength, dartCount, framed, longestScheme, mostDarts, longestInput, printed}
 use Rattle.bench.specs.Input.{Laid, FramingOf}
 use Rattle.bench.specs.declared.framing.Framing.{Framing}
 use Rattle.bench.specs.declared.framing.Framing.the-variants.{Framed, Fault}
@@ -57,3 +59,28 @@ fault-of b f e x = subst (FramingOf b) e x
 
 pub laid-of : (b : List ℕ) (f : Framing) (l : Layout) → f ≡ Framed l → FramingOf b f → Laid b l
 laid-of b f l e x = subst (FramingOf b) e x
+
+-- ---- how long an input is
+
+pub framed-short : (b : List ℕ) → framed b ≡ true → length b ≤ longestInput
+unfolding framed
+framed-short b t =
+    let size : length b ≡ 6 + mapLength b + schemeLength b + 2 * dartCount b = eqb-true _ _ (and-right _ _ t) in
+    let map = leb-true (mapLength b) longestFile (and-left _ _ (and-left _ _ (and-left _ _ t))) in
+    let scheme = leb-true (schemeLength b) longestScheme (and-right _ _ (and-left _ _ (and-left _ _ t))) in
+    let darts = leb-true (dartCount b) mostDarts (and-right _ _ (and-left _ _ t)) in
+    omega (arith, size, map, scheme, darts)
+
+long-fault : (b : List ℕ) → longestInput < length b → framed b ≡ false
+long-fault b h = impossible _ (λ t. omega (arith, framed-short b t))
+
+-- what is read of an input into a buffer of k bytes, more than the longest that is framed, prints what the whole input does: where it is cut, both
+-- are framing faults
+pub cut-printed : (b : List ℕ) (k : ℕ) → longestInput < k → printed (take k b) ≡ printed b
+unfolding printed
+cut-printed b k h = ⊎-elim
+    (λ (l : length b ≤ k). ap printed (take-all k b l))
+    (λ (l : k < length b).
+    let cut = long-fault (take k b) (omega (arith, length-take-le k b (omega arith))) in
+    rw (cut, long-fault b (omega arith)) refl)
+    (le-or-lt (length b) k)

@@ -48,6 +48,10 @@ longestScheme = 552
 abbrev pub mostDarts : ℕ
 mostDarts = 1024
 
+-- no input that is framed is longer
+abbrev pub longestInput : ℕ
+longestInput = 6 + longestFile + longestScheme + 2 * mostDarts
+
 module _ (b : List ℕ) where
   abbrev pub mapLength : ℕ
   mapLength = numberAt 2 b 0

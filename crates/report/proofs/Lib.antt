@@ -5,3 +5,4 @@ pub mod FeedLaws
 pub mod EndLaws
 pub mod StepLaws
 pub mod OneOutcome
+pub mod RunLaws

@@ -63,7 +63,7 @@ module _ (f : List ℕ) where
   unfolding accepted
   refused-of k r = ne-eqb _ _ (λ z. r .1 (r .0 ∙ z))
 
-  few-counts : accepted f ≡ true → Few (fileCounts f)
+  pub few-counts : accepted f ≡ true → Few (fileCounts f)
   unfolding accepted fileCounts
   few-counts a = few-of (fileDimension f) (view (fileSlots f) (fileTable f)) _ refl (open-few f (eqb-true _ _ a))
 
