@@ -1,5 +1,8 @@
 // Numbers below a bound and the lists made of them, as definitions (specs/) and laws (proofs/), and a buffer's words. This crate knows
 // nothing of maps.
+pub mod byte;
+pub mod words;
+
 ghost use mathlib.Core.Path.{_≡_};
 ghost use lib.ListN.{length, replicate};
 

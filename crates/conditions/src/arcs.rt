@@ -1,13 +1,8 @@
-// The bytes of arcs as a scheme holds them.
+// The bytes of arcs as a scheme holds them, and the cast with which the phases of an edit read them.
+pub use base::byte::wide;
 ghost use mathlib.Core.Path.{_≡_};
 ghost use Prim.Native.Nat.{_<_, _≤_};
 ghost use Rattle.conditions.specs.Arcs.{partOf};
-
-pub fn wide(x: u8) -> usize
-    ensures { λ r. ⌜ (r ≡ x) × (r ≤ 255) ⌝ }
-{
-    x as usize
-}
 
 // Byte f of arc a.
 pub fn part(arcs: &[u8; 192], a: usize, f: usize) -> usize

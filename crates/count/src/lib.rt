@@ -1,4 +1,5 @@
 // Counting the cells of a map: one walk over the map for each kind of cell.
+use base::words::wide;
 use orbit::store::unmark;
 use orbit::store::word;
 use table::words::state;
@@ -78,12 +79,6 @@ fn volumes(n: u32, slots: usize, table: &[u32], store: &mut [u32]) -> u32
         return 0;
     }
     orbits(slots, table, [0, 1, 2, 3], wide(n), store)
-}
-
-fn wide(x: u32) -> usize
-    ensures { λ r. ⌜ r ≡ x ⌝ }
-{
-    x as usize
 }
 
 // Live darts, vertices, edges, faces, pieces and volumes.

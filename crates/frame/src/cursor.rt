@@ -1,4 +1,6 @@
-// A place in the bytes, which goes in and comes back by value. Every byte of a scheme is read by a method of it.
+// A place in the bytes, which goes in and comes back by value. Every byte of a scheme is read by a method of it. It is not the cursor of `numbers`,
+// since a step or a count may find that the bytes end.
+use base::byte::wide;
 ghost use mathlib.Core.Path.{_≡_};
 ghost use Prim.Native.Nat.{_+_, _≤_, _<_};
 ghost use lib.ListN.{length};
@@ -38,12 +40,6 @@ pub enum Step {
 pub enum Section {
     Count { count: u8, next: Cursor },
     Bad,
-}
-
-pub fn wide(b: u8) -> usize
-    ensures { λ r. ⌜ (r ≡ b) × (r ≤ 255) ⌝ }
-{
-    b as usize
 }
 
 impl Cursor {

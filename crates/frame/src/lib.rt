@@ -3,10 +3,10 @@
 pub mod cursor;
 pub mod nodes;
 
+use base::byte::wide;
 use cursor::Cursor;
 use cursor::Section;
 use cursor::Step;
-use cursor::wide;
 use nodes::count_nodes;
 ghost use mathlib.Core.Path.{_≡_};
 ghost use Prim.Native.Nat.{_≤_, _*_};

@@ -2,7 +2,7 @@
 use crate::cursor::Cursor;
 use crate::cursor::Section;
 use crate::cursor::Verdict;
-use crate::cursor::wide;
+use base::byte::wide;
 ghost use mathlib.Core.Path.{_≡_};
 ghost use Prim.Native.Nat.{_+_, _≤_};
 ghost use lib.ListN.{length};

@@ -1,5 +1,5 @@
 // Cycles, from the codes of arcs.
-use crate::wide;
+use base::byte::wide;
 use model::Fault;
 use model::Refusal;
 ghost use mathlib.Core.Path.{_≡_};

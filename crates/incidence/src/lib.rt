@@ -1,6 +1,7 @@
 // Incidence, from the codes of arcs and the nodes that have two of a dimension, and after it the cycles.
 pub mod cycles;
 
+use base::byte::wide;
 use cycles::cycle_fault;
 use model::Fault;
 use model::Refusal;
@@ -14,12 +15,6 @@ ghost use Rattle.incidence.specs.Incidence.{foundOf, paired, incidentBy,
 pub enum Found {
     Node(u32),
     Nothing,
-}
-
-fn wide(x: u8) -> usize
-    ensures { λ r. ⌜ (r ≡ x) × (r ≤ 255) ⌝ }
-{
-    x as usize
 }
 
 // A node of a kind with at most one arc of a dimension on each side may have these codes there.

@@ -1,5 +1,6 @@
-// A place in bytes, which goes in and comes back by value, and the numbers read and put there.
-ghost use mathlib.Core.Path.{_≡_};
+// A place in bytes, which goes in and comes back by value, and the numbers read and put there. Callers know that these lie within the bytes; a
+// scheme's reader does not, and has a cursor of its own (`frame::cursor`), which finds where the bytes end.
+use base::byte::number;
 ghost use Prim.Native.Nat.{_+_, _≤_};
 ghost use lib.ListN.{length};
 ghost use Rattle.base.specs.Digits.{bytesOf};
@@ -15,12 +16,6 @@ pub struct Number {
     pub next: Cursor,
 }
 
-fn wide(b: u8) -> u32
-    ensures { λ r. ⌜ r ≡ b ⌝ }
-{
-    b as u32
-}
-
 impl Cursor {
     // The number in one byte.
     pub fn one(self, b: &[u8]) -> Number
@@ -29,7 +24,7 @@ impl Cursor {
     {
         let at = self.at;
         Number {
-            value: wide(b[at]),
+            value: number(b[at]),
             next: Cursor { at: at + 1 },
         }
     }

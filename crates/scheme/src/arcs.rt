@@ -1,8 +1,8 @@
 // The arcs of one side: they are stored, and each is tested and becomes the target of its ends where no earlier one is.
+use base::byte::wide;
 use frame::Layout;
 use frame::cursor::Cursor;
 use frame::cursor::Verdict;
-use frame::cursor::wide;
 ghost use mathlib.Core.Path.{_≡_};
 ghost use mathlib.Core.Bool.{true, false};
 ghost use Prim.Native.Nat.{_+_, _*_, _≤_, _<_};

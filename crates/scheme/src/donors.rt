@@ -1,9 +1,9 @@
 // The donors: each is the byte after the words of its node, where the first byte says that they are named. A donor may be a later node, so
 // they are read once all kinds are known.
+use base::byte::wide;
 use frame::Layout;
 use frame::cursor::Cursor;
 use frame::cursor::Verdict;
-use frame::cursor::wide;
 ghost use mathlib.Core.Path.{_≡_};
 ghost use mathlib.Core.Bool.{true};
 ghost use Prim.Native.Nat.{_+_, _<_};

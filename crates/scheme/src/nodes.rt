@@ -1,8 +1,8 @@
 // The orbit type and the nodes: each is tested and stored as it is read.
+use base::byte::wide;
 use frame::Layout;
 use frame::cursor::Cursor;
 use frame::cursor::Verdict;
-use frame::cursor::wide;
 use frame::nodes::donor_bytes;
 ghost use mathlib.Core.Path.{_≡_};
 ghost use mathlib.Core.Bool.{true};

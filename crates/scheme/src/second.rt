@@ -1,7 +1,7 @@
 // The second hook: the byte after the nodes, where the first byte says that one is named.
+use base::byte::wide;
 use frame::Layout;
 use frame::cursor::Cursor;
-use frame::cursor::wide;
 ghost use mathlib.Core.Path.{_≡_};
 ghost use mathlib.Core.Bool.{true};
 ghost use Rattle.base.specs.Below.{allBelow};

@@ -1,4 +1,5 @@
 // The words of a table, one by one and by name: the layout of records in code.
+use base::words::wide;
 ghost use mathlib.Core.Path.{_≡_};
 ghost use Prim.Native.Nat.{_+_, _*_, _<_, _≤_};
 ghost use lib.ListN.{getD, set};
@@ -13,12 +14,6 @@ const STATE: usize = 0;
 const LINKS: usize = 1;
 
 const TAG: usize = 5;
-
-fn wide(x: u32) -> usize
-    ensures { λ r. ⌜ r ≡ x ⌝ }
-{
-    x as usize
-}
 
 // How many words a table has.
 pub fn size(slots: u32) -> usize
