@@ -14,7 +14,7 @@ use Rattle.model.specs.Map.{view, live, unused}
 use Rattle.model.specs.Calls.{editAnswer, editTable}
 use Rattle.model.specs.declared.Darts.the-variants.{One}
 use Rattle.model.specs.declared.Answer.{Answer}
-use Rattle.program.specs.Lines.{decimal, space, lineFeed, refusedLine}
+use Rattle.program.specs.Lines.{decimal, space, lineFeed, numbersLine, refusedLine}
 use Rattle.program.specs.Opening.{longestFile, fileDimension, fileSlots, fileTable, openAnswer}
 
 -- ---- lines
@@ -32,8 +32,7 @@ shown a f = cond (eqb (number a) 0) (getD (values a) f 0) 0
 
 -- dart, answer number, size of O, added, deleted
 unfoldable pub dartLine : ℕ → Answer → List ℕ
-dartLine d a = decimal d ++ space ++ decimal (number a) ++ space ++ decimal (shown a 0) ++ space ++ decimal (shown a 1) ++ space
-    ++ decimal (shown a 2) ++ lineFeed
+dartLine d a = numbersLine (d ∷ number a ∷ shown a 0 ∷ shown a 1 ∷ shown a 2 ∷ [])
 
 unfoldable pub lastLine : ℕ → ℕ → List ℕ
 lastLine lives rest = liveWord ++ space ++ decimal lives ++ space ++ unusedWord ++ space ++ decimal rest ++ lineFeed

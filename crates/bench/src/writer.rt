@@ -2,8 +2,8 @@
 use crate::answer::shown;
 use model::Answer;
 use program::answer::number;
-use program::lines::decimal;
 use program::lines::field;
+use program::lines::numbers_line;
 use program::lines::text;
 ghost use Prim.Native.Nat.{_+_, _≤_};
 ghost use lib.ListN.{length};
@@ -15,12 +15,8 @@ pub fn dart_line(out: &mut [u8], at: usize, dart: u32, a: Answer) -> usize
     ensures { λ r. ⌜ Put (now (out .entry)) at (dartLine dart a) (now (out .exit)) r ⌝ }
 {
     let values = shown(a);
-    let first = decimal(out, at, dart);
-    let second = field(out, first, b" ", number(a));
-    let third = field(out, second, b" ", values.orbit);
-    let fourth = field(out, third, b" ", values.added);
-    let fifth = field(out, fourth, b" ", values.deleted);
-    text(out, fifth, b"\n")
+    let line = [dart, number(a), values.orbit, values.added, values.deleted];
+    numbers_line(out, at, &line)
 }
 
 pub fn last_line(out: &mut [u8], at: usize, live: u32, unused: u32) -> usize

@@ -1,9 +1,11 @@
--- Lines of ASCII: numbers in decimal, and the line of a refusal.
+-- Lines of ASCII: numbers in decimal, a line of numbers, and the line of a refusal.
 -- Assumes nothing.
-use Prim.Native.Nat.{ℕ, zero, suc, _+_, _/_, _%_}
+use Prim.Native.Nat.{ℕ, zero, suc, _+_, _-_, _/_, _%_}
 use mathlib.Core.Bool.{cond}
 use mathlib.Core.List.{List, [], _∷_, _++_}
+use lib.ListN.{length, getD}
 use lib.Dec.{ltb}
+use Rattle.base.specs.Lists.{joined}
 
 -- a number in decimal, with the fewest digits; `most` is how many there may be
 unfoldable pub spelled : ℕ → ℕ → List ℕ
@@ -18,6 +20,13 @@ space = 32 ∷ []
 
 abbrev pub lineFeed : List ℕ
 lineFeed = 10 ∷ []
+
+-- the k numbers after the first of vs, each after a space
+unfoldable pub fields : List ℕ → ℕ → List ℕ
+fields vs k = joined k (λ i. space ++ decimal (getD vs (i + 1) 0))
+
+unfoldable pub numbersLine : List ℕ → List ℕ
+numbersLine vs = decimal (getD vs 0 0) ++ fields vs (length vs - 1) ++ lineFeed
 
 -- the word refused
 abbrev pub refusedWord : List ℕ

@@ -4,7 +4,7 @@ ghost use mathlib.Core.List.{_++_};
 ghost use Prim.Native.Nat.{_+_, _%_, _≤_};
 ghost use lib.ListN.{length};
 ghost use Rattle.numbers.specs.Places.{Put};
-ghost use Rattle.program.specs.Lines.{decimal as decimalOf, refusedLine};
+ghost use Rattle.program.specs.Lines.{decimal as decimalOf, numbersLine, refusedLine};
 
 // Fixed bytes.
 pub fn text(out: &mut [u8], at: usize, bytes: &[u8]) -> usize
@@ -46,6 +46,21 @@ pub fn field(out: &mut [u8], at: usize, lead: &[u8], v: u32) -> usize
 {
     let next = text(out, at, lead);
     decimal(out, next, v)
+}
+
+// Numbers, with a space between any two, and the end of the line.
+pub fn numbers_line(out: &mut [u8], at: usize, values: &[u32]) -> usize
+    requires { ⌜ 1 ≤ length (now values) ⌝ }
+    requires { ⌜ at + length (numbersLine (now values)) ≤ length (now out) ⌝ }
+    ensures { λ r. ⌜ Put (now (out .entry)) at (numbersLine (now (values .entry))) (now (out .exit)) r ⌝ }
+{
+    let mut next = decimal(out, at, values[0]);
+    let mut k = 0;
+    while k + 1 < values.len() {
+        next = field(out, next, b" ", values[k + 1]);
+        k += 1;
+    }
+    text(out, next, b"\n")
 }
 
 pub fn refused_line(out: &mut [u8], at: usize, number: u32) -> usize

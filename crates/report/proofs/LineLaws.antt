@@ -1,29 +1,38 @@
--- A line of six numbers part by part, and that no line is long.
+-- The line of six numbers, and that no line is long.
 -- Assumes nothing.
-use Prim.Native.Nat.{ℕ, zero, suc, _+_, _*_, _-_, _≤_}
-use mathlib.Core.Path.{_≡_}
-use mathlib.Core.List.{List, _++_, append-assoc}
+use Prim.Native.Nat.{ℕ, _+_, _*_, _≤_}
+use mathlib.Core.Path.{_≡_, sym, ap, _∙_}
+use mathlib.Core.List.{List}
 use native.Mathlib.Omega.{arith}
 use lib.ListN.{length, getD, length-append}
-use Rattle.program.specs.Lines.{decimal, space, lineFeed}
+use lib.Seq.{ext-getD}
+use Rattle.base.specs.Lists.{list, listFrom, joined}
+use Rattle.base.proofs.ListLaws.{getD-list, length-list}
+use Rattle.model.specs.Calls.{countSize}
+use Rattle.numbers.specs.Places.{Put}
+use Rattle.program.specs.Lines.{fields, numbersLine}
 use Rattle.program.proofs.DecimalLaws.{decimal-short}
 use Rattle.program.proofs.LineLaws.{digits}
 use Rattle.program.specs.Opening.{mostSlots}
 use Rattle.report.specs.Report.{countLine}
 use Rattle.report.specs.Promises.{mostMaps, longestLine, Room, Few}
 
--- what of the line of c stands behind its first numbers, where k of the six are left
-abbrev pub rest : List ℕ → ℕ → List ℕ
-rest c zero = lineFeed
-rest c (suc k) = (space ++ decimal (getD c (5 - k) 0)) ++ rest c k
+-- the six numbers of an array are those of its line
+module _ (c : List ℕ) (six : length c ≡ countSize) where
+  count-numbers : countLine c ≡ numbersLine c
+  unfolding countLine
+  count-numbers = ap numbersLine (ext-getD 0 _ _ (length-list countSize _ ∙ sym six)
+      (λ k l. getD-list countSize k _ 0 (omega (arith, l, length-list countSize (λ i. getD c i 0)))))
 
-pub line-parts : (c : List ℕ) → countLine c ≡ decimal (getD c 0 0) ++ rest c 5
-unfolding countLine
-line-parts c = simp append-assoc
+  pub count-room : (at size : ℕ) → at + length (countLine c) ≤ size → at + length (numbersLine c) ≤ size
+  count-room at size h = rw (← count-numbers) h
+
+  pub count-put : (l : List ℕ) (at : ℕ) (l′ : List ℕ) (p : ℕ) → Put l at (numbersLine c) l′ p → Put l at (countLine c) l′ p
+  count-put l at l′ p z = rw count-numbers z
 
 count-length : (c : List ℕ) → length (countLine c)
     ≡ digits (getD c 0 0) + digits (getD c 1 0) + digits (getD c 2 0) + digits (getD c 3 0) + digits (getD c 4 0) + digits (getD c 5 0) + 6
-unfolding countLine
+unfolding countLine numbersLine fields joined list listFrom
 count-length c = simp length-append (omega arith)
 
 -- six numbers that are no greater than the greatest total

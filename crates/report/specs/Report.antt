@@ -12,15 +12,14 @@ use Rattle.model.specs.Answer.{number}
 use Rattle.model.specs.Map.{view}
 use Rattle.model.specs.Count.{counts}
 use Rattle.model.specs.Calls.{countSize}
-use Rattle.program.specs.Lines.{decimal, space, lineFeed, refusedLine}
+use Rattle.program.specs.Lines.{numbersLine, refusedLine}
 use Rattle.program.specs.Opening.{longestFile, fileDimension, fileSlots, fileTable, openAnswer}
 
 -- ---- lines
 
 -- live darts, vertices, edges, faces, pieces, volumes
 unfoldable pub countLine : List ℕ → List ℕ
-countLine c = decimal (getD c 0 0) ++ space ++ decimal (getD c 1 0) ++ space ++ decimal (getD c 2 0) ++ space ++ decimal (getD c 3 0) ++ space
-    ++ decimal (getD c 4 0) ++ space ++ decimal (getD c 5 0) ++ lineFeed
+countLine c = numbersLine (list countSize (λ i. getD c i 0))
 
 -- two times six numbers, added one by one
 unfoldable pub sum : List ℕ → List ℕ → List ℕ
