@@ -1,5 +1,4 @@
 -- Keys in strictly ascending order: it is enough to compare each with the one before it, and keys below a bound are at most as many.
--- Assumes nothing.
 use Prim.Native.Nat.{ℕ, zero, suc, _+_, _≤_, _<_}
 use mathlib.Core.Path.{_≡_, refl}
 use mathlib.Core.Logic.{⊎-elim}

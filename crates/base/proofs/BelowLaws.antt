@@ -1,5 +1,4 @@
 -- Laws of `allBelow`, `anyBelow` and `countBelow`: what is said of the numbers below a bound is said of each of them.
--- Assumes nothing.
 use Prim.Native.Nat.{ℕ, zero, suc, _+_, _≤_, _<_}
 use mathlib.Core.Path.{_≡_, refl, sym, ap, ap₂, _∙_, subst}
 use mathlib.Core.Logic.{_⊎_, inl, inr, ⊎-elim}

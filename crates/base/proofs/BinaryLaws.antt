@@ -1,5 +1,4 @@
 -- Laws of `binary`: two numbers as one, a digit set, the lowest set digit, and no digit set; a digit as the machine makes it.
--- Assumes nothing.
 use Prim.Native.Nat.{ℕ, zero, suc, _+_, _*_, _/_, _%_, _^_, _≤_, _<_}
 use mathlib.Core.Path.{_≡_, refl, sym, ap, ap₂, _∙_}
 use mathlib.Core.Bool.{Bool, true, false}

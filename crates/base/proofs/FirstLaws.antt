@@ -1,5 +1,4 @@
 -- Laws of `first`, `least` and `nthLowest`: what is found is there, and nothing is before it.
--- Assumes nothing.
 use Prim.Native.Nat.{ℕ, zero, suc, _+_, _<_}
 use mathlib.Core.Path.{_≡_, refl, sym, ap, ap₂, _∙_}
 use mathlib.Core.Logic.{_⊎_, inl, inr, ⊎-elim}

@@ -1,5 +1,4 @@
 -- How many numbers the pairs of two ranges give, where different pairs give different numbers: as many as there are pairs.
--- Assumes nothing.
 use Prim.Native.Nat.{ℕ, zero, suc, _+_, _*_, _<_}
 use mathlib.Core.Path.{_≡_, refl, sym, ap₂, _∙_}
 use mathlib.Core.Bool.{Bool, true, false}

@@ -1,5 +1,4 @@
 -- Rows of one width, one behind the other: row j has the numbers from j * w to j * w + (w - 1).
--- Assumes nothing.
 use Prim.Native.Nat.{ℕ, _+_, _*_, _/_, _%_, _≤_, _<_}
 use mathlib.Core.Path.{_≡_, sym, ap, _∙_}
 use native.Mathlib.Nat.{mul-add-div-right, div-eq-of-lt, add-zero, add-left-cancel, mul-le-mul-right, mod-lt, div-add-mod', div-lt-iff-lt-mul}

@@ -1,5 +1,4 @@
 -- Laws of steps: what no step changes stays, and what one step alone changes is as that step makes it.
--- Assumes nothing.
 use Prim.Native.Nat.{ℕ, zero, suc, _+_, _<_}
 use mathlib.Core.Path.{_≡_, refl, sym, ap, _∙_}
 use mathlib.Core.Logic.{⊎-elim}

@@ -1,5 +1,4 @@
 -- Numbers below a bound: for all of them, for some, how many.
--- Assumes nothing.
 use Prim.Native.Nat.{ℕ, zero, suc, _+_}
 use mathlib.Core.Bool.{Bool, true, false}
 use Rattle.base.specs.Test.{_and_, _or_, bit}

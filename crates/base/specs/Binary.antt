@@ -1,5 +1,4 @@
 -- A set of numbers below a bound as the digits of one number.
--- Assumes nothing.
 use Prim.Native.Nat.{ℕ, zero, suc, _+_, _*_}
 use mathlib.Core.Bool.{Bool}
 use Rattle.base.specs.Test.{bit}

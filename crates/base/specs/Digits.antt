@@ -1,5 +1,4 @@
 -- Numbers in bytes, the lowest byte first, in any width.
--- Assumes nothing.
 use Prim.Native.Nat.{ℕ, zero, suc, _+_, _*_, _/_, _%_}
 use mathlib.Core.List.{List, [], _∷_}
 use lib.ListN.{getD}

@@ -1,5 +1,4 @@
 -- Lists that are filled from their start, and lists into which a part of another is stored.
--- Assumes nothing.
 use Prim.Native.Nat.{ℕ, zero, suc, _+_}
 use mathlib.Core.Bool.{cond}
 use mathlib.Core.List.{List}

@@ -1,5 +1,4 @@
 -- What is found first: the first of several that is there, the least number below a bound, the k-th lowest.
--- Assumes nothing.
 use Prim.Native.Nat.{ℕ, zero, suc}
 use mathlib.Core.Bool.{Bool, true, false}
 use mathlib.Core.Option.{Option, none, some}

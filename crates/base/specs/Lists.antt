@@ -1,5 +1,4 @@
 -- Lists made from the numbers below a bound.
--- Assumes nothing.
 use Prim.Native.Nat.{ℕ, zero, suc}
 use mathlib.Core.List.{List, [], _∷_, _++_}
 

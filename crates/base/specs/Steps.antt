@@ -1,5 +1,4 @@
 -- Steps that are taken one after the other, as by a loop that counts.
--- Assumes nothing.
 use Prim.Native.Nat.{ℕ, zero, suc}
 
 module _ {A : Type 0} where

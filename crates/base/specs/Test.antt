@@ -1,5 +1,4 @@
 -- Tests and how they are joined. They stay shut, so that a law about `a and b` finds a and b by itself.
--- Assumes nothing.
 use Prim.Native.Nat.{ℕ}
 use mathlib.Core.Bool.{Bool, true, false}
 

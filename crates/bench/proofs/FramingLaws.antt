@@ -1,5 +1,4 @@
 -- The framing: the counts that were read are those of the input, and what breaks a limit or the length is a fault, also where the input is cut.
--- Assumes nothing.
 use Prim.Native.Nat.{ℕ, _+_, _*_, _≤_, _<_}
 use mathlib.Core.Path.{_≡_, refl, sym, ap, ap₂, _∙_, subst}
 use mathlib.Core.Logic.{⊎-elim}

@@ -1,5 +1,4 @@
 -- The lines part by part: how long each is, and that its parts, written one after the other, are the line.
--- Assumes nothing.
 use Prim.Native.Nat.{ℕ, _+_, _≤_}
 use mathlib.Core.Path.{_≡_, refl}
 use mathlib.Core.List.{List, [], _∷_, _++_, append-assoc}

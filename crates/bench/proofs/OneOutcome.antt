@@ -1,5 +1,4 @@
 -- One outcome: two outcomes that the bench program's promise allows are equal, in the number of bytes and in the output.
--- Assumes nothing.
 use Prim.Native.Nat.{ℕ}
 use mathlib.Core.Path.{_≡_, sym, ap, _∙_}
 use mathlib.Core.List.{List, _++_}

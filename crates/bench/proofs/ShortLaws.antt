@@ -1,5 +1,4 @@
 -- No line is long: the numbers of an edit's answer are small.
--- Assumes nothing.
 use Prim.Native.Nat.{ℕ, _*_, _≤_, _<_}
 use mathlib.Core.Path.{_≡_, refl, sym, subst}
 use mathlib.Core.Option.{Option, none, some}

@@ -1,5 +1,4 @@
 -- What a scheme in the form has: arcs in order, and targets that are the far ends of arcs.
--- Assumes nothing.
 use Prim.Native.Nat.{ℕ, _≤_, _<_}
 use mathlib.Core.Path.{_≡_, refl, subst}
 use mathlib.Core.Logic.{inl, inr}

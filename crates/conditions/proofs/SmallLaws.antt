@@ -1,5 +1,4 @@
 -- The numbers of a scheme's fault are small: a node below 16, dimensions up to 3.
--- Assumes nothing.
 use Prim.Native.Nat.{ℕ, _≤_, _<_}
 use mathlib.Core.Path.{_≡_, subst}
 use mathlib.Core.Logic.{⊎-elim}

@@ -1,5 +1,4 @@
 -- The trees that no arc leads out of have the nodes that a path over left arcs leads to from a hook.
--- Assumes nothing.
 use Prim.Native.Nat.{ℕ, zero, suc, _-_, _<_}
 use mathlib.Core.Path.{_≡_, sym, ap, _∙_, subst}
 use mathlib.Core.Logic.{inl, inr, ⊎-elim}

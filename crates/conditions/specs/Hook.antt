@@ -1,5 +1,4 @@
 -- Hook, over the lists that a scheme holds: what is asked of a hook, and the left nodes that are not reached.
--- Assumes nothing.
 use Prim.Native.Nat.{ℕ, _+_, _*_}
 use mathlib.Core.Bool.{Bool, false, not, cond}
 use mathlib.Core.List.{List}

@@ -1,5 +1,4 @@
 -- The trees of left arcs that reach from the hooks, while they are grown and when they span all that is reached.
--- Assumes nothing.
 use Prim.Native.Nat.{ℕ, _-_, _≤_, _<_}
 use mathlib.Core.Path.{_≡_}
 use mathlib.Core.Logic.{_⊎_}

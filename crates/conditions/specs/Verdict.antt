@@ -1,5 +1,4 @@
 -- What comes of a scheme: its first fault, if any, and the trees of its left arcs.
--- Assumes nothing.
 use Prim.Native.Nat.{ℕ}
 use mathlib.Core.Path.{_≡_}
 use mathlib.Core.Bool.{Bool}

@@ -1,5 +1,4 @@
 -- The laws of `volumes` and `count`: the dimensions that are listed for each kind of cell are those of its definition.
--- Assumes nothing.
 use Prim.Native.Nat.{ℕ, _+_, _≤_, _<_}
 use mathlib.Core.Path.{_≡_, refl, ap, _∙_}
 use mathlib.Core.Logic.{_⊎_, ⊎-elim}

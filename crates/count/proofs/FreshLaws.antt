@@ -1,5 +1,4 @@
 -- The laws of `fresh`: what its two tests tell.
--- Assumes nothing.
 use Prim.Native.Nat.{ℕ}
 use mathlib.Core.Path.{_≡_, sym, ap}
 use mathlib.Core.Bool.{Bool, false, not}

@@ -1,5 +1,4 @@
 -- Which edits are done, and what an edit that is done comes to: the tests of an edit pass just where none of its refusals applies.
--- Assumes nothing.
 use Prim.Native.Nat.{ℕ, _*_, _≤_, _<_}
 use mathlib.Core.Path.{_≡_, refl, sym, ap, _∙_, subst}
 use mathlib.Core.Logic.{_⊎_, inl, inr, ⊎-elim}

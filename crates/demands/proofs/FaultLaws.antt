@@ -1,5 +1,4 @@
 -- What the tests of refusals 2, 8 and 9 and the searches of refusals 3 to 5 find is what the rules of specs/Refusals.antt say.
--- Assumes nothing.
 use Prim.Native.Nat.{ℕ, suc, _+_, _≤_, _<_}
 use mathlib.Core.Path.{_≡_, refl, sym, ap, _∙_, subst}
 use mathlib.Core.Logic.{inl, inr, ⊎-elim, _↔_}

@@ -1,5 +1,4 @@
 -- The file calls of demands 1 and 2: what a load leaves, and what is written, loaded again, and written back.
--- Assumes nothing.
 use Prim.Native.Nat.{ℕ, _≤_, _<_}
 use mathlib.Core.Path.{_≡_, refl, sym, ap, _∙_, subst}
 use mathlib.Core.Logic.{⊎-elim, inl, inr}

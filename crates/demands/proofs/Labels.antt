@@ -1,5 +1,4 @@
 -- The label follows the metal in every kernel that meets demand 2, and so in ours.
--- Assumes nothing.
 use Prim.Native.Nat.{ℕ, _≤_, _<_}
 use mathlib.Core.Path.{_≡_, sym, ap, _∙_, subst}
 use mathlib.Core.List.{List}

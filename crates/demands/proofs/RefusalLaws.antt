@@ -1,5 +1,4 @@
 -- What the numbers of a chain's refusals say: which of its tests were passed, and what table, store and output hold then.
--- Assumes nothing.
 use Prim.Native.Nat.{ℕ, _≤_, _<_}
 use mathlib.Core.Path.{_≡_, refl, sym, ap, _∙_}
 use mathlib.Core.Logic.{_⊎_, ⊎-elim}

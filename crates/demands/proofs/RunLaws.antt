@@ -1,5 +1,4 @@
 -- Sequences of calls: what one call does to alike maps, a whole sequence does.
--- Assumes nothing.
 use Prim.Native.Nat.{ℕ}
 use mathlib.Core.Path.{_≡_}
 use mathlib.Core.Bool.{Bool, true}

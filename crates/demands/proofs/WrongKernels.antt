@@ -8,7 +8,6 @@
 -- Kernels that demand 1 shuts out: one whose load refuses a broken map, and one whose load leaves a word of an unused record.
 -- Two more are shut out by how they count: one counts a cell at each of its darts, and one counts volumes with n = 2.
 -- In the kernel that was licensed before, a new dart kept the tag of its slot, which it had from an earlier job: there the label does not follow the metal.
--- Assumes nothing.
 use Prim.Native.Nat.{ℕ, zero, suc, _<_}
 use mathlib.Core.Path.{_≡_, refl, sym, ap, _∙_, subst}
 use mathlib.Core.Logic.{inl, inr}

@@ -1,6 +1,5 @@
 -- The label follows the metal, as a predicate on a kernel. It stands beside the demands, and every kernel that meets demand 2 has it
 -- (`labels-follow` of proofs/Labels.antt). A tag is the lot of a sheet, and the label of a part names the tags of its darts.
--- Assumes nothing.
 use Prim.Native.Nat.{ℕ, _<_}
 use mathlib.Core.Path.{_≡_}
 use mathlib.Core.Bool.{Bool, true}

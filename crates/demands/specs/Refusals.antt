@@ -1,6 +1,5 @@
 -- Document 01's refusals: for each request those that it can be given, in their order, each with what it is given for and what is returned beside it.
 -- What they are given for is said by rules, and not by the tests and searches that find it (Calls.antt of crates/model/specs).
--- Assumes nothing.
 use Prim.Native.Nat.{ℕ, _+_, _*_, _≤_, _<_}
 use mathlib.Core.Path.{_≡_}
 use mathlib.Core.Logic.{_⊎_}

@@ -1,5 +1,4 @@
 -- Sequences of calls of a kernel, and what demand 3 says of them; its words as definitions for one call are in crates/model/specs/Sequence.antt.
--- Assumes nothing.
 use Prim.Native.Nat.{ℕ}
 use mathlib.Core.Bool.{Bool, true}
 use mathlib.Core.List.{List, [], _∷_, Forall₂}

@@ -1,5 +1,4 @@
 -- The laws of `settle` and `apply`: from one phase of an edit to the next, and what its ends come to.
--- Assumes nothing.
 use Prim.Native.Nat.{ℕ, _+_, _*_, _≤_, _<_}
 use mathlib.Core.Path.{_≡_, refl, sym, ap₂, _∙_, subst}
 use mathlib.Core.Bool.{Bool, true, false}

@@ -1,5 +1,4 @@
 -- The laws of `nodes::of_kind`: the list of the nodes of a kind, with one node more.
--- Assumes nothing.
 use Prim.Native.Nat.{ℕ, _+_, _≤_, _<_}
 use mathlib.Core.Path.{_≡_, refl, sym, ap, _∙_}
 use mathlib.Core.Logic.{⊎-elim}

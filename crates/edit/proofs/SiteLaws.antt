@@ -1,5 +1,4 @@
 -- The laws of `site::apply_at`: refusals 6 to 8, and what holds past them; and of `site::is_dart`.
--- Assumes nothing.
 use Prim.Native.Nat.{ℕ, _-_, _≤_, _<_}
 use mathlib.Core.Path.{_≡_, refl, ap, _∙_}
 use mathlib.Core.Logic.{_⊎_, ⊎-elim}

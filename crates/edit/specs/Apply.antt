@@ -1,5 +1,4 @@
 -- An accepted scheme at a dart: what is known between the phases, and what comes of it.
--- Assumes nothing.
 use Prim.Native.Nat.{ℕ, _*_}
 use mathlib.Core.Path.{_≡_}
 use mathlib.Core.Bool.{true, cond}

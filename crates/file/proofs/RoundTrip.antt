@@ -1,6 +1,5 @@
 -- The round trip: a map that is written and loaded again is the same, and a file in the form is written back byte for byte.
 -- The length of a file is `length-file` of proofs/SectionLaws.antt; that maps which are alike have one file is `same-file` of the model.
--- Assumes nothing.
 use Prim.Native.Nat.{ℕ, _+_, _*_, _^_, _≤_, _<_}
 use mathlib.Core.Path.{_≡_, refl, sym, ap, _∙_}
 use mathlib.Core.Logic.{_⊎_, ⊎-elim}

@@ -1,5 +1,4 @@
 -- The form of a file whose numbers have w bytes, test by test. It stands for `formIn` (proofs/FormLaws.antt).
--- Assumes nothing.
 use Prim.Native.Nat.{ℕ, _+_}
 use mathlib.Core.Path.{_≡_}
 use mathlib.Core.Logic.{_⊎_}

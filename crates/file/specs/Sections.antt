@@ -1,5 +1,4 @@
 -- What each section of a file whose numbers have w bytes has of a dart, and how long that is.
--- Assumes nothing.
 use Prim.Native.Nat.{ℕ, suc, _+_, _*_}
 use mathlib.Core.Bool.{cond}
 use mathlib.Core.List.{List, [], _++_}

@@ -1,6 +1,5 @@
 -- What the first byte says, and where the nodes stand; counts that are out of their range, or sections that do not fill the bytes, refute the
 -- form.
--- Assumes nothing.
 use Prim.Native.Nat.{ℕ, _+_, _*_, _-_, _≤_, _<_}
 use mathlib.Core.Path.{_≡_, refl, sym, ap, ap₂, _∙_}
 use mathlib.Core.Logic.{_⊎_, inl, inr, ⊎-elim}

@@ -1,5 +1,4 @@
 -- The nodes of the bytes: how many there are, how many bytes name a donor, and the place after them.
--- Assumes nothing.
 use Prim.Native.Nat.{ℕ, _+_, _≤_}
 use mathlib.Core.Path.{_≡_}
 use mathlib.Core.Bool.{true, false, cond}

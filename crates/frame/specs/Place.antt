@@ -1,5 +1,4 @@
 -- What the cursor's methods answer at a place of the bytes.
--- Assumes nothing.
 use Prim.Native.Nat.{ℕ, _+_, _*_}
 use mathlib.Core.Path.{_≡_}
 use mathlib.Core.Bool.{Bool, cond}

@@ -1,6 +1,5 @@
 -- The search over nodes and dimension pairs: what it knows while it finds nothing, and what it has found where it stops. At a node it goes through
 -- the pairs by their second dimension, which up to dimension 3 is the order of the pairs.
--- Assumes nothing.
 use Prim.Native.Nat.{ℕ, suc, _+_, _≤_, _<_}
 use mathlib.Core.Path.{_≡_, sym, ap, _∙_}
 use mathlib.Core.Logic.{⊎-elim}

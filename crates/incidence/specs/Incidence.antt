@@ -1,5 +1,4 @@
 -- Incidence, over the codes of arcs and the nodes that have two of a dimension, and the fault of incidence or of the cycles.
--- Assumes nothing.
 use Prim.Native.Nat.{ℕ, suc}
 use mathlib.Core.Bool.{Bool, false, not, cond}
 use mathlib.Core.Option.{Option, none, some}

@@ -1,5 +1,4 @@
 -- The sizes of a call, and a table check, refusal by refusal.
--- Assumes nothing.
 use Prim.Native.Nat.{ℕ, _*_}
 use mathlib.Core.Path.{_≡_, refl, sym, ap, _∙_}
 use mathlib.Core.Logic.{_⊎_}

@@ -1,5 +1,4 @@
 -- The stages of an edit, refusal by refusal.
--- Assumes nothing.
 use Prim.Native.Nat.{ℕ}
 use mathlib.Core.Path.{_≡_, refl, sym, ap, _∙_, subst}
 use mathlib.Core.Logic.{by-cases}

@@ -1,6 +1,5 @@
 -- The laws of `arcs`: the loops of `straight` and `turned` with one place more, the first place at which the arc does not hold, and the
 -- end; then each way out of `explicit` and `arc`, and the loop of `arcs`.
--- Assumes nothing.
 use Prim.Native.Nat.{ℕ, _+_, _*_, _-_, _/_, _%_, _≤_, _<_}
 use mathlib.Core.Path.{_≡_, sym, ap, _∙_}
 use mathlib.Core.Bool.{Bool, true, false}

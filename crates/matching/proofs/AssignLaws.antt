@@ -1,5 +1,4 @@
 -- The laws of `assign`: with all rows in the store, the arcs pass their tests just where there is a match, and then each dart is the image of its pair.
--- Assumes nothing.
 use Prim.Native.Nat.{ℕ, _+_, _*_, _-_, _/_, _%_, _≤_, _<_}
 use mathlib.Core.Path.{_≡_, refl, sym, ap, ap₂, _∙_, subst}
 use mathlib.Core.Logic.{_⊎_, inl, inr, ⊎-elim, by-cases}

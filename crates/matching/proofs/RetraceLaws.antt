@@ -1,6 +1,5 @@
 -- The laws of the module `retrace`: the row of the second hook while its darts take their places, link by link in the walk's order, and why there is no
 -- match where a dart cannot take its place.
--- Assumes nothing.
 use Prim.Native.Nat.{ℕ, _+_, _*_, _-_, _≤_, _<_}
 use mathlib.Core.Path.{_≡_, refl, sym, ap, ap₂, _∙_, subst}
 use mathlib.Core.Logic.{_⊎_, inl, inr, _≢_, ⊎-elim, by-cases}

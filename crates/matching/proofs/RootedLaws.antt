@@ -1,5 +1,4 @@
 -- For a caller of `assign`: the trees of an accepted scheme's left arcs span its left nodes.
--- Assumes nothing.
 use Prim.Native.Nat.{ℕ, _≤_, _<_}
 use mathlib.Core.Path.{_≡_, sym, ap, ap₂, _∙_, subst}
 use mathlib.Core.Logic.{inl, inr, ⊎-elim, by-cases}

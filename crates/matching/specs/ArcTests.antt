@@ -1,5 +1,4 @@
 -- The tests of the arcs over the whole orbit, once the rows of all left nodes stand in the store.
--- Assumes nothing.
 use Prim.Native.Nat.{ℕ, _+_, _*_, _-_, _/_, _%_, _≤_, _<_}
 use mathlib.Core.Path.{_≡_}
 use mathlib.Core.Bool.{Bool, true, cond}

@@ -1,5 +1,4 @@
 -- What `assign` is asked, and what it answers.
--- Assumes nothing.
 use Prim.Native.Nat.{ℕ}
 use mathlib.Core.Path.{_≡_}
 use mathlib.Core.Bool.{Bool, true}

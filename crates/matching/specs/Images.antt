@@ -1,6 +1,5 @@
 -- The rows of the left nodes along the trees: what they start from, one row, and all of them.
 -- The rows of the hooks, from which they start, are in Retrace.antt.
--- Assumes nothing.
 use Prim.Native.Nat.{ℕ, _+_, _*_, _≤_, _<_}
 use mathlib.Core.Path.{_≡_}
 use mathlib.Core.Bool.{Bool, true, false}

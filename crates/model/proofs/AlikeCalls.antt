@@ -1,5 +1,4 @@
 -- Each call on two tables that hold alike maps, well-formed or not: equal answers, equal written files, and again two such tables.
--- Assumes nothing.
 use Prim.Native.Nat.{ℕ, _*_, _≤_}
 use mathlib.Core.Path.{_≡_, refl, sym, ap, ap₂, _∙_, subst}
 use mathlib.Core.Bool.{Bool, not, cond}

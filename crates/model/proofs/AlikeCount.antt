@@ -1,5 +1,4 @@
 -- Alike well-formed maps have the same counts: what their unused records hold counts for nothing.
--- Assumes nothing.
 use Prim.Native.Nat.{ℕ, _+_, _≤_, _<_}
 use mathlib.Core.Path.{_≡_, refl, ap, _∙_}
 use mathlib.Core.Bool.{Bool, not}

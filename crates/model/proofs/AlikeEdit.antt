@@ -1,5 +1,4 @@
 -- An accepted edit at the same dart of alike well-formed maps leaves alike maps, with the same counts.
--- Assumes nothing.
 use Prim.Native.Nat.{ℕ, _+_, _*_, _≤_, _<_}
 use mathlib.Core.Path.{_≡_, refl, sym, ap, ap₂, _∙_}
 use mathlib.Core.Logic.{⊎-elim}

@@ -1,6 +1,5 @@
 -- Alike maps: the relation is an equivalence, a map and its table are alike, what is like a well-formed map is well-formed,
 -- and alike well-formed maps have the same states, free slots and orbits.
--- Assumes nothing.
 use Prim.Native.Nat.{ℕ, _≤_, _<_}
 use mathlib.Core.Path.{_≡_, refl, sym, ap, _∙_, subst, fun-ext}
 use mathlib.Core.Logic.{_⊎_, inl, inr, ⊎-elim}

@@ -1,5 +1,4 @@
 -- Alike well-formed maps have the same assignments: a match in one is a match in the other, with the same darts.
--- Assumes nothing.
 use Prim.Native.Nat.{ℕ, _≤_, _<_}
 use mathlib.Core.Path.{_≡_, sym, ap, _∙_, subst}
 use mathlib.Core.Logic.{⊎-elim}

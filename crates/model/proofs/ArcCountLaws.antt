@@ -1,5 +1,4 @@
 -- How many arcs a side of few nodes has at the most, and how many nodes have donors beside the left ones.
--- Assumes nothing.
 use Prim.Native.Nat.{ℕ, zero, suc, _+_, _*_, _≤_, _<_}
 use mathlib.Core.Path.{_≡_, refl, ap}
 use mathlib.Core.Logic.{⊎-elim}

@@ -1,5 +1,4 @@
 -- The arcs of an accepted scheme's nodes: what `arcAt` finds is what the arcs and words say, and an explicit arc is found from both ends.
--- Assumes nothing.
 use Prim.Native.Nat.{ℕ, _+_, _≤_, _<_}
 use mathlib.Core.Path.{_≡_, refl, sym, ap, ap₂, _∙_, subst}
 use mathlib.Core.Logic.{⊎-elim}

@@ -1,6 +1,5 @@
 -- A map that is not well-formed, as a load may leave it: a check and a write answer 7, so does an edit whose sizes and scheme are right, and each leaves
 -- table and output as they were.
--- Assumes nothing.
 use Prim.Native.Nat.{ℕ}
 use mathlib.Core.Path.{_≡_, refl}
 use mathlib.Core.Bool.{true, false}

@@ -1,5 +1,4 @@
 -- An edit that is not refused leaves a well-formed table, and any other leaves the table as it was.
--- Assumes nothing.
 use Prim.Native.Nat.{ℕ, _≤_}
 use mathlib.Core.Path.{_≡_, refl, sym, ap, _∙_}
 use mathlib.Core.Bool.{Bool, true, false, not, cond, true≢false}

@@ -1,5 +1,4 @@
 -- The codes of a scheme's arcs: its targets are the codes of its nodes, which are small, and arcs with one code are one.
--- Assumes nothing.
 use Prim.Native.Nat.{ℕ, _≤_, _<_}
 use mathlib.Core.Path.{_≡_, refl, ap, subst}
 use mathlib.Core.Bool.{Bool, true, false, cond}

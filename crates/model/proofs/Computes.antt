@@ -1,5 +1,4 @@
 -- `unfolding computes` opens every definition of the specification, for a proof that computes with it.
--- Assumes nothing.
 use Rattle.base.specs.Test.{_and_, _or_, _⇒_}
 use Rattle.base.specs.Below.{allBelow, anyBelow, countBelow}
 use Rattle.base.specs.First.{someIf, _orElse_, there, first, least, nthLowest}

@@ -1,6 +1,5 @@
 -- Laws of counting cells: each orbit has one smallest dart, a loop that walks the orbit of each live dart not reached before walks each orbit once, from
 -- that dart, and so the sizes of the counted orbits are together the live darts.
--- Assumes nothing.
 use Prim.Native.Nat.{ℕ, zero, suc, _+_, _≤_, _<_}
 use mathlib.Core.Path.{_≡_, refl, sym, ap, _∙_, fun-ext}
 use mathlib.Core.Logic.{_⊎_, inl, inr, ⊎-elim, _↔_}

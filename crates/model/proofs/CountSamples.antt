@@ -1,5 +1,4 @@
 -- The counts of small maps, which antt computes: a row is a map, and how many live darts, vertices, edges, faces, pieces and volumes it must have.
--- Assumes nothing.
 use Prim.Native.Nat.{ℕ}
 use mathlib.Core.Path.{_≡_, refl}
 use mathlib.Core.Bool.{true}

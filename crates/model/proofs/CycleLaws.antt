@@ -1,5 +1,4 @@
 -- `onCycle` computes what `Cycle` says; an ij-cycle is passed on along explicit i- and j-arcs.
--- Assumes nothing.
 use Prim.Native.Nat.{ℕ}
 use mathlib.Core.Path.{_≡_, refl, sym, ap, _∙_}
 use mathlib.Core.Logic.{inl, inr, ⊎-elim}

@@ -1,5 +1,4 @@
 -- The darts of an accepted edit's pairs are slots, all different on each side; so the preserved or added pair of a slot is found, and is the only one.
--- Assumes nothing.
 use Prim.Native.Nat.{ℕ, _≤_, _<_}
 use mathlib.Core.Path.{_≡_, refl, sym, ap, ap₂, _∙_, subst}
 use mathlib.Core.Logic.{_⊎_, ⊎-elim}

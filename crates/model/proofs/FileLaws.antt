@@ -1,5 +1,4 @@
 -- The file of a map is settled by its live records: alike maps have one file. The map of a file in the form has the file's records.
--- Assumes nothing.
 use Prim.Native.Nat.{ℕ, suc, _≤_, _<_}
 use mathlib.Core.Path.{_≡_, refl, ap, ap₂, _∙_}
 use mathlib.Core.Bool.{Bool, true, false, cond}

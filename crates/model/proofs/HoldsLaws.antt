@@ -1,5 +1,4 @@
 -- Tables that hold a well-formed map: the table check finds just these, the table of a well-formed map is one, and so is a table of zeros.
--- Assumes nothing.
 use Prim.Native.Nat.{ℕ, _*_, _≤_, _<_}
 use mathlib.Core.Path.{_≡_, refl, sym, ap, _∙_, subst}
 use mathlib.Core.Logic.{inl, inr, ⊎-elim, _↔_}

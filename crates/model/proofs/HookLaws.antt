@@ -1,5 +1,4 @@
 -- Which nodes are hooks and what is asked of them; a path over left arcs is found from a hook to just those nodes that are reached.
--- Assumes nothing.
 use Prim.Native.Nat.{ℕ, _<_}
 use mathlib.Core.Path.{_≡_, refl, sym, ap, _∙_, subst}
 use mathlib.Core.Logic.{_⊎_, inl, inr, ⊎-elim, _↔_}

@@ -1,5 +1,4 @@
 -- The laws of kinds: which sides a deleted, a preserved and an added node is on.
--- Assumes nothing.
 use Prim.Native.Nat.{ℕ}
 use mathlib.Core.Path.{_≡_, sym, _∙_}
 use mathlib.Core.Logic.{⊎-elim}

@@ -1,5 +1,4 @@
 -- After a rewriting every live dart has its own tag, or that of its donor's dart, from before.
--- Assumes nothing.
 use Prim.Native.Nat.{ℕ, _<_}
 use mathlib.Core.Path.{_≡_, refl, sym, ap, _∙_, subst}
 use mathlib.Core.Logic.{⊎-elim}

@@ -1,6 +1,5 @@
 -- The longest schemes: 537 bytes without donors, 547 with them, and one more with a second hook. There are schemes of these four lengths in the form,
 -- and none is longer.
--- Assumes nothing.
 use Prim.Native.Nat.{ℕ, _+_, _*_, _-_, _≤_}
 use mathlib.Core.Path.{_≡_, refl}
 use mathlib.Core.Logic.{⊎-elim}

@@ -1,5 +1,4 @@
 -- The view and the table are two forms of one thing: a table is the words of its view, and a map is the view of its words.
--- Assumes nothing.
 use Prim.Native.Nat.{ℕ, zero, suc, _+_, _*_, _/_, _%_, _≤_, _<_}
 use mathlib.Core.Path.{_≡_, refl, sym, ap, _∙_}
 use mathlib.Core.Logic.{⊎-elim}

@@ -1,5 +1,4 @@
 -- Where the nodes stand in the bytes: each after the one before it, and after the donors of those before it.
--- Assumes nothing.
 use Prim.Native.Nat.{ℕ, zero, suc, _+_, _*_, _≤_}
 use mathlib.Core.Path.{_≡_, refl, _∙_}
 use mathlib.Core.Bool.{false}

@@ -1,6 +1,5 @@
 -- The orbits of a well-formed map are classes of its live darts: each is in its own orbit, darts of one orbit are in the orbits of one another, and
 -- what is in the orbit of one of them is in the orbit of each.
--- Assumes nothing.
 use Prim.Native.Nat.{ℕ, _≤_, _<_}
 use mathlib.Core.Path.{_≡_, sym, ap, _∙_}
 use mathlib.Core.Bool.{true}

@@ -1,5 +1,4 @@
 -- The ranks of the added pairs: each below the number of added darts, and no two the same. What the dart of a pair is by the kind of its node.
--- Assumes nothing.
 use Prim.Native.Nat.{ℕ, _<_}
 use mathlib.Core.Path.{_≡_, sym, ap, _∙_}
 use mathlib.Core.Logic.{⊎-elim}

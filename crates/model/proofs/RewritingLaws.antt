@@ -1,5 +1,4 @@
 -- The edited map is the rewriting that docs/RULES.md describes, statement by statement.
--- Assumes nothing.
 use Prim.Native.Nat.{ℕ, _<_}
 use mathlib.Core.Path.{_≡_, refl, sym, ap, _∙_, subst}
 use mathlib.Core.Logic.{⊎-elim}

@@ -1,5 +1,4 @@
 -- The statements of `Rewriting` are the edit and not only true of it: two rewritings by one scheme at one orbit are the same table.
--- Assumes nothing.
 use Prim.Native.Nat.{ℕ, _≤_, _<_}
 use mathlib.Core.Path.{_≡_, refl, sym, ap, _∙_, subst}
 use mathlib.Core.Logic.{_⊎_, inl, inr, ⊎-elim}

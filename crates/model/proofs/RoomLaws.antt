@@ -1,5 +1,4 @@
 -- The room for new darts: which slots an edit frees, and that the slots that are free for it are as many as the unused ones and the deleted darts.
--- Assumes nothing.
 use Prim.Native.Nat.{ℕ, _+_, _<_}
 use mathlib.Core.Path.{_≡_, ap, _∙_}
 use mathlib.Core.Bool.{Bool, true}

@@ -1,6 +1,5 @@
 -- Demand 3 for one call: alike maps answer alike and stay alike, and where both are known to be well-formed they are. specs/Sequence.antt has its words
 -- as definitions.
--- Assumes nothing.
 use Prim.Native.Nat.{ℕ}
 use mathlib.Core.Path.{_≡_, refl, sym, ap, _∙_, subst}
 use mathlib.Core.Logic.{⊎-elim}

@@ -1,5 +1,4 @@
 -- The test of a call's sizes finds just those that are right.
--- Assumes nothing.
 use Prim.Native.Nat.{ℕ}
 use mathlib.Core.Path.{_≡_}
 use mathlib.Core.Logic.{inl, inr, ⊎-elim, _↔_}

@@ -1,6 +1,5 @@
 -- In an unused record of a well-formed map the words beside the state may be anything: whatever is put there, the table holds a well-formed map like
 -- the one before.
--- Assumes nothing.
 use Prim.Native.Nat.{ℕ, _≤_}
 use mathlib.Core.Path.{_≡_, refl, sym, ap, _∙_}
 use mathlib.Core.Logic.{inl, inr, ⊎-elim}

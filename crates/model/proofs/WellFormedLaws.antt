@@ -1,5 +1,4 @@
 -- `wellFormed` computes what `WellFormed` says.
--- Assumes nothing.
 use Prim.Native.Nat.{ℕ, suc, _≤_, _<_}
 use mathlib.Core.Path.{_≡_}
 use mathlib.Core.Logic.{inl, inr, ⊎-elim, _↔_}

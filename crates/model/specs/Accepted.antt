@@ -1,6 +1,5 @@
 -- 'When a scheme is accepted', rule by rule: hook, incidence, cycles. In a scheme in the form, the tests of Conditions.antt find no fault
 -- (`schemeFault`) just where all of this holds (`accepted-iff` of proofs/AcceptedLaws.antt).
--- Assumes nothing.
 use Prim.Native.Nat.{ℕ, _+_, _≤_, _<_}
 use mathlib.Core.Path.{_≡_}
 use mathlib.Core.Bool.{true}

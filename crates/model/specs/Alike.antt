@@ -1,5 +1,4 @@
 -- When two maps are alike: the same live slots, and equal live records. What their unused records hold is not asked.
--- Assumes nothing.
 use Prim.Native.Nat.{ℕ, _≤_, _<_}
 use mathlib.Core.Path.{_≡_}
 use mathlib.Core.Logic.{_↔_}

@@ -1,5 +1,4 @@
 -- 'When a scheme is accepted', first sentence: what a node has on a side at a dimension. `arcAt` (Conditions.antt) says what it is in a scheme.
--- Assumes nothing.
 use Prim.Native.Nat.{ℕ}
 use mathlib.Core.Bool.{Bool, cond}
 use mathlib.Core.Option.{Option, none, some}

@@ -1,6 +1,5 @@
 -- 'The scheme's bytes': where each of the five sections, the donors and the second hook stand. Bytes past the end count as 0; `inForm`
 -- (Scheme.antt) tests the exact length.
--- Assumes nothing.
 use Prim.Native.Nat.{ℕ, zero, suc, _+_, _*_, _-_}
 use mathlib.Core.Bool.{Bool, cond}
 use mathlib.Core.List.{List}

@@ -1,6 +1,5 @@
 -- The cells of a map, counted: "A cell is counted by its smallest dart. Vertices are orbits of all links but 0, edges all but 1, faces all but 2,
 -- volumes all but 3, pieces all links." An orbit type is given by its count k and its dimensions, as in Orbit.antt.
--- Assumes nothing.
 use Prim.Native.Nat.{ℕ, zero, suc, _+_}
 use mathlib.Core.Bool.{Bool, not, cond}
 use mathlib.Core.List.{List, [], _∷_}

@@ -1,7 +1,6 @@
 -- 'What an edit does': the dart of each pair, the pair of each slot, and the new map, slot by slot. Rewriting.antt says the same sentence by
 -- sentence, of the map before and the map after; `edited` is that rewriting (`rewriting` of proofs/RewritingLaws.antt).
 -- At the site E, m is the map, S the scheme, O the orbit, all as they were before the edit: nothing here reads a link that was rewritten.
--- Assumes nothing.
 use Prim.Native.Nat.{ℕ, _+_, _*_}
 use mathlib.Core.Bool.{Bool, true, false, cond}
 use mathlib.Core.Option.{Option, none, some, Option·getD}

@@ -1,6 +1,5 @@
 -- 'The map file': the bytes that are written for a map, when bytes are a map file, and the map that is loaded from them.
 -- What ends in `In` is over the width w of a file's numbers. A map file is the instance at `width`, which stands nowhere else.
--- Assumes nothing.
 use Prim.Native.Nat.{ℕ, suc, _+_, _*_}
 use mathlib.Core.Bool.{Bool, cond}
 use mathlib.Core.Option.{Option, none, some}

@@ -1,7 +1,6 @@
 -- The label follows the metal: where the tag of a live dart comes from after an edit. The tag is the lot of the sheet, which the label names.
 -- At the site E, m is the map before the edit, S the scheme, O the orbit, and f gives the dart of each pair. Every rewriting is such
 -- (`label-follows` of proofs/LabelLaws.antt).
--- Assumes nothing.
 use Prim.Native.Nat.{ℕ, _<_}
 use mathlib.Core.Path.{_≡_}
 use mathlib.Core.Bool.{true}

@@ -1,6 +1,5 @@
 -- 'The dart table': a map looked at through a view, the state, links and tag of each slot. All rules are over the view.
 -- The table's layout is `recordSize`, `column` and `recordOf`; beside the crate `table`, nothing else knows it.
--- Assumes nothing.
 use Prim.Native.Nat.{ℕ, _+_, _*_}
 use mathlib.Core.Bool.{Bool, cond}
 use mathlib.Core.List.{List, [], _∷_}

@@ -1,6 +1,5 @@
 -- What an edit at the site E does, as statements about the map before it, m, and after it, m′: S is the scheme, O the orbit, and f gives the dart
 -- of each pair. They leave nothing open: two rewritings at one site are one table (`rewriting-once` of proofs/RewritingOnce.antt).
--- Assumes nothing.
 use Prim.Native.Nat.{ℕ, _+_, _*_, _≤_, _<_}
 use mathlib.Core.Path.{_≡_}
 use mathlib.Core.Bool.{true}

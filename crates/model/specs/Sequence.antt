@@ -3,7 +3,6 @@
 -- and lent buffers of equal length." After every call both have the same live slots and equal live records, and answers and written files are equal;
 -- both are well-formed "from the start and from each table check that answers 0 until the next load".
 -- The definitions below say this in its order for one call; `AlikeRuns` of crates/demands/specs/Runs.antt says it of sequences of any kernel's calls.
--- Assumes nothing.
 use Prim.Native.Nat.{ℕ, _<_}
 use mathlib.Core.Path.{_≡_}
 use mathlib.Core.Logic.{_⊎_}

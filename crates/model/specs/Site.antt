@@ -1,5 +1,4 @@
 -- The site of an edit: whatever an edit does is asked of it.
--- Assumes nothing.
 use Prim.Native.Nat.{ℕ, _<_}
 use mathlib.Core.Path.{_≡_}
 use mathlib.Core.Bool.{Bool, false}

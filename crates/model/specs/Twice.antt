@@ -1,5 +1,4 @@
 -- Which nodes have two arcs of a dimension. No rule of document 01 uses this by itself: who reads a scheme notes it, for the test of incidence.
--- Assumes nothing.
 use Prim.Native.Nat.{ℕ}
 use mathlib.Core.Bool.{Bool}
 use mathlib.Core.List.{List}

@@ -1,5 +1,4 @@
 -- 'The dart table': when a table is well-formed for n. Tags have no constraint, and a table without live darts is well-formed.
--- Assumes nothing.
 use Prim.Native.Nat.{ℕ, suc, _+_, _≤_, _<_}
 use mathlib.Core.Path.{_≡_}
 use mathlib.Core.Logic.{_⊎_}

@@ -1,5 +1,4 @@
 -- Two numbers side by side are one of the joined width, read or put; what is put in two runs is put in one.
--- Assumes nothing.
 use Prim.Native.Nat.{ℕ, _+_, _*_, _/_, _%_, _^_, _≤_, _<_}
 use mathlib.Core.Path.{_≡_, refl, sym, ap, _∙_}
 use mathlib.Core.Logic.{inl, inr}

@@ -1,5 +1,4 @@
 -- What stands between two places of a list of bytes: a number that was read there, or bytes that were put there.
--- Assumes nothing.
 use Prim.Native.Nat.{ℕ, _+_, _^_, _<_}
 use mathlib.Core.Path.{_≡_}
 use mathlib.Core.Logic.{_⊎_}

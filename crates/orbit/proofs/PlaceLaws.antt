@@ -1,5 +1,4 @@
 -- For the phases of an edit: that the orbit type is short, and after the walk the darts of the orbit by their places and their marks.
--- Assumes nothing.
 use Prim.Native.Nat.{ℕ, _-_, _≤_, _<_}
 use mathlib.Core.Path.{_≡_, sym, ap, _∙_}
 use mathlib.Core.Bool.{true}

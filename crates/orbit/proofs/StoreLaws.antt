@@ -1,5 +1,4 @@
 -- The laws of `store`: what stands in the store after one word of it was set, after a slot took a place, and after all marks were cleared.
--- Assumes nothing.
 use Prim.Native.Nat.{ℕ, _+_, _*_, _-_, _≤_, _<_}
 use mathlib.Core.Path.{_≡_, sym, ap, _∙_}
 use mathlib.Core.Logic.{_≢_, by-cases}

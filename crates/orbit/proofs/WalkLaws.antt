@@ -1,5 +1,4 @@
 -- The laws of `follow`, `expand` and `walk`: a turn of each loop, on plain values; and what the walk found still holds after the later phases.
--- Assumes nothing.
 use Prim.Native.Nat.{ℕ, _+_, _*_, _-_, _≤_, _<_}
 use mathlib.Core.Path.{_≡_, refl, sym, ap, _∙_, subst}
 use mathlib.Core.Logic.{_≢_, by-cases, ⊎-elim}

@@ -1,5 +1,4 @@
 -- The site of an edit in a map, and its orbit in the store: what every phase of an edit starts from.
--- Assumes nothing.
 use Prim.Native.Nat.{ℕ, _≤_}
 use mathlib.Core.List.{List}
 use Rattle.model.specs.Map.{Map, maxSlots}

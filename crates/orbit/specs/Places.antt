@@ -1,5 +1,4 @@
 -- The store after a slot took a place, and after all marks were cleared.
--- Assumes nothing.
 use Prim.Native.Nat.{ℕ, _+_, _*_, _<_}
 use mathlib.Core.Path.{_≡_}
 use mathlib.Core.List.{List, _++_}

@@ -1,5 +1,4 @@
 -- What the walk of an orbit is given, and what a step of it does to the store.
--- Assumes nothing.
 use Prim.Native.Nat.{ℕ, _*_, _≤_, _<_}
 use mathlib.Core.Path.{_≡_}
 use mathlib.Core.Logic.{_≢_}

@@ -1,6 +1,5 @@
 -- The refusals of a map file that is opened: 11 where it names no n and N, 1 where the programs do not take its N, and then, by its load and the
 -- check, 1, 11 and 7 in this order.
--- Assumes nothing.
 use Prim.Native.Nat.{ℕ}
 use mathlib.Core.Path.{_≡_, refl, ap, _∙_}
 use mathlib.Core.Bool.{Bool, true, false, not, cond}

@@ -1,5 +1,4 @@
 -- A line of numbers and the line of a refusal, part by part: how long it is, and that its parts, written one after the other, are the line.
--- Assumes nothing.
 use Prim.Native.Nat.{ℕ, zero, suc, _+_, _-_, _≤_, _<_}
 use mathlib.Core.Path.{_≡_, refl, ap, _∙_}
 use mathlib.Core.Logic.{⊎-elim}

@@ -1,5 +1,4 @@
 -- Opening a map file step by step: the n and N that it names, its load, the check, and what the table holds.
--- Assumes nothing.
 use Prim.Native.Nat.{ℕ, _≤_, _<_}
 use mathlib.Core.Path.{_≡_, refl, sym, ap, ap₂, _∙_, subst}
 use mathlib.Core.Logic.{by-cases}

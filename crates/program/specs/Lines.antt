@@ -1,5 +1,4 @@
 -- Lines of ASCII: numbers in decimal, a line of numbers, and the line of a refusal.
--- Assumes nothing.
 use Prim.Native.Nat.{ℕ, zero, suc, _+_, _-_, _/_, _%_}
 use mathlib.Core.Bool.{cond}
 use mathlib.Core.List.{List, [], _∷_, _++_}

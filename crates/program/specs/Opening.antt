@@ -1,5 +1,4 @@
 -- Opening a map file by the n and N that it names itself: the answer, and what the table holds afterwards.
--- Assumes nothing.
 use Prim.Native.Nat.{ℕ, _≤_}
 use mathlib.Core.Path.{_≡_}
 use mathlib.Core.Bool.{cond}

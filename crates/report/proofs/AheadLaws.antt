@@ -1,5 +1,4 @@
 -- What comes ahead, case by case: the length of the next map, the end of the input, or a fault.
--- Assumes nothing.
 use Prim.Native.Nat.{ℕ, suc, _+_, _-_, _≤_, _<_}
 use mathlib.Core.Path.{_≡_, refl, sym, ap, subst}
 use mathlib.Core.Bool.{true, false, cond}

@@ -1,5 +1,4 @@
 -- The report comes to an end: from every state that it comes to, each step leaves fewer, and what it wants is within its limit.
--- Assumes nothing.
 use Prim.Native.Nat.{ℕ, zero, suc, _+_, _≤_, _<_}
 use mathlib.Core.Path.{_≡_, refl}
 use mathlib.Core.Logic.{⊎-elim}

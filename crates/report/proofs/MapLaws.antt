@@ -1,5 +1,4 @@
 -- A map of the report: its line, the sums with it, which cannot overflow, and what it leaves in table and store.
--- Assumes nothing.
 use Prim.Native.Nat.{ℕ, _+_, _*_, _-_, _≤_}
 use mathlib.Core.Path.{_≡_, refl, ap, _∙_}
 use mathlib.Core.Logic.{⊎-elim}

@@ -1,5 +1,4 @@
 -- One outcome: two outcomes that the promise of a step allows are equal, in state, sums, output, table and store.
--- Assumes nothing.
 use mathlib.Core.Path.{_≡_, sym, _∙_}
 use Prim.Native.Nat.{ℕ}
 use mathlib.Core.List.{List}

@@ -1,5 +1,4 @@
 -- Every input has a run of the report: each state that it comes to has a step, and the steps end. What the run prints is the report of the input.
--- Assumes nothing.
 use Prim.Native.Nat.{ℕ, zero, suc, _+_, _*_, _≤_, _<_}
 use mathlib.Core.Path.{_≡_, refl, sym, subst}
 use mathlib.Core.Logic.{_⊎_, inl, inr, ⊎-elim}

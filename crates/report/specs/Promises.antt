@@ -1,5 +1,4 @@
 -- What each step of the report promises, and what a run of steps prints.
--- Assumes nothing.
 use Prim.Native.Nat.{ℕ, _+_, _*_, _≤_}
 use mathlib.Core.Path.{_≡_}
 use mathlib.Core.List.{List, [], _++_}

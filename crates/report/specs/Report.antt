@@ -1,5 +1,4 @@
 -- The report program: what it prints for what stands on its standard input, a two-byte number of maps and each map file after a two-byte length.
--- Assumes nothing.
 use Prim.Native.Nat.{ℕ, zero, suc, _+_}
 use mathlib.Core.Bool.{Bool, cond}
 use mathlib.Core.List.{List, _++_}

@@ -1,6 +1,5 @@
 -- The report as steps: in each state the program wants some bytes of the input, and what it gets of them, which is fewer where the input ends, brings
 -- it to the next state. What the steps print is the report (`steps-report` of proofs/StepLaws.antt).
--- Assumes nothing.
 use Prim.Native.Nat.{ℕ, zero, suc, _+_, _*_}
 use mathlib.Core.Bool.{Bool, cond}
 use mathlib.Core.List.{List, [], _++_}

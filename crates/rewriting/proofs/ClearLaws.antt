@@ -1,5 +1,4 @@
 -- The laws of `room::erase` and `room::clear`: what a map has once the words of deleted pairs are zeros.
--- Assumes nothing.
 use Prim.Native.Nat.{ℕ, _<_}
 use mathlib.Core.Path.{_≡_, refl, sym, ap, _∙_}
 use mathlib.Core.Logic.{⊎-elim}

@@ -1,6 +1,5 @@
 -- The laws of `links::rewrite`: after the loops the map is the edited one: slot by slot and field by field, the word that stands
 -- there is the model's. The darts of all pairs are different slots, so each word is written once.
--- Assumes nothing.
 use Prim.Native.Nat.{ℕ, _+_, _*_, _-_, _/_, _%_, _≤_, _<_}
 use mathlib.Core.Path.{_≡_, refl, sym, ap, ap₂, _∙_, subst}
 use mathlib.Core.Logic.{_⊎_, inl, inr, ⊎-elim, by-cases}

@@ -1,5 +1,4 @@
 -- What a map has after the loops of `links`, word by word: what the laws of `links::rewrite` rest on.
--- Assumes nothing.
 use Prim.Native.Nat.{ℕ, _+_, _*_, _-_, _/_, _%_, _≤_, _<_}
 use mathlib.Core.Path.{_≡_, sym, ap, _∙_}
 use mathlib.Core.Logic.{⊎-elim}

@@ -1,5 +1,4 @@
 -- The laws of `room::note`, `room::gather` and `room::prepare`: the tags of the donors, one after the other, and the table without the deleted darts.
--- Assumes nothing.
 use Prim.Native.Nat.{ℕ, _+_, _*_, _-_, _≤_, _<_}
 use mathlib.Core.Path.{_≡_, refl, sym, ap, _∙_, subst}
 use mathlib.Core.Logic.{inl, inr, ⊎-elim, by-cases}

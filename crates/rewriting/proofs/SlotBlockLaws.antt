@@ -1,5 +1,4 @@
 -- The laws of `slots::clear_bits`, `slots::mark_bits` and `slots::block`: the orbit darts taken ascending, from a binary digit for each.
--- Assumes nothing.
 use Prim.Native.Nat.{ℕ, _+_, _*_, _-_, _/_, _%_, _^_, _≤_, _<_}
 use mathlib.Core.Path.{_≡_, refl, sym, ap, ap₂, _∙_, subst}
 use mathlib.Core.Logic.{inl, by-cases}

@@ -1,6 +1,5 @@
 -- The laws of `slots::give`, which gives slots to all added pairs: from the phases before it to the first pair, from one orbit
 -- dart to the next, and from the last pair to the phases after it.
--- Assumes nothing.
 use Prim.Native.Nat.{ℕ, _+_, _*_, _-_, _≤_, _<_}
 use mathlib.Core.Path.{_≡_, sym, ap, ap₂, _∙_, subst}
 use mathlib.Core.Logic.{inl, inr, ⊎-elim}

@@ -1,5 +1,4 @@
 -- The laws of `slots::row_starts`: the begins of the rows of the added nodes, one more in each turn.
--- Assumes nothing.
 use Prim.Native.Nat.{ℕ, _+_, _*_, _≤_, _<_}
 use mathlib.Core.Path.{_≡_, refl, sym, _∙_}
 use mathlib.Core.Logic.{by-cases}

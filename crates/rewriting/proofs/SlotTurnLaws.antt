@@ -1,6 +1,5 @@
 -- The laws of `slots::lowest`, `slots::revive` and `slots::turn`, which give slots to the added pairs one after the other: what
 -- the first pairs got stays as it is, and the lowest slot that is left is that of the next rank.
--- Assumes nothing.
 use Prim.Native.Nat.{ℕ, _+_, _*_, _-_, _≤_, _<_}
 use mathlib.Core.Path.{_≡_, refl, sym, ap, ap₂, _∙_, subst}
 use mathlib.Core.Logic.{_⊎_, inl, inr, ⊎-elim, by-cases}

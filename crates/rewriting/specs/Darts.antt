@@ -1,6 +1,5 @@
 -- The darts of all pairs: in the rows of the store, and those of the added pairs in the map. `slots` leaves them so, and `links`
 -- starts from it. At the site E, m is the map before the edit, S the scheme, O the orbit.
--- Assumes nothing.
 use Prim.Native.Nat.{ℕ, _+_, _*_, _-_, _≤_, _<_}
 use mathlib.Core.Path.{_≡_}
 use mathlib.Core.Bool.{true, cond}

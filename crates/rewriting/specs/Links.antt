@@ -1,5 +1,4 @@
 -- The phase `links`: what its loops write, what makes them safe, and what it is handed.
--- Assumes nothing.
 use Prim.Native.Nat.{ℕ, _+_, _*_, _-_, _/_, _%_, _≤_, _<_}
 use mathlib.Core.Path.{_≡_}
 use mathlib.Core.Bool.{true, cond}

@@ -1,5 +1,4 @@
 -- The phase `room`: the tags that the new darts get, noted before any slot is taken, and the map without the deleted darts.
--- Assumes nothing.
 use Prim.Native.Nat.{ℕ, _+_, _*_, _≤_, _<_}
 use mathlib.Core.Path.{_≡_}
 use mathlib.Core.Logic.{_⊎_}

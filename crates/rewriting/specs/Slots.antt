@@ -1,5 +1,4 @@
 -- The darts of the added pairs: what the giving of slots starts from, what holds once some of the pairs have theirs, and what holds in the end.
--- Assumes nothing.
 use Prim.Native.Nat.{ℕ, _+_, _*_, _-_, _/_, _≤_, _<_}
 use mathlib.Core.Path.{_≡_}
 use mathlib.Core.Logic.{_⊎_}

@@ -1,5 +1,4 @@
 -- The arcs of a side as they are read: the test of an arc is its form, and what holds once the first a arcs are read.
--- Assumes nothing.
 use Prim.Native.Nat.{ℕ, _+_, _*_, _/_, _≤_, _<_}
 use mathlib.Core.Path.{_≡_, refl, sym, ap, ap₂, _∙_}
 use mathlib.Core.Logic.{⊎-elim}

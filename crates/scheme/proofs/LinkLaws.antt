@@ -1,5 +1,4 @@
 -- The targets of a side, and its nodes with two arcs of a dimension, as its arcs are read.
--- Assumes nothing.
 use Prim.Native.Nat.{ℕ, _+_, _*_, _/_, _%_, _≤_, _<_}
 use mathlib.Core.Path.{_≡_, refl, sym, ap, ap₂, _∙_}
 use mathlib.Core.Logic.{by-cases, ⊎-elim}

@@ -1,5 +1,4 @@
 -- The dimensions of a word as they are marked in a row of the targets: a dimension is fresh where its target is 255.
--- Assumes nothing.
 use Prim.Native.Nat.{ℕ, zero, suc, _+_, _≤_, _<_}
 use mathlib.Core.Path.{_≡_, refl, sym, ap, _∙_}
 use mathlib.Core.Logic.{_⊎_, inl, inr, ⊎-elim, by-cases}

@@ -1,5 +1,4 @@
 -- The nodes as they are read: a node's form from its parts, what holds once the first s nodes are read, and what the kinds tell.
--- Assumes nothing.
 use Prim.Native.Nat.{ℕ, _+_, _*_, _/_, _≤_, _<_}
 use mathlib.Core.Path.{_≡_, refl, sym, ap, _∙_}
 use mathlib.Core.Logic.{_⊎_, inl}

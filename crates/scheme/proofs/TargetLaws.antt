@@ -1,5 +1,4 @@
 -- One aim at a table of ends: the first arc of a node and dimension gives the entry, and later ones leave it.
--- Assumes nothing.
 use Prim.Native.Nat.{ℕ, _+_, _*_, _/_, _%_, _≤_, _<_}
 use mathlib.Core.Path.{_≡_, refl, sym, ap, ap₂, _∙_}
 use mathlib.Core.Logic.{by-cases}

@@ -1,5 +1,4 @@
 -- The arcs of a side: what is known where they are read and once they are, and the test of an arc.
--- Assumes nothing.
 use Prim.Native.Nat.{ℕ, _+_, _*_, _≤_}
 use mathlib.Core.Path.{_≡_}
 use mathlib.Core.Logic.{_⊎_}

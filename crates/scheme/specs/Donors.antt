@@ -1,5 +1,4 @@
 -- The donors: what is known where they are read, and once those of some nodes are.
--- Assumes nothing.
 use Prim.Native.Nat.{ℕ}
 use mathlib.Core.Path.{_≡_}
 use mathlib.Core.Bool.{true}

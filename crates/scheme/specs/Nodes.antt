@@ -1,5 +1,4 @@
 -- The nodes: what holds once some of them are read, and once all are.
--- Assumes nothing.
 use Prim.Native.Nat.{ℕ, _*_}
 use mathlib.Core.Path.{_≡_}
 use mathlib.Core.Bool.{true}

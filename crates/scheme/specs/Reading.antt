@@ -1,5 +1,4 @@
 -- What reading a scheme's bytes answers.
--- Assumes nothing.
 use Prim.Native.Nat.{ℕ}
 use mathlib.Core.Bool.{Bool, cond}
 use mathlib.Core.List.{List}

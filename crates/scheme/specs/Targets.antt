@@ -1,5 +1,4 @@
 -- The targets of a side, and its nodes with two arcs of a dimension, while they are filled: first by the words, then arc by arc.
--- Assumes nothing.
 use Prim.Native.Nat.{ℕ, zero, suc, _+_, _*_}
 use mathlib.Core.Path.{_≡_}
 use mathlib.Core.Bool.{Bool, true, cond}

@@ -1,5 +1,4 @@
 -- The words of the nodes by their place in the bytes and by their place in the value.
--- Assumes nothing.
 use Prim.Native.Nat.{ℕ, _+_, _/_, _%_, _≤_, _<_}
 use mathlib.Core.Path.{_≡_}
 use mathlib.Core.Logic.{_⊎_}

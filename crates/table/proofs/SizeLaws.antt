@@ -1,5 +1,4 @@
 -- The laws of `sizes`: each test that fails makes `sizesOk` false, and past the others it is the last.
--- Assumes nothing.
 use Prim.Native.Nat.{ℕ, _≤_, _<_}
 use mathlib.Core.Path.{_≡_, sym, _∙_}
 use mathlib.Core.Logic.{_⊎_, ⊎-elim}

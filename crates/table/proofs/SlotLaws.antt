@@ -1,5 +1,4 @@
 -- `slotOk` at every slot is `wellFormed`: where links lead back, αi, αj, αi, αj end at x just if αi and αj commute at x.
--- Assumes nothing.
 use Prim.Native.Nat.{ℕ, suc, _+_, _*_, _≤_, _<_}
 use mathlib.Core.Path.{_≡_, refl, sym, ap, _∙_}
 use mathlib.Core.Logic.{_⊎_, inl, inr, ⊎-elim}

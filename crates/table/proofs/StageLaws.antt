@@ -1,5 +1,4 @@
 -- A loop over a table, step by step: what it has done is what its steps so far make of what is seen in the table, be it the words or the map.
--- Assumes nothing.
 use Prim.Native.Nat.{ℕ, _+_, _≤_, _<_}
 use mathlib.Core.Path.{_≡_, refl, sym, ap, _∙_}
 use mathlib.Core.List.{List}

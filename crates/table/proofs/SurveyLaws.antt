@@ -1,5 +1,4 @@
 -- What a survey tells: whether the map is well-formed, and how many darts are live.
--- Assumes nothing.
 use Prim.Native.Nat.{ℕ}
 use mathlib.Core.Path.{_≡_, refl, sym, _∙_}
 use mathlib.Core.Bool.{Bool, true, false, cond}

@@ -1,5 +1,4 @@
 -- What stands in a table after a word of it was put, or a record of it became zeros.
--- Assumes nothing.
 use Prim.Native.Nat.{ℕ, _+_, _*_, _<_}
 use mathlib.Core.Path.{_≡_, sym, _∙_}
 use mathlib.Core.Logic.{⊎-elim}

@@ -1,5 +1,4 @@
 -- Laws of writing in a map, and that a table's words are written as its map is: what a phase that writes needs to know of the table.
--- Assumes nothing.
 use Prim.Native.Nat.{ℕ, zero, suc, _≤_, _<_}
 use mathlib.Core.Path.{_≡_, refl, sym, ap, _∙_}
 use mathlib.Core.Logic.{by-cases}

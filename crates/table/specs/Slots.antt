@@ -1,6 +1,5 @@
 -- What the table check tests at a slot. It stands for `wellFormed` (proofs/SlotLaws.antt), and looks at no record but that of the slot
 -- and those of its neighbours.
--- Assumes nothing.
 use Prim.Native.Nat.{ℕ, suc}
 use mathlib.Core.Bool.{Bool, cond}
 use lib.Dec.{eqb, ltb}

@@ -1,5 +1,4 @@
 -- A table of a size that the kernel takes, and a record of it that became zeros.
--- Assumes nothing.
 use Prim.Native.Nat.{ℕ, _+_, _*_, _≤_}
 use mathlib.Core.Path.{_≡_}
 use mathlib.Core.List.{List}

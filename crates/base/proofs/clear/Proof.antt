@@ -1,5 +1,4 @@
 -- `base::clear` meets its contract. The loop's invariant: the first i words are 0.
--- Assumes nothing.
 use Prim.Native.Nat.{_-_, _≤_}
 use mathlib.Core.Path.{_≡_, refl}
 use native.Mathlib.Omega.{arith}

@@ -1,5 +1,4 @@
 -- `bench::run` meets its contract: the refusals of the framing and of the map's opening, and the session.
--- Assumes nothing.
 use Prim.Native.Nat.{ℕ, _*_, _≤_, _<_}
 use mathlib.Core.Path.{_≡_, sym}
 use native.Mathlib.Omega.{arith}

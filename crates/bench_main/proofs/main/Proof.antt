@@ -1,5 +1,4 @@
 -- `bench_main::main` meets its contract: what is written lies within the buffer.
--- Assumes nothing.
 use Prim.Native.Nat.{_≤_}
 use mathlib.Core.Path.{sym}
 use native.Mathlib.Omega.{arith}

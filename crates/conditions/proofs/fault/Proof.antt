@@ -1,5 +1,4 @@
 -- `conditions::fault` meets its contract.
--- Assumes nothing.
 use Rattle.conditions.proofs.FaultLaws.{fault-hook, fault-arcs}
 use borrow.Author.Needs.{needs}
 use Rattle.conditions.proofs.fault.Statement.{statement}

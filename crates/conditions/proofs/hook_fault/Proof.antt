@@ -1,5 +1,4 @@
 -- `conditions::hook_fault` meets its contract.
--- Assumes nothing.
 use Rattle.conditions.proofs.HookLaws.{first-wrong, second-wrong, hooks-right, no-second}
 use borrow.Author.Needs.{needs}
 use Rattle.conditions.proofs.hook_fault.Statement.{statement}

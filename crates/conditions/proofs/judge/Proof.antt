@@ -1,5 +1,4 @@
 -- `conditions::judge` meets its contract: what is reached, and the fault from it and the tables.
--- Assumes nothing.
 use Rattle.conditions.proofs.FaultLaws.{judge-tree, judge-asks, judge-is}
 use borrow.Author.Needs.{needs}
 use Rattle.conditions.proofs.judge.Statement.{statement}

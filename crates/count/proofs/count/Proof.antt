@@ -1,5 +1,4 @@
 -- `count::count` meets its contract: each kind of cell is the orbits of the dimensions that are listed for it.
--- Assumes nothing.
 use native.Mathlib.Omega.{arith}
 use borrow.Author.Needs.{needs}
 use denote.Ref.{now}

@@ -1,5 +1,4 @@
 -- `count::orbits` meets its contract: the number of dimensions is written as the constant that it is.
--- Assumes nothing.
 use Prim.Native.Nat.{ℕ}
 use mathlib.Core.Path.{sym, ap, _∙_, subst}
 use lib.ListN.{getD}

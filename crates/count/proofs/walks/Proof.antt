@@ -1,5 +1,4 @@
 -- `count::walks` meets its contract. The loop's invariant is `Counting`; the measure is the slots that are left.
--- Assumes nothing.
 use Prim.Native.Nat.{_-_}
 use mathlib.Core.Path.{sym, _∙_}
 use mathlib.Core.Logic.{⊎-elim}

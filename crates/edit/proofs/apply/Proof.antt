@@ -1,5 +1,4 @@
 -- `edit::apply` meets its contract.
--- Assumes nothing.
 use mathlib.Core.Path.{refl, _∙_}
 use borrow.Author.Needs.{needs}
 use borrow.Author.Tests.{not-true, not-false}

@@ -1,5 +1,4 @@
 -- `edit::settle` meets its contract.
--- Assumes nothing.
 use Prim.Native.Nat.{_*_, _≤_}
 use mathlib.Core.Path.{_∙_}
 use native.Mathlib.Omega.{arith}

@@ -1,5 +1,4 @@
 -- `file::load` meets its contract.
--- Assumes nothing.
 use Prim.Native.Nat.{ℕ}
 use mathlib.Core.Path.{refl, ap, _∙_}
 use mathlib.Core.Logic.{inl}

@@ -1,5 +1,4 @@
 -- `file::size` meets its contract.
--- Assumes nothing.
 use Prim.Native.Nat.{_+_, _*_, _≤_}
 use mathlib.Core.Logic.{inl}
 use mathlib.Core.Path.{refl}

@@ -1,5 +1,4 @@
 -- `frame::mark` meets its contract.
--- Assumes nothing.
 use native.Mathlib.Omega.{arith}
 use Rattle.frame.proofs.FrameLaws.{marked, unmarked}
 use Rattle.frame.proofs.mark.Statement.{statement}

@@ -1,5 +1,4 @@
 -- `frame::marks_of` meets its contract.
--- Assumes nothing.
 use mathlib.Core.Path.{refl}
 use borrow.Author.Needs.{needs}
 use Rattle.frame.proofs.marks_of.Statement.{statement}

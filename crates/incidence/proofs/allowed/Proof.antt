@@ -1,5 +1,4 @@
 -- `incidence::allowed` meets its contract.
--- Assumes nothing.
 use Rattle.incidence.proofs.IncidenceLaws.{paired-deleted, paired-added, paired-none, paired-some}
 use Rattle.incidence.proofs.allowed.Statement.{statement}
 use Rattle.incidence.proofs.allowed.Tie as tie

@@ -1,5 +1,4 @@
 -- `incidence::arcs_fault` meets its contract.
--- Assumes nothing.
 use Rattle.incidence.proofs.FaultLaws.{fault-incidence, fault-cycle}
 use borrow.Author.Needs.{needs}
 use Rattle.incidence.proofs.arcs_fault.Statement.{statement}

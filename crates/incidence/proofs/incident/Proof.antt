@@ -1,5 +1,4 @@
 -- `incidence::incident` meets its contract. The loop's invariant: the node is right at the dimensions passed, of the first three.
--- Assumes nothing.
 use Prim.Native.Nat.{_≤_, _-_}
 use mathlib.Core.Path.{_≡_, refl, sym, _∙_}
 use mathlib.Core.Bool.{true}

@@ -1,5 +1,4 @@
 -- `incidence::unbalanced` meets its contract. The loop's invariant: none of the nodes passed offends.
--- Assumes nothing.
 use Prim.Native.Nat.{_≤_, _-_}
 use mathlib.Core.Path.{_≡_, refl, _∙_}
 use mathlib.Core.Option.{none}

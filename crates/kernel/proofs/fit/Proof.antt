@@ -1,5 +1,4 @@
 -- `kernel::fit` meets its contract.
--- Assumes nothing.
 use mathlib.Core.Path.{_∙_}
 use denote.Ref.{now}
 use borrow.Author.Needs.{needs}

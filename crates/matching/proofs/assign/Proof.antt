@@ -1,5 +1,4 @@
 -- `matching::assign` meets its contract.
--- Assumes nothing.
 use mathlib.Core.Path.{_∙_}
 use borrow.Author.Needs.{needs}
 use borrow.Author.Tests.{not-true, not-false}

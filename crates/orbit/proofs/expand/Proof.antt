@@ -1,5 +1,4 @@
 -- `orbit::expand` meets its contract. The loop's invariant is the contract itself, at the first p links. The argument `t3` is `dims`.
--- Assumes nothing.
 use Prim.Native.Nat.{_-_, _≤_, _<_}
 use mathlib.Core.Path.{_≡_, ap, _∙_}
 use native.Mathlib.Omega.{arith}

@@ -1,5 +1,4 @@
 -- `orbit::follow` meets its contract: y has a place already (`followed-old`), or takes the next (`followed-new`).
--- Assumes nothing.
 use mathlib.Core.Path.{sym, _∙_}
 use native.Mathlib.Omega.{arith}
 use borrow.Author.Needs.{needs}

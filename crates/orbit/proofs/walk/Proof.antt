@@ -1,6 +1,5 @@
 -- `orbit::walk` meets its contract. The loop's invariant is `Walking`, over the store in which d took its place; the measure is
 -- the slots less `head`, which is below `tail`, and there are no more places than slots.
--- Assumes nothing.
 use Prim.Native.Nat.{_-_}
 use native.Mathlib.Omega.{arith}
 use lib.ListN.{getD}

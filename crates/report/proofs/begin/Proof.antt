@@ -1,5 +1,4 @@
 -- `report::begin` meets its contract: the number of maps is missing, or what comes after it is read.
--- Assumes nothing.
 use Prim.Native.Nat.{_≤_}
 use native.Mathlib.Omega.{arith}
 use borrow.Author.Needs.{needs}

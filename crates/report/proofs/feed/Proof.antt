@@ -1,5 +1,4 @@
 -- `report::feed` meets its contract, state by state.
--- Assumes nothing.
 use borrow.Author.Needs.{needs}
 use Rattle.report.proofs.FeedLaws.{fed-in, worked-in, ready-in, end-fed, start-worked, end-worked}
 use Rattle.report.proofs.feed.Statement.{statement}

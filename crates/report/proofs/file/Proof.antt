@@ -1,5 +1,4 @@
 -- `report::file` meets its contract: the file is not whole, or its map is counted and what comes after it is read.
--- Assumes nothing.
 use mathlib.Core.Path.{refl, sym}
 use native.Mathlib.Omega.{arith}
 use lib.Seq.{length-take-le}

@@ -1,5 +1,4 @@
 -- `report::wanted` meets its contract: a file that is wanted is within its limit.
--- Assumes nothing.
 use mathlib.Core.Path.{sym, ap}
 use native.Mathlib.Omega.{arith}
 use borrow.Author.Needs.{needs}

@@ -1,5 +1,4 @@
 -- `report_main::main` meets its contract: the pieces lie within the buffers, and each step leaves fewer to come.
--- Assumes nothing.
 use Prim.Native.Nat.{ℕ, _*_, _≤_}
 use mathlib.Core.Path.{_≡_, refl, sym, _∙_}
 use mathlib.Core.List.{List}

@@ -1,5 +1,4 @@
 -- `scheme::refused` meets its contract.
--- Assumes nothing.
 use mathlib.Core.Path.{refl}
 use Rattle.model.specs.Scheme.{left, right}
 use Rattle.scheme.specs.Reading.{blank}

@@ -1,5 +1,4 @@
 -- `table::inside` meets its contract: each return is one of the tests of `insideOk`.
--- Assumes nothing.
 use native.Mathlib.Omega.{arith}
 use borrow.Author.Needs.{needs}
 use Rattle.table.proofs.SlotLaws.{inside-out, inside-last}

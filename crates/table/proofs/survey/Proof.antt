@@ -1,5 +1,4 @@
 -- `table::survey` meets its contract. The loop's invariant: the slots below x are right, and their live darts are counted.
--- Assumes nothing.
 use Prim.Native.Nat.{_-_}
 use mathlib.Core.Path.{_∙_}
 use mathlib.Core.Logic.{⊎-elim}

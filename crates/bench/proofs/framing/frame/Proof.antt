@@ -1,5 +1,4 @@
 -- `bench::framing::frame` meets its contract: each fault breaks a limit or the length.
--- Assumes nothing.
 use Prim.Native.Nat.{_+_, _*_, _≤_}
 use mathlib.Core.Bool.{false}
 use mathlib.Core.Path.{_≡_, refl}

@@ -1,5 +1,4 @@
 -- `bench::session::edits` meets its contract. The loop's invariant: the first k darts are edited, and their lines printed.
--- Assumes nothing.
 use Prim.Native.Nat.{_*_, _-_, _≤_, _<_}
 use mathlib.Core.Path.{_≡_, refl, _∙_}
 use native.Mathlib.Omega.{arith}

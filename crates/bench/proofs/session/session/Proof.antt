@@ -1,5 +1,4 @@
 -- `bench::session::session` meets its contract: the lines of the darts and the last one are printed.
--- Assumes nothing.
 use Prim.Native.Nat.{_≤_}
 use mathlib.Core.Path.{_∙_}
 use native.Mathlib.Omega.{arith}

@@ -1,5 +1,4 @@
 -- `bench::session::tally` meets its contract. The loop's invariant: the slots below x are counted.
--- Assumes nothing.
 use Prim.Native.Nat.{_-_, _≤_}
 use mathlib.Core.Logic.{⊎-elim}
 use mathlib.Core.Path.{_≡_, refl, sym, _∙_}

@@ -1,5 +1,4 @@
 -- `bench::writer::dart_line` meets its contract: the numbers that it asks for are those of the line.
--- Assumes nothing.
 use native.Mathlib.Omega.{arith}
 use borrow.Author.Needs.{needs}
 use Rattle.bench.proofs.LineLaws.{dart-room, dart-put}

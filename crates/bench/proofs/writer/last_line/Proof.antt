@@ -1,5 +1,4 @@
 -- `bench::writer::last_line` meets its contract: its three parts are the line.
--- Assumes nothing.
 use native.Mathlib.Omega.{arith}
 use borrow.Author.Needs.{needs}
 use Rattle.bench.proofs.LineLaws.{last-length, last-put}

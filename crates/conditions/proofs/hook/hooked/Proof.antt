@@ -1,5 +1,4 @@
 -- `conditions::hook::hooked` meets its contract. The loop's invariant: the word is the orbit type at the positions passed.
--- Assumes nothing.
 use Prim.Native.Nat.{_≤_, _-_}
 use mathlib.Core.Path.{_≡_, refl}
 use mathlib.Core.Bool.{true}

@@ -1,5 +1,4 @@
 -- `conditions::hook::unreached` meets its contract. The loop's invariant: none of the nodes passed is left out.
--- Assumes nothing.
 use Prim.Native.Nat.{_≤_, _-_}
 use mathlib.Core.Path.{_≡_, refl, _∙_}
 use mathlib.Core.Logic.{⊎-elim}

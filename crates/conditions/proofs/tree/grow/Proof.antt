@@ -1,5 +1,4 @@
 -- `conditions::tree::grow` meets its contract. The loop's invariant is the contract at the arcs passed.
--- Assumes nothing.
 use Prim.Native.Nat.{_≤_, _-_}
 use mathlib.Core.Path.{_≡_}
 use native.Mathlib.Omega.{arith}

@@ -1,5 +1,4 @@
 -- `conditions::tree::meet` meets its contract.
--- Assumes nothing.
 use Prim.Native.Nat.{_<_}
 use native.Mathlib.Omega.{arith}
 use Rattle.conditions.proofs.TreeLaws.{room, reach-push}

@@ -1,5 +1,4 @@
 -- `conditions::tree::pass` meets its contract. The loop's invariant is what the last pass left: where it added nothing, no arc leads out.
--- Assumes nothing.
 use Prim.Native.Nat.{_-_}
 use mathlib.Core.Path.{_≡_}
 use native.Mathlib.Omega.{arith}

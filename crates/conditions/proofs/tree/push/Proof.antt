@@ -1,5 +1,4 @@
 -- `conditions::tree::push` meets its contract.
--- Assumes nothing.
 use mathlib.Core.Path.{refl}
 use borrow.Author.Needs.{needs}
 use Rattle.conditions.proofs.tree.push.Statement.{statement}

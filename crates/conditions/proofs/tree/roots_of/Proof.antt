@@ -1,5 +1,4 @@
 -- `conditions::tree::roots_of` meets its contract.
--- Assumes nothing.
 use mathlib.Core.Path.{sym}
 use native.Mathlib.Omega.{arith}
 use Rattle.conditions.proofs.TreeLaws.{one-root, two-roots}

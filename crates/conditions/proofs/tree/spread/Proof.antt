@@ -1,5 +1,4 @@
 -- `conditions::tree::spread` meets its contract. The loop's invariant is the contract at the dimensions passed.
--- Assumes nothing.
 use Prim.Native.Nat.{_≤_, _-_}
 use native.Mathlib.Omega.{arith}
 use Rattle.conditions.specs.Tree.{Reaching}

@@ -1,5 +1,4 @@
 -- `conditions::tree::walk` meets its contract. The loop's invariant: the entries are trees over targets.
--- Assumes nothing.
 use Prim.Native.Nat.{_-_}
 use native.Mathlib.Omega.{arith}
 use Rattle.conditions.specs.Tree.{ByTarget, TreeBy}

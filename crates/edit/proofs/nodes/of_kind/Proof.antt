@@ -1,5 +1,4 @@
 -- `edit::nodes::of_kind` meets its contract. The loop's invariant is the contract at the nodes passed.
--- Assumes nothing.
 use Prim.Native.Nat.{_≤_, _-_}
 use mathlib.Core.Path.{_≡_}
 use mathlib.Core.Logic.{⊎-elim}

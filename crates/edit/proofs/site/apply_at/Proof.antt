@@ -1,5 +1,4 @@
 -- `edit::site::apply_at` meets its contract.
--- Assumes nothing.
 use Prim.Native.Nat.{_-_, _≤_}
 use mathlib.Core.Path.{_≡_, sym, _∙_}
 use mathlib.Core.Bool.{true}

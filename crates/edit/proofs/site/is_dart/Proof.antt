@@ -1,5 +1,4 @@
 -- `edit::site::is_dart` meets its contract.
--- Assumes nothing.
 use denote.Ref.{now}
 use borrow.Author.Needs.{needs}
 use Rattle.model.specs.Map.{view}

@@ -1,5 +1,4 @@
 -- `file::form::counts` meets its contract.
--- Assumes nothing.
 use mathlib.Core.Path.{ap, _∙_}
 use borrow.Author.Needs.{needs}
 use Rattle.base.specs.Digits.{numberAt}

@@ -1,5 +1,4 @@
 -- `file::form::frame` meets its contract.
--- Assumes nothing.
 use mathlib.Core.Path.{sym, _∙_}
 use native.Mathlib.Omega.{arith}
 use Rattle.numbers.proofs.PlaceLaws.{wide-few}

@@ -1,5 +1,4 @@
 -- `file::form::rising` meets its contract. The loop's invariant: `good` says whether the first k slots are below the next.
--- Assumes nothing.
 use Prim.Native.Nat.{_+_, _*_, _-_, _≤_}
 use mathlib.Core.Path.{_≡_, refl, _∙_}
 use mathlib.Core.Logic.{⊎-elim}

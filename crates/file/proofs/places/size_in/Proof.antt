@@ -1,5 +1,4 @@
 -- `file::places::size_in` meets its contract.
--- Assumes nothing.
 use Prim.Native.Nat.{_+_, _*_, _≤_}
 use mathlib.Core.Path.{refl}
 use native.Mathlib.Nat.{mul-le-mul}

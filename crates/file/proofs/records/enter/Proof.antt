@@ -1,5 +1,4 @@
 -- `file::records::enter` meets its contract.
--- Assumes nothing.
 use Prim.Native.Nat.{_+_, _*_, _≤_, _<_}
 use mathlib.Core.Path.{_≡_}
 use native.Mathlib.Nat.{mul-le-mul-right}

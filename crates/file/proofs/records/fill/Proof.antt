@@ -1,5 +1,4 @@
 -- `file::records::fill` meets its contract. The loop's invariant: the first k darts of the file are entered.
--- Assumes nothing.
 use Prim.Native.Nat.{_-_, _≤_}
 use mathlib.Core.Path.{_≡_, sym, ap, _∙_}
 use native.Mathlib.Omega.{arith}

@@ -1,5 +1,4 @@
 -- `file::records::put_links` meets its contract.
--- Assumes nothing.
 use Rattle.file.proofs.RecordLaws.{links-put}
 use borrow.Author.Needs.{needs}
 use Rattle.file.proofs.records.put_links.Statement.{statement}

@@ -1,5 +1,4 @@
 -- `file::sections::dart` meets its contract.
--- Assumes nothing.
 use native.Mathlib.Omega.{arith}
 use Rattle.file.proofs.SectionLaws.{part-slot, part-tag, part-links, size-slot, size-tag, size-links}
 use borrow.Author.Needs.{needs}

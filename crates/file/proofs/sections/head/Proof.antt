@@ -1,5 +1,4 @@
 -- `file::sections::head` meets its contract.
--- Assumes nothing.
 use native.Mathlib.Omega.{arith}
 use Rattle.file.specs.Sections.{headBytes}
 use Rattle.numbers.proofs.PlaceLaws.{put-then, put-room}

@@ -1,5 +1,4 @@
 -- `file::sections::link` meets its contract.
--- Assumes nothing.
 use Rattle.numbers.proofs.PlaceLaws.{put-value}
 use borrow.Author.Needs.{needs}
 use Rattle.file.proofs.sections.link.Statement.{statement}

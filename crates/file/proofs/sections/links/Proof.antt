@@ -1,5 +1,4 @@
 -- `file::sections::links` meets its contract.
--- Assumes nothing.
 use lib.ListN.{length}
 use denote.Ref.{now}
 use Prim.Native.Nat.{ℕ, suc, _+_, _*_, _≤_}

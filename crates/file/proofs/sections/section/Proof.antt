@@ -1,5 +1,4 @@
 -- `file::sections::section` meets its contract. The loop's invariant: what the section has of the live darts below x is put.
--- Assumes nothing.
 use Prim.Native.Nat.{_-_, _≤_}
 use mathlib.Core.Path.{_∙_}
 use mathlib.Core.Logic.{⊎-elim}

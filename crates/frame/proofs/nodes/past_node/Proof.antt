@@ -1,5 +1,4 @@
 -- `frame::nodes::past_node` meets its contract.
--- Assumes nothing.
 use native.Mathlib.Omega.{arith}
 use borrow.Author.Needs.{needs}
 use Rattle.frame.proofs.FrameLaws.{words-cut, plain-past, donor-cut, donor-past}

@@ -1,5 +1,4 @@
 -- `frame::nodes::past_nodes` meets its contract. The loop's invariant: the cursor is at node s, within the bytes.
--- Assumes nothing.
 use Prim.Native.Nat.{_-_, _≤_}
 use mathlib.Core.Path.{_≡_}
 use native.Mathlib.Omega.{arith}

@@ -1,5 +1,4 @@
 -- `incidence::cycles::apart` meets its contract.
--- Assumes nothing.
 use Rattle.incidence.proofs.CycleTestLaws.{apart-up, apart-down}
 use borrow.Author.Needs.{needs}
 use Rattle.incidence.proofs.cycles.apart.Statement.{statement}

@@ -1,5 +1,4 @@
 -- `incidence::cycles::cycle_fault` meets its contract. Each invariant: nothing is found at what the loops have passed.
--- Assumes nothing.
 use Prim.Native.Nat.{_≤_, _-_}
 use mathlib.Core.Path.{_≡_, refl, _∙_}
 use mathlib.Core.Option.{none}

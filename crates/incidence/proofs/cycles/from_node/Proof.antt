@@ -1,5 +1,4 @@
 -- `incidence::cycles::from_node` meets its contract.
--- Assumes nothing.
 use Rattle.incidence.proofs.CycleTestLaws.{round-back, round-not, node-absent, node-place}
 use borrow.Author.Needs.{needs}
 use Rattle.incidence.proofs.cycles.from_node.Statement.{statement}

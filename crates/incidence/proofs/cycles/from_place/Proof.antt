@@ -1,5 +1,4 @@
 -- `incidence::cycles::from_place` meets its contract.
--- Assumes nothing.
 use native.Mathlib.Omega.{arith}
 use Rattle.incidence.proofs.CycleTestLaws.{place-node, place-absent, place-place}
 use borrow.Author.Needs.{needs}

@@ -1,5 +1,4 @@
 -- `incidence::cycles::on_cycle` meets its contract.
--- Assumes nothing.
 use native.Mathlib.Omega.{arith}
 use Rattle.incidence.proofs.CycleTestLaws.{by-node, by-none, by-place, code-small}
 use borrow.Author.Needs.{needs}

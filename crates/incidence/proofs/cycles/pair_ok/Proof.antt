@@ -1,5 +1,4 @@
 -- `incidence::cycles::pair_ok` meets its contract.
--- Assumes nothing.
 use Rattle.incidence.proofs.CycleTestLaws.{pair-deleted, pair-added, pair-cycle, pair-other, pair-same}
 use borrow.Author.Needs.{needs}
 use Rattle.incidence.proofs.cycles.pair_ok.Statement.{statement}

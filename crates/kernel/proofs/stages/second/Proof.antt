@@ -1,5 +1,4 @@
 -- `kernel::stages::second` meets its contract.
--- Assumes nothing.
 use borrow.Author.Needs.{needs}
 use Rattle.kernel.proofs.stages.second.Statement.{statement}
 use Rattle.kernel.proofs.stages.second.Tie as tie

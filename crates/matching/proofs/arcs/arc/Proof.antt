@@ -1,5 +1,4 @@
 -- `matching::arcs::arc` meets its contract.
--- Assumes nothing.
 use Prim.Native.Nat.{_<_}
 use mathlib.Core.Path.{refl}
 use native.Mathlib.Omega.{arith}

@@ -1,5 +1,4 @@
 -- `matching::arcs::arcs` meets its contract. The loop's invariant: the arcs below k hold.
--- Assumes nothing.
 use Prim.Native.Nat.{_*_, _-_, _≤_}
 use mathlib.Core.Path.{_≡_}
 use mathlib.Core.Bool.{true}

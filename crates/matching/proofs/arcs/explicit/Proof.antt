@@ -1,5 +1,4 @@
 -- `matching::arcs::explicit` meets its contract.
--- Assumes nothing.
 use mathlib.Core.Path.{refl, _∙_}
 use borrow.Author.Needs.{needs}
 use Rattle.matching.proofs.ArcTestLaws.{explicit-later, explicit-tree, explicit-tested}

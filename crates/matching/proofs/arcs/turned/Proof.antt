@@ -1,5 +1,4 @@
 -- `matching::arcs::turned` meets its contract. The loop's invariant: the arc holds at the places below r.
--- Assumes nothing.
 use Prim.Native.Nat.{_-_, _≤_}
 use mathlib.Core.Path.{_≡_}
 use mathlib.Core.Bool.{true}

@@ -1,5 +1,4 @@
 -- `matching::images::begin` meets its contract.
--- Assumes nothing.
 use Prim.Native.Nat.{_+_, _*_, _-_}
 use mathlib.Core.Path.{ap}
 use native.Mathlib.Omega.{arith}

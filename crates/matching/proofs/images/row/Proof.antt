@@ -1,5 +1,4 @@
 -- `matching::images::row` meets its contract. The loop's invariant: the first r darts of the row have their places.
--- Assumes nothing.
 use Prim.Native.Nat.{_-_, _≤_, _<_}
 use native.Mathlib.Omega.{arith}
 use borrow.Author.Needs.{needs}

@@ -1,5 +1,4 @@
 -- `matching::images::rows` meets its contract. The loop's invariant: the first k entries of the trees have their rows, of which the last ends at `end`.
--- Assumes nothing.
 use Prim.Native.Nat.{_*_, _-_, _≤_, _<_}
 use mathlib.Core.Path.{_≡_, refl}
 use native.Mathlib.Nat.{mul-le-mul-right}

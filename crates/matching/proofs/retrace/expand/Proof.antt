@@ -1,5 +1,4 @@
 -- `matching::retrace::expand` meets its contract. The loop's invariant: the links at the first p positions were followed.
--- Assumes nothing.
 use Prim.Native.Nat.{_+_, _*_, _-_, _≤_, _<_}
 use mathlib.Core.Path.{_≡_}
 use native.Mathlib.Omega.{arith}

@@ -1,5 +1,4 @@
 -- `matching::retrace::hang` meets its contract.
--- Assumes nothing.
 use Prim.Native.Nat.{_+_}
 use mathlib.Core.Path.{_≡_}
 use native.Mathlib.Omega.{arith}

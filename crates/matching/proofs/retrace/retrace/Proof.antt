@@ -1,5 +1,4 @@
 -- `matching::retrace::retrace` meets its contract. The loop's invariant: the links of the darts for the first `head` places were followed.
--- Assumes nothing.
 use Prim.Native.Nat.{_*_, _-_, _≤_}
 use mathlib.Core.Path.{_≡_, _∙_}
 use native.Mathlib.Omega.{arith}

@@ -1,5 +1,4 @@
 -- `numbers::Cursor::four` meets its contract.
--- Assumes nothing.
 use borrow.Author.Needs.{needs}
 use Rattle.numbers.proofs.PlaceLaws.{taken-join}
 use Rattle.numbers.proofs.Cursor.four.Statement.{statement}

@@ -1,5 +1,4 @@
 -- `numbers::Cursor::put` meets its contract.
--- Assumes nothing.
 use native.Mathlib.Omega.{arith}
 use borrow.Author.Needs.{needs}
 use Rattle.numbers.proofs.PlaceLaws.{four-wide, put-wide}

@@ -1,5 +1,4 @@
 -- `numbers::Cursor::put_one` meets its contract.
--- Assumes nothing.
 use borrow.Author.Needs.{needs}
 use Rattle.numbers.proofs.PlaceLaws.{put-one-byte}
 use Rattle.numbers.proofs.Cursor.put_one.Statement.{statement}

@@ -1,5 +1,4 @@
 -- `numbers::Cursor::put_two` meets its contract.
--- Assumes nothing.
 use native.Mathlib.Omega.{arith}
 use borrow.Author.Needs.{needs}
 use Rattle.numbers.proofs.PlaceLaws.{put-join, put-room}

@@ -1,5 +1,4 @@
 -- `orbit::store::push` meets its contract.
--- Assumes nothing.
 use borrow.Author.Needs.{needs}
 use Rattle.orbit.proofs.StoreLaws.{push-done}
 use Rattle.orbit.proofs.store.push.Statement.{statement}

@@ -1,5 +1,4 @@
 -- `program::lines::decimal` meets its contract. The measure is the number itself, of which each call drops the last digit.
--- Assumes nothing.
 use Prim.Native.Nat.{ℕ, _+_, _≤_, _<_}
 use native.Mathlib.Omega.{arith}
 use lib.ListN.{length, length-set}

@@ -1,5 +1,4 @@
 -- `program::lines::field` meets its contract.
--- Assumes nothing.
 use borrow.Author.Needs.{needs}
 use denote.Ref.{now}
 use Rattle.program.specs.Lines.{decimal}

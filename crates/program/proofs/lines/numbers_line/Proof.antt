@@ -1,5 +1,4 @@
 -- `program::lines::numbers_line` meets its contract. The loop's invariant: the k numbers after the first are put.
--- Assumes nothing.
 use Prim.Native.Nat.{_+_, _-_, _≤_}
 use native.Mathlib.Omega.{arith}
 use lib.ListN.{length}

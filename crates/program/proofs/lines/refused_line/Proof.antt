@@ -1,5 +1,4 @@
 -- `program::lines::refused_line` meets its contract: its two parts are the line.
--- Assumes nothing.
 use native.Mathlib.Omega.{arith}
 use borrow.Author.Needs.{needs}
 use Rattle.program.proofs.LineLaws.{refused-length, refused-put}

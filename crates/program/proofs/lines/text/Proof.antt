@@ -1,5 +1,4 @@
 -- `program::lines::text` meets its contract. The loop's invariant: the first i bytes are written.
--- Assumes nothing.
 use Prim.Native.Nat.{_-_, _≤_}
 use mathlib.Core.Path.{_≡_, refl}
 use native.Mathlib.Omega.{arith}

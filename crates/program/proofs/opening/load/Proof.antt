@@ -1,5 +1,4 @@
 -- `program::opening::load` meets its contract: a load that is refused is the answer, and else the check is.
--- Assumes nothing.
 use borrow.Author.Needs.{needs}
 use Rattle.demands.proofs.OneOutcome.{table-of}
 use Rattle.program.proofs.OpeningLaws.{load-refused, load-checked}

@@ -1,5 +1,4 @@
 -- `program::opening::open` meets its contract: the two refusals before the load, and what the load and the check answer.
--- Assumes nothing.
 use mathlib.Core.Path.{_≡_, sym, _∙_}
 use native.Mathlib.Omega.{arith}
 use lib.ListN.{length, take}

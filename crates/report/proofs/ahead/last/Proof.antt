@@ -1,5 +1,4 @@
 -- `report::ahead::last` meets its contract: a byte that comes after the last map is refused, and else the totals are printed.
--- Assumes nothing.
 use native.Mathlib.Omega.{arith}
 use borrow.Author.Needs.{needs}
 use Rattle.report.proofs.AheadLaws.{last-extra, last-totals}

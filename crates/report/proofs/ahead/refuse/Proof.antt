@@ -1,5 +1,4 @@
 -- `report::ahead::refuse` meets its contract: the line of refusal 11 is short.
--- Assumes nothing.
 use mathlib.Core.Path.{refl}
 use native.Mathlib.Omega.{arith}
 use borrow.Author.Needs.{needs}

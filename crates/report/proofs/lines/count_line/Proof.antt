@@ -1,5 +1,4 @@
 -- `report::lines::count_line` meets its contract: the six numbers are those of the line.
--- Assumes nothing.
 use mathlib.Core.Path.{_≡_}
 use native.Mathlib.Omega.{arith}
 use lib.ListN.{length}

@@ -1,5 +1,4 @@
 -- `report::map::map_line` meets its contract: the line of the refusal, or the counts of the map that is open.
--- Assumes nothing.
 use Prim.Native.Nat.{_*_, _≤_}
 use mathlib.Core.Path.{_≡_, refl, sym}
 use native.Mathlib.Omega.{arith}

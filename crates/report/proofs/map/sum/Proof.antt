@@ -1,5 +1,4 @@
 -- `report::map::sum` meets its contract. The loop's invariant: the numbers below i are added.
--- Assumes nothing.
 use Prim.Native.Nat.{ℕ, _+_, _-_, _≤_}
 use mathlib.Core.Path.{_≡_, refl}
 use mathlib.Core.List.{List}

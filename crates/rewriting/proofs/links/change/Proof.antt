@@ -1,5 +1,4 @@
 -- `rewriting::links::change` meets its contract.
--- Assumes nothing.
 use mathlib.Core.Path.{sym}
 use Rattle.rewriting.proofs.LinkLaws.{changed-same, changed-other}
 use Rattle.rewriting.proofs.links.change.Statement.{statement}

@@ -1,5 +1,4 @@
 -- `rewriting::links::changes` meets its contract. The loop's invariant: the first k codes are as they are to be.
--- Assumes nothing.
 use Prim.Native.Nat.{ℕ, _-_, _≤_, _<_}
 use mathlib.Core.Path.{_≡_}
 use native.Mathlib.Omega.{arith}

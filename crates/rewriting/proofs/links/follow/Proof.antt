@@ -1,5 +1,4 @@
 -- `rewriting::links::follow` meets its contract. Each return is one of the kinds of arcs.
--- Assumes nothing.
 use mathlib.Core.Path.{refl}
 use native.Mathlib.Omega.{arith}
 use borrow.Author.Needs.{needs}

@@ -1,5 +1,4 @@
 -- `rewriting::links::join` meets its contract. The loop's invariant: the links are written for the first r darts.
--- Assumes nothing.
 use Prim.Native.Nat.{_-_, _<_}
 use mathlib.Core.Path.{ap, _∙_}
 use native.Mathlib.Omega.{arith}

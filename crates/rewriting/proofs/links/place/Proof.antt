@@ -1,5 +1,4 @@
 -- `rewriting::links::place` meets its contract.
--- Assumes nothing.
 use native.Mathlib.Omega.{arith}
 use Rattle.rewriting.proofs.LinkLaws.{place-same, place-by}
 use Rattle.rewriting.proofs.links.place.Statement.{statement}

@@ -1,5 +1,4 @@
 -- `rewriting::links::relink` meets its contract. The loop's invariant: the first k arcs are followed.
--- Assumes nothing.
 use Prim.Native.Nat.{_*_, _-_, _/_, _%_}
 use native.Mathlib.Omega.{arith}
 use lib.ListN.{getD}

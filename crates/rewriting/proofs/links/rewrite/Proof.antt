@@ -1,5 +1,4 @@
 -- `rewriting::links::rewrite` meets its contract.
--- Assumes nothing.
 use mathlib.Core.Path.{refl, ap, _∙_}
 use borrow.Author.Needs.{needs}
 use Rattle.model.specs.Map.{Map, fieldOf}

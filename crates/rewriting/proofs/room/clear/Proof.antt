@@ -1,5 +1,4 @@
 -- `rewriting::room::clear` meets its contract. The loop's invariant: the first v nodes are cleared where they are deleted.
--- Assumes nothing.
 use Prim.Native.Nat.{_-_}
 use mathlib.Core.Path.{ap, _∙_}
 use mathlib.Core.Logic.{⊎-elim}

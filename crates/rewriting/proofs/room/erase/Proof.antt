@@ -1,5 +1,4 @@
 -- `rewriting::room::erase` meets its contract. The loop's invariant: the records of the first r darts are zero.
--- Assumes nothing.
 use Prim.Native.Nat.{_-_, _<_}
 use borrow.Author.Needs.{needs}
 use Rattle.model.specs.Map.{view}

@@ -1,5 +1,4 @@
 -- `rewriting::room::gather` meets its contract. The loop's invariant: the tags for the first a added nodes are gathered.
--- Assumes nothing.
 use Prim.Native.Nat.{_+_, _*_, _-_, _≤_, _<_}
 use native.Mathlib.Omega.{arith}
 use lib.ListN.{getD}

@@ -1,5 +1,4 @@
 -- `rewriting::room::note` meets its contract. The loop's invariant: the tags of the first r darts are noted.
--- Assumes nothing.
 use Prim.Native.Nat.{_+_, _-_, _≤_, _<_}
 use native.Mathlib.Omega.{arith}
 use lib.ListN.{length}

@@ -1,5 +1,4 @@
 -- `rewriting::room::prepare` meets its contract.
--- Assumes nothing.
 use borrow.Author.Needs.{needs}
 use Rattle.rewriting.proofs.RoomLaws.{donating-of, doomed, roomy}
 use Rattle.rewriting.proofs.room.prepare.Statement.{statement}

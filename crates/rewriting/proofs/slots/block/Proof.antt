@@ -1,5 +1,4 @@
 -- `rewriting::slots::block` meets its contract. The loop's invariant is `Passed`: the darts whose digits are gone have their pairs.
--- Assumes nothing.
 use Prim.Native.Nat.{_+_, _*_, _-_, _%_, _^_, _≤_, _<_}
 use mathlib.Core.Path.{_≡_, refl, sym, _∙_}
 use native.Mathlib.Omega.{arith}

@@ -1,5 +1,4 @@
 -- `rewriting::slots::blocks` meets its contract. The loop's invariant: the pairs of the orbit darts below 64 × w have their slots.
--- Assumes nothing.
 use Prim.Native.Nat.{_*_, _-_, _≤_, _<_}
 use mathlib.Core.Path.{_≡_, sym, _∙_}
 use native.Mathlib.Omega.{arith}

@@ -1,5 +1,4 @@
 -- `rewriting::slots::clear_bits` meets its contract. The loop's invariant: the first i words of digits are 0.
--- Assumes nothing.
 use Prim.Native.Nat.{_-_, _≤_, _<_}
 use mathlib.Core.Path.{_≡_}
 use native.Mathlib.Omega.{arith}

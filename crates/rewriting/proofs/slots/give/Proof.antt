@@ -1,5 +1,4 @@
 -- `rewriting::slots::give` meets its contract: the digits stand behind what the phases before have left, and the blocks take them from there.
--- Assumes nothing.
 use native.Mathlib.Omega.{arith}
 use borrow.Author.Needs.{needs}
 use Rattle.rewriting.proofs.SlotBlockLaws.{none-own, digits-own}

@@ -1,6 +1,5 @@
 -- `rewriting::slots::lowest` meets its contract. The loop's invariant is `Scanned`: no slot from `from` to before y is unused. Each test that fails
 -- takes it one slot on.
--- Assumes nothing.
 use Prim.Native.Nat.{ℕ, _+_, _-_, _≤_, _<_}
 use mathlib.Core.Path.{refl}
 use native.Mathlib.Omega.{arith}

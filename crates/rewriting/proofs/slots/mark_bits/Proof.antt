@@ -1,5 +1,4 @@
 -- `rewriting::slots::mark_bits` meets its contract. The loop's invariant: the darts at the first r places have their digits.
--- Assumes nothing.
 use Prim.Native.Nat.{_+_, _*_, _-_, _/_, _%_, _^_, _≤_, _<_}
 use mathlib.Core.Path.{_≡_}
 use native.Mathlib.Omega.{arith}

@@ -1,5 +1,4 @@
 -- `rewriting::slots::revive` meets its contract.
--- Assumes nothing.
 use native.Mathlib.Omega.{arith}
 use borrow.Author.Needs.{needs}
 use Rattle.model.specs.Map.{State, Link, Tag}

@@ -1,5 +1,4 @@
 -- `rewriting::slots::row_starts` meets its contract. The loop's invariant: the first a added nodes have their rows.
--- Assumes nothing.
 use Prim.Native.Nat.{_-_, _≤_}
 use mathlib.Core.Path.{_≡_, _∙_}
 use native.Mathlib.Omega.{arith}

@@ -1,6 +1,5 @@
 -- `rewriting::slots::turn` meets its contract. The loop's invariant: whatever was given before, the first a pairs of the dart have their slots too, where
 -- a and `rest` are together `many`, and `base` is the begin of the next row.
--- Assumes nothing.
 use Prim.Native.Nat.{ℕ, _+_, _*_, _≤_, _<_}
 use mathlib.Core.Path.{_≡_, refl, _∙_, sym}
 use native.Mathlib.Nat.{add-zero}

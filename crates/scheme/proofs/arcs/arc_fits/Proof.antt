@@ -1,5 +1,4 @@
 -- `scheme::arcs::arc_fits` meets its contract.
--- Assumes nothing.
 use borrow.Author.Needs.{needs}
 use Rattle.scheme.proofs.ArcTestLaws.{no-key, no-dimension, no-order, no-node, no-near, far-last}
 use Rattle.scheme.proofs.arcs.arc_fits.Statement.{statement}

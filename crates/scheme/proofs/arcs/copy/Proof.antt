@@ -1,5 +1,4 @@
 -- `scheme::arcs::copy` meets its contract. The loop's invariant: the first j bytes are stored, and the cursor is past them.
--- Assumes nothing.
 use Prim.Native.Nat.{_+_, _-_, _≤_}
 use mathlib.Core.Path.{_≡_, sym}
 use native.Mathlib.Omega.{arith}

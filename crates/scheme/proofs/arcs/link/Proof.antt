@@ -1,5 +1,4 @@
 -- `scheme::arcs::link` meets its contract.
--- Assumes nothing.
 use borrow.Author.Needs.{needs}
 use Rattle.scheme.proofs.LinkLaws.{loop-is, ends-are}
 use Rattle.scheme.proofs.arcs.link.Statement.{statement}

@@ -1,6 +1,5 @@
 -- `scheme::arcs::read_arcs` meets its contract. The loop's invariant: the first a arcs are in the form and give the targets, and the
 -- cursor is past them.
--- Assumes nothing.
 use Prim.Native.Nat.{_-_, _≤_}
 use mathlib.Core.Path.{_≡_, sym, ap, _∙_}
 use mathlib.Core.Bool.{true, true≢false}

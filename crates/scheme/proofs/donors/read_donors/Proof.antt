@@ -1,6 +1,5 @@
 -- `scheme::donors::read_donors` meets its contract. The loop's invariant: the donors of the first s nodes are in the form and are held, and
 -- the cursor is at node s.
--- Assumes nothing.
 use Prim.Native.Nat.{_-_, _≤_}
 use mathlib.Core.Path.{_≡_, sym, ap, _∙_}
 use mathlib.Core.Bool.{true≢false}

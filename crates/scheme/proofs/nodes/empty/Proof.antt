@@ -1,5 +1,4 @@
 -- `scheme::nodes::empty` meets its contract. The loop's invariant: the first p bytes are 255, and the cursor is past them.
--- Assumes nothing.
 use Prim.Native.Nat.{_+_, _-_, _≤_}
 use mathlib.Core.Path.{_≡_, sym}
 use mathlib.Core.Bool.{true, true≢false}

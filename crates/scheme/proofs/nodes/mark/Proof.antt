@@ -1,5 +1,4 @@
 -- `scheme::nodes::mark` meets its contract.
--- Assumes nothing.
 use Prim.Native.Nat.{_+_}
 use mathlib.Core.Path.{sym, ap}
 use mathlib.Core.Bool.{true≢false}

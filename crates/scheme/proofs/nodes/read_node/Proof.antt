@@ -1,5 +1,4 @@
 -- `scheme::nodes::read_node` meets its contract.
--- Assumes nothing.
 use Prim.Native.Nat.{_+_, _*_, _≤_}
 use mathlib.Core.Path.{_≡_, refl, sym, ap, _∙_}
 use mathlib.Core.Logic.{inl, inr}

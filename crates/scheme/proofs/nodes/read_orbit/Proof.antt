@@ -1,6 +1,5 @@
 -- `scheme::nodes::read_orbit` meets its contract. The loop's invariant: the first p dimensions ascend and are held, and the cursor is
 -- past them.
--- Assumes nothing.
 use Prim.Native.Nat.{_+_, _-_, _≤_, _<_}
 use mathlib.Core.Path.{_≡_, sym, ap, _∙_}
 use mathlib.Core.Bool.{true≢false}

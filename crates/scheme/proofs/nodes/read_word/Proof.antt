@@ -1,6 +1,5 @@
 -- `scheme::nodes::read_word` meets its contract. The loop's invariant: the first p bytes fit, are stored and are marked, and the cursor
 -- is past them.
--- Assumes nothing.
 use Prim.Native.Nat.{_+_, _-_, _≤_}
 use mathlib.Core.Path.{_≡_, refl, sym, _∙_}
 use mathlib.Core.Bool.{true, true≢false}

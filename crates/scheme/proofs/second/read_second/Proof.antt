@@ -1,5 +1,4 @@
 -- `scheme::second::read_second` meets its contract.
--- Assumes nothing.
 use mathlib.Core.Path.{sym}
 use mathlib.Core.Bool.{true≢false}
 use borrow.Author.Needs.{needs}

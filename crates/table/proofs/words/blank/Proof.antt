@@ -1,5 +1,4 @@
 -- `table::words::blank` meets its contract. The loop's invariant: the first c words of the record are zero.
--- Assumes nothing.
 use Prim.Native.Nat.{_+_, _*_, _-_}
 use native.Mathlib.Omega.{arith}
 use lib.ListN.{set}

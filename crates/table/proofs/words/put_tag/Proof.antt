@@ -1,5 +1,4 @@
 -- `table::words::put_tag` meets its contract.
--- Assumes nothing.
 use borrow.Author.Needs.{needs}
 use Rattle.model.specs.Map.{put}
 use Rattle.table.proofs.words.put_tag.Statement.{statement}

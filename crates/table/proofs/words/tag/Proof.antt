@@ -1,5 +1,4 @@
 -- `table::words::tag` meets its contract.
--- Assumes nothing.
 use borrow.Author.Needs.{needs}
 use Rattle.model.specs.Map.{fieldAt}
 use Rattle.table.proofs.words.tag.Statement.{statement}

@@ -1,5 +1,4 @@
 -- `table::words::word` meets its contract.
--- Assumes nothing.
 use mathlib.Core.Path.{sym, _∙_}
 use borrow.Author.Needs.{needs}
 use Rattle.model.specs.Map.{Link}

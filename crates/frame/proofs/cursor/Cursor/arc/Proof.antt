@@ -1,5 +1,4 @@
 -- `frame::cursor::Cursor::arc` meets its contract.
--- Assumes nothing.
 use borrow.Author.Needs.{needs}
 use Rattle.frame.proofs.PlaceLaws.{arc-of}
 use Rattle.frame.proofs.cursor.Cursor.arc.Statement.{statement}

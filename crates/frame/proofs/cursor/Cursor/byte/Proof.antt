@@ -1,5 +1,4 @@
 -- `frame::cursor::Cursor::byte` meets its contract.
--- Assumes nothing.
 use borrow.Author.Needs.{needs}
 use Rattle.frame.proofs.PlaceLaws.{step-byte, step-end}
 use Rattle.frame.proofs.cursor.Cursor.byte.Statement.{statement}

@@ -1,5 +1,4 @@
 -- `frame::cursor::Cursor::count` meets its contract.
--- Assumes nothing.
 use Prim.Native.Nat.{_+_, _*_, _<_}
 use mathlib.Core.Path.{_≡_, ap₂, _∙_}
 use native.Mathlib.Omega.{arith}
