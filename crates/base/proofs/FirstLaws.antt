@@ -73,13 +73,6 @@ module _ {A : Type 0} where
       go none f = f refl
       go (some a) f = refl
 
-  pub getD-same : {o u : Option A} (a b : A) → o ≡ u → (o ≡ none → a ≡ b) → Option·getD o a ≡ Option·getD u b
-  getD-same {o} {u} a b e f = go o f ∙ ap (λ (z : Option A). Option·getD z b) e
-    where
-      go : (o : Option A) → (o ≡ none → a ≡ b) → Option·getD o a ≡ Option·getD o b
-      go none f = f refl
-      go (some c) f = refl
-
   pub or-else-last : (o : Option A) → o orElse none ≡ o
   unfolding _orElse_
   or-else-last none = refl

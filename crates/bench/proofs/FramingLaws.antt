@@ -1,4 +1,4 @@
--- The framing: the counts that were read are those of the input, and what breaks a limit or the length is a fault, also where the input is cut.
+-- The framing. The counts that were read are those of the input. An input that breaks a limit or the length is a fault, and stays one if it is cut.
 use Prim.Native.Nat.{ℕ, _+_, _*_, _≤_, _<_}
 use mathlib.Core.Path.{_≡_, refl, sym, ap, ap₂, _∙_, subst}
 use mathlib.Core.Logic.{⊎-elim}
@@ -73,8 +73,8 @@ framed-short b t =
 long-fault : (b : List ℕ) → longestInput < length b → framed b ≡ false
 long-fault b h = impossible _ (λ t. omega (arith, framed-short b t))
 
--- what is read of an input into a buffer of k bytes, more than the longest that is framed, prints what the whole input does: where it is cut, both
--- are framing faults
+-- A buffer of k bytes is longer than the longest input that is framed. What is read of an input into it prints what the whole input does: if the
+-- input is cut, both are framing faults.
 pub cut-printed : (b : List ℕ) (k : ℕ) → longestInput < k → printed (take k b) ≡ printed b
 unfolding printed
 cut-printed b k h = ⊎-elim

@@ -24,7 +24,7 @@ last-length x y = simp length-append (omega arith)
 by-words : (v a w b s n : List ℕ) → v ++ s ++ a ++ s ++ w ++ s ++ b ++ n ≡ (v ++ s ++ a) ++ (s ++ w ++ s ++ b) ++ n
 by-words v a w b s n = simp append-assoc
 
--- the numbers that were asked for are those of the line
+-- the numbers that `dart_line` gets are those of the line
 module _ (d : ℕ) (a : Answer) (k o e f : ℕ) (x : k ≡ number a) (y : (o ≡ shown a 0) × (e ≡ shown a 1) × (f ≡ shown a 2)) where
   dart-numbers : dartLine d a ≡ numbersLine (d ∷ k ∷ o ∷ e ∷ f ∷ [])
   unfolding dartLine

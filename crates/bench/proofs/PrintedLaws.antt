@@ -58,7 +58,7 @@ module _ (b : List ℕ) (l : Layout) (laid : Laid b l) where
 
 -- ---- written
 
--- as many as are counted are few
+-- a count of slots is at most the greatest number of slots
 pub tally-few : (N : ℕ) (p : ℕ → Bool) (x : ℕ) → x ≡ countBelow N p → N ≤ mostSlots → x ≤ mostSlots
 tally-few N p x e h = omega (arith, e, count-le N p)
 

@@ -56,7 +56,7 @@ module _ (b : List ℕ) (l : Layout) (k : Laid b l) where
       same : 4 + l .map + l .scheme - (4 + l .map) ≡ l .scheme
       same = omega arith
 
-  -- the k-th dart stands where the reader comes to it
+  -- the reader comes to the k-th dart at its place
   pub dart-here : (j v from : ℕ) → from ≡ 6 + l .map + l .scheme + 2 * j → v ≡ numberAt 2 b from → v ≡ dartAt b j
   unfolding dartAt
   dart-here j v from e f =
@@ -70,7 +70,7 @@ module _ (b : List ℕ) (n N : ℕ) (m : MapOpen (mapBytes b) n N) where
   unfolding tableAfter
   stands-long t s x = ap length (x .table) ∙ open-long (mapBytes b) n N m
 
-  -- the start of a table that a file was opened in, and a store that is empty
+  -- the session begins with the start of the table in which the file was opened, and with an empty store
   pub stands-open : (f t u s : List ℕ) (w : ℕ) → f ≡ mapBytes b → length t ≡ tableSize mostSlots → u ≡ openTable f t → w ≡ tableSize N
       → s ≡ replicate (16 * N) 0 → Stands b N 0 (take w u) s
   unfolding tableAfter

@@ -1,4 +1,4 @@
--- The bench program: what it prints for what stands on its standard input.
+-- The bench program: what it prints for the bytes of its standard input.
 use Prim.Native.Nat.{ℕ, zero, suc, _+_, _*_}
 use mathlib.Core.Bool.{Bool, cond}
 use mathlib.Core.List.{List, [], _∷_, _++_}
@@ -25,7 +25,7 @@ liveWord = 108 ∷ 105 ∷ 118 ∷ 101 ∷ []
 abbrev pub unusedWord : List ℕ
 unusedWord = 117 ∷ 110 ∷ 117 ∷ 115 ∷ 101 ∷ 100 ∷ []
 
--- value f of an edit that is done; 0 on refusal
+-- value f of an edit that is done, and 0 on refusal
 abbrev pub shown : Answer → ℕ → ℕ
 shown a f = cond (eqb (number a) 0) (getD (values a) f 0) 0
 
@@ -46,7 +46,7 @@ longestScheme = 552
 abbrev pub mostDarts : ℕ
 mostDarts = 1024
 
--- no input that is framed is longer
+-- the greatest length of an input that is framed
 abbrev pub longestInput : ℕ
 longestInput = 6 + longestFile + longestScheme + 2 * mostDarts
 
@@ -76,7 +76,7 @@ module _ (b : List ℕ) where
 
   -- ---- the run
 
-  -- n and N as the map file has them
+  -- n and N as the map file names them
   abbrev pub mapDimension : ℕ
   mapDimension = fileDimension mapBytes
 

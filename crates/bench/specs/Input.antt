@@ -11,7 +11,7 @@ use Rattle.bench.specs.declared.framing.Layout.{Layout}
 use Rattle.bench.specs.declared.framing.Framing.{Framing}
 use Rattle.bench.specs.declared.framing.Framing.the-variants.{Framed, Fault}
 
--- l has the counts of b, which are within their limits, and nothing is missing or left over
+-- l has the counts of b; they are within their limits, and nothing is missing or left over
 pub record Laid (b : List ℕ) (l : Layout) : Type 0 where
   pub map : l .map ≡ numberAt 2 b 0
   pub scheme : l .scheme ≡ numberAt 2 b (2 + l .map)

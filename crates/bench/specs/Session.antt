@@ -7,11 +7,11 @@ use Rattle.base.specs.Lists.{joined}
 use Rattle.bench.specs.Bench.{dartLine, dartAt, answerAt, tableAfter, printed}
 use Rattle.numbers.specs.Places.{Put}
 
--- no output is longer: 1,024 lines of at most 23 bytes each, and a last one of at most 22
+-- the greatest length of an output: 1,024 lines of at most 23 bytes each, and a last one of at most 22
 abbrev pub longest : ℕ
 longest = 23574
 
--- the table t and the store s are as they stand after the first k edits
+-- t and s are the table and the store after the first k edits
 pub record Stands (b : List ℕ) (N k : ℕ) (t s : List ℕ) : Type 0 where
   pub table : t ≡ tableAfter b k
   pub store : s ≡ replicate (16 * N) 0
@@ -20,13 +20,13 @@ pub record Stands (b : List ℕ) (N k : ℕ) (t s : List ℕ) : Type 0 where
 unfoldable pub dartLines : List ℕ → ℕ → List ℕ
 dartLines b k = joined k (λ j. dartLine (dartAt b j) (answerAt b j))
 
--- r bytes are written at the start of the output, which is as it was behind them: those that the bench program prints for b
+-- the promise of a run: the output begins with the r bytes that the bench program prints for b, and is unchanged behind them
 pub record Printed (b out : List ℕ) (r : ℕ) (out′ : List ℕ) : Type 0 where
   pub count : r ≡ length (printed b)
   pub output : out′ ≡ printed b ++ drop r out
   pub few : r ≤ longest
 
--- the same as a run of stores
+-- the same, as a run of stores into the output
 pub record Wrote (b out : List ℕ) (r : ℕ) (out′ : List ℕ) : Type 0 where
   pub bytes : Put out 0 (printed b) out′ r
   pub short : r ≤ longest

@@ -3,7 +3,7 @@ use model::Answer;
 ghost use mathlib.Core.Path.{_≡_};
 ghost use Rattle.bench.specs.Bench.{shown as shownOf};
 
-// The numbers of a done edit; all 0 on refusal.
+// The values of an edit that is done; all are 0 on refusal.
 pub struct Values {
     pub orbit: u32,
     pub added: u32,

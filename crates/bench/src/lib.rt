@@ -1,4 +1,4 @@
-// The bench program on slices: what it prints for what stands on its standard input.
+// The bench program on slices: from the bytes of its standard input to those that it prints.
 mod answer;
 mod framing;
 mod session;
@@ -17,7 +17,7 @@ ghost use Prim.Native.Nat.{_≤_};
 ghost use lib.ListN.{length};
 ghost use Rattle.bench.specs.Session.{longest, Printed};
 
-// Prints to the start of `out`, and gives the number of bytes.
+// Prints to the start of `out`, and returns the number of bytes.
 pub fn run(input: &[u8], out: &mut [u8]) -> usize
     requires { ⌜ longest ≤ length (now out) ⌝ }
     ensures { λ r. ⌜ Printed (now (input .entry)) (now (out .entry)) r (now (out .exit)) ⌝ }

@@ -1,4 +1,4 @@
-// A session on a map that is open: it is edited at each dart in turn, and counted.
+// A session on an open map: the map is edited at each dart in turn, and then its live and its unused slots are counted.
 use crate::framing::Layout;
 use crate::writer::dart_line;
 use crate::writer::last_line;
@@ -90,7 +90,7 @@ fn tally(slots: usize, table: &[u32], s: u32) -> u32
     found
 }
 
-// The session on an input whose map is open in the table, with an empty store for its slots.
+// Runs the session. The input's map is open in the table, and the store is empty; both have the length that the map's slots ask for.
 pub fn session(
     input: &[u8],
     layout: Layout,

@@ -1,4 +1,4 @@
--- What a scheme in the form has: arcs in order, and targets that are the far ends of arcs.
+-- A scheme in the form has its arcs in order, and its targets are far ends of arcs.
 use Prim.Native.Nat.{ℕ, _≤_, _<_}
 use mathlib.Core.Path.{_≡_, refl, subst}
 use mathlib.Core.Logic.{inl, inr}

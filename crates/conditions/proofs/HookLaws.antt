@@ -76,13 +76,13 @@ module _ (places : ℕ) (orbit kinds words : List ℕ) (second : ℕ) (out : Fou
     unfolding hookBy
     hooks-right r = rw (sym e ∙ not-false b q, sym g ∙ not-false d r)
 
-  -- where there is no second hook, node 0 stands for it
+  -- if there is no second hook, node 0 is tested again in its place
   pub no-second : not b ≡ false → second ≡ firstHook → out ≡ hookBy places orbit kinds words second out
   no-second q z = hooks-right q (e ∙ ap (hookedBy places orbit kinds words) (sym z)) q
 
 -- ---- whether the walk over targets was enough
 
--- a left node that is not left out is reached
+-- if the search finds nothing, every left node is reached
 pub none-out : (nodes : ℕ) (kinds : List ℕ) (reached : List Bool) → Nothing ≡ foundOf (least nodes (leftOut kinds reached))
     → (s : ℕ) → s < nodes → (getD kinds s 0 ≡ 3 → ⊥) → getD reached s false ≡ true
 none-out nodes kinds reached e s h ne =

@@ -1,4 +1,4 @@
--- The trees that no arc leads out of have the nodes that a path over left arcs leads to from a hook.
+-- If no arc leads out of the trees, their nodes are those to which a path over left arcs leads from a hook.
 use Prim.Native.Nat.{ℕ, zero, suc, _-_, _<_}
 use mathlib.Core.Path.{_≡_, sym, ap, _∙_, subst}
 use mathlib.Core.Logic.{inl, inr, ⊎-elim}
@@ -27,7 +27,7 @@ module _ (S : Scheme) (f : Shaped S) where
   reached-below (atHook {h} e) = hook-below S f h e
   reached-below (overArc {s} {t} r a h j) = joined-below S f a s t h j
 
-  -- a path leads to nodes alone
+  -- what a path leads to is a node
   from-below : (h s : ℕ) → there (pathFrom S h s) ≡ true → s < S .nodes
   unfolding pathFrom
   from-below h s e = lt-of-not-le (λ l. true≢false (sym e ∙ there-none (path-none (S .nodes) (eqb h) (leftArc S) s l)))
@@ -50,12 +50,12 @@ module _ (S : Scheme) (f : Shaped S) where
         (root-cases _ _ _ (g .spans .roots) k q)))
         (le-or-lt (rootsOf (S .second)) k)
 
-    -- what is marked on one end of an arc is marked on the other
+    -- if one end of an arc is marked, so is the other
     across : (a x y : ℕ) → a < arcs S left → Ends (arcPart S left) a x y → getD (t .reached) x false ≡ true → getD (t .reached) y false ≡ true
     across a x y h (inl (p, q)) e = ap (λ (z : ℕ). getD (t .reached) z false) (sym q) ∙ sym (g .even a h) ∙ ap (λ (z : ℕ). getD (t .reached) z false) p ∙ e
     across a x y h (inr (p, q)) e = ap (λ (z : ℕ). getD (t .reached) z false) (sym p) ∙ g .even a h ∙ ap (λ (z : ℕ). getD (t .reached) z false) q ∙ e
 
-    -- an entry that is the node s marks it
+    -- if node s is an entry, it is marked
     entry-marked : (k s : ℕ) → k < t .size → s ≡ getD (t .node) k 0 → getD (t .reached) s false ≡ true
     entry-marked k s h e = ap (λ (z : ℕ). getD (t .reached) z false) e ∙ g .spans .marked k h
 

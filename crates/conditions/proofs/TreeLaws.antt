@@ -1,4 +1,4 @@
--- Trees of arcs with one entry more, and the passes over the arcs.
+-- Trees of arcs with one more entry, and the passes over the arcs.
 use Prim.Native.Nat.{ℕ, zero, suc, _+_, _-_, _≤_, _<_}
 use mathlib.Core.Path.{_≡_, refl, sym, ap, _∙_, subst}
 use mathlib.Core.Logic.{_⊎_, inl, inr, ⊎-elim}
@@ -21,7 +21,7 @@ use Rattle.conditions.specs.Hook.{leftOut}
 use Rattle.incidence.specs.Incidence.{foundOf}
 use Rattle.incidence.specs.declared.Found.the-variants.{Nothing}
 use Rattle.conditions.proofs.HookLaws.{none-out}
-use Rattle.conditions.specs.Tree.{Ends, ByArc, ByTarget, Branch, rootsOf, Roots, TreeBy, Reaching, Aimed, Lefts, Spans, Joined, Grown, Closed}
+use Rattle.conditions.specs.Tree.{Ends, ByArc, ByTarget, Branch, rootsOf, Roots, TreeBy, Reaching, Aimed, Lefts, Spans, TreeJoined, TreeGrown, Closed}
 
 mark-keeps : (l : List Bool) (y z : ℕ) → y < length l → getD l z false ≡ true → getD (set l y true) z false ≡ true
 mark-keeps l y z h e = ⊎-elim
@@ -62,7 +62,7 @@ root-cases node dim second r (suc k) h =
     let e : suc k ≡ rootsOf second - 1 = omega arith in
     inr (ap (λ (z : ℕ). getD node z 0) e ∙ r .last)
 
--- ---- one entry more
+-- ---- one more entry
 
 module _ (J : ℕ → ℕ → ℕ → Type 0) (second : ℕ) (node parent dim : List ℕ) (reached : List Bool) (size : ℕ)
     (s : TreeBy J second node parent dim reached size) where
@@ -72,7 +72,7 @@ module _ (J : ℕ → ℕ → ℕ → Type 0) (second : ℕ) (node parent dim : 
         let long : y < length reached = omega (arith, s .longReached) in
         count-more 16 _ _ y hy ry (getD-set-same reached y true false long) (λ z h e. mark-keeps reached y z long e)
 
-    -- there is room for one that is not reached
+    -- a node that is not reached finds room for its entry
     pub room : size < 16
     room = let a = more in let b = count-le 16 (λ z. getD (set reached y true) z false) in omega (arith, s .total)
 
@@ -117,7 +117,7 @@ module _ (J : ℕ → ℕ → ℕ → Type 0) (second : ℕ) (node parent dim : 
     not-there : (j : ℕ) → j < size → getD node j 0 ≡ y → ⊥
     not-there j h e = true≢false (sym (s .marked j h) ∙ ap (λ (z : ℕ). getD reached z false) e ∙ ry)
 
-    -- y, which is joined to x, becomes an entry
+    -- y becomes an entry, joined to x
     pushed : TreeBy J second (set node size y) (set parent size x) (set dim size i) (set reached y true) (size + 1)
     pushed =
         let long : y < length reached = omega (arith, s .longReached) in
@@ -168,7 +168,7 @@ module _ (J : ℕ → ℕ → ℕ → Type 0) (second : ℕ) (node parent dim : 
   pub few : size ≤ 16
   few = let a = count-le 16 (λ z. getD reached z false) in omega (arith, s .total)
 
--- a tree whose branches are of J is one of any K that has them
+-- if K joins whatever J joins, a tree joined by J is a tree joined by K
 pub tree-weaker : (J K : ℕ → ℕ → ℕ → Type 0) (second : ℕ) (node parent dim : List ℕ) (reached : List Bool) (size : ℕ)
     → TreeBy J second node parent dim reached size
     → ((k : ℕ) → k < size → J (getD dim k 0) (getD parent k 0) (getD node k 0) → K (getD dim k 0) (getD parent k 0) (getD node k 0))
@@ -220,29 +220,29 @@ module _ (arcs : List ℕ) (c second : ℕ) (node parent dim : List ℕ) (reache
   pub joined-push : (a x y : ℕ) → a < c → Ends (partOf arcs) a x y → getD reached x false ≡ true → getD reached y false ≡ false → y < 16
       → (i : ℕ) → i ≡ partOf arcs a 0 → (node′ parent′ dim′ : List ℕ) (reached′ : List Bool)
       → node′ ≡ set node size y → parent′ ≡ set parent size x → dim′ ≡ set dim size i → reached′ ≡ set reached y true
-      → Joined arcs c a second node′ parent′ dim′ reached reached′ size (size + 1)
+      → TreeJoined arcs c a second node′ parent′ dim′ reached reached′ size (size + 1)
   joined-push a x y b ends rx ry hy i ei node′ parent′ dim′ reached′ en ep ed er = record {
     spans = tree-push _ _ _ _ _ _ _ s i x y (record { arc = a; below = b; dimIs = sym ei; ends = ends }) rx ry hy _ _ _ _ en ep ed er;
     longer = omega arith;
     even = λ e. absurd (omega arith);
   }
 
-  -- an arc with both ends reached, or none, adds nothing
+  -- an arc adds nothing if both ends are reached, or neither is
   pub joined-same : (a x y : ℕ) → x ≡ partOf arcs a 1 → y ≡ partOf arcs a 2 → getD reached x false ≡ getD reached y false
-      → Joined arcs c a second node parent dim reached reached size size
+      → TreeJoined arcs c a second node parent dim reached reached size size
   joined-same a x y ex ey e = record {
     spans = s;
     longer = omega arith;
     even = λ q. (refl, ap (λ (z : ℕ). getD reached z false) (sym ex) ∙ e ∙ ap (λ (z : ℕ). getD reached z false) ey);
   }
 
-  pub grown-none : Grown arcs c 0 second node parent dim reached size size
+  pub grown-none : TreeGrown arcs c 0 second node parent dim reached size size
   grown-none = record { spans = s; longer = omega arith; even = λ q a h. absurd (omega arith) }
 
--- one arc more of a pass
+-- one more arc of a pass
 pub grown-more : (arcs : List ℕ) (c k second : ℕ) (node parent dim node′ parent′ dim′ : List ℕ) (reached reached′ : List Bool) (size₀ size size′ : ℕ)
-    → Grown arcs c k second node parent dim reached size₀ size → Joined arcs c k second node′ parent′ dim′ reached reached′ size size′
-    → Grown arcs c (k + 1) second node′ parent′ dim′ reached′ size₀ size′
+    → TreeGrown arcs c k second node parent dim reached size₀ size → TreeJoined arcs c k second node′ parent′ dim′ reached reached′ size size′
+    → TreeGrown arcs c (k + 1) second node′ parent′ dim′ reached′ size₀ size′
 grown-more arcs c k second node parent dim node′ parent′ dim′ reached reached′ size₀ size size′ g j = record {
   spans = j .spans;
   longer = omega (arith, g .longer, j .longer);
@@ -254,12 +254,12 @@ grown-more arcs c k second node parent dim node′ parent′ dim′ reached reac
       ⊎-elim (λ q. rw q (r .1)) (λ q. rw (r .0) (g .even (omega arith) a q)) (below-step h);
 }
 
--- before the first pass, where fewer entries count as passed over
+-- before the first pass: `last` is below `size`, so nothing is said of the arcs yet
 pub grown-start : (arcs : List ℕ) (c second : ℕ) (node parent dim : List ℕ) (reached : List Bool) (last size : ℕ)
-    → Spans arcs c second node parent dim reached size → last < size → Grown arcs c c second node parent dim reached last size
+    → Spans arcs c second node parent dim reached size → last < size → TreeGrown arcs c c second node parent dim reached last size
 grown-start arcs c second node parent dim reached last size s h = record { spans = s; longer = omega arith; even = λ f. absurd (omega arith) }
 
--- no arc leads out of trees with all left nodes, since arcs join left nodes
+-- no arc leads out of trees that have all left nodes, since arcs join left nodes
 pub closed-walk : (arcs : List ℕ) (c nodes : ℕ) (kinds : List ℕ) (second : ℕ) (node parent dim : List ℕ) (reached : List Bool) (size : ℕ)
     → Spans arcs c second node parent dim reached size → Lefts nodes kinds arcs c → Nothing ≡ foundOf (least nodes (leftOut kinds reached))
     → Closed arcs c second node parent dim reached size
@@ -358,7 +358,7 @@ module _ (second : ℕ) (h : second < 16) where
         (le-or-lt j k);
   }
 
--- as they are written, where r is the number of hooks
+-- the same, as the code writes them; r is the number of hooks
 pub tree-start : (J : ℕ → ℕ → ℕ → Type 0) (second r : ℕ) → second < 16 → r ≡ rootsOf second
     → TreeBy J second (set (replicate 16 0) (r - 1) second) (replicate 16 0) (replicate 16 255) (set (set (replicate 16 false) firstHook true) second true)
     (rootsOf second)

@@ -1,4 +1,4 @@
--- The arcs of a side as a scheme holds them.
+-- The arcs of a side as a scheme's value holds them.
 use Prim.Native.Nat.{ℕ, _+_, _*_, _≤_, _<_}
 use mathlib.Core.List.{List}
 use lib.ListN.{getD}

@@ -1,4 +1,4 @@
--- Hook, over the lists that a scheme holds: what is asked of a hook, and the left nodes that are not reached.
+-- The condition of hooks, over the lists of a scheme's value: the test of a hook, and the left nodes that are not reached.
 use Prim.Native.Nat.{ℕ, _+_, _*_}
 use mathlib.Core.Bool.{Bool, false, not, cond}
 use mathlib.Core.List.{List}
@@ -10,16 +10,16 @@ use Rattle.model.specs.Scheme.{firstHook}
 use Rattle.incidence.specs.declared.Found.{Found}
 use Rattle.incidence.specs.declared.Found.the-variants.{Node}
 
--- the hook h is not added, and its word is the orbit type
+-- node h is as a hook must be: not added, with the orbit type as its left word
 unfoldable pub hookedBy : ℕ → List ℕ → List ℕ → List ℕ → ℕ → Bool
 hookedBy places orbit kinds words h =
     not (eqb (getD kinds h 0) 3) and allBelow places (λ p. eqb (getD words (4 * h + p) 0) (getD orbit p 0))
 
--- s is not added, and not reached
+-- s is a left node that is not reached
 unfoldable pub leftOut : List ℕ → List Bool → ℕ → Bool
 leftOut kinds reached s = not (eqb (getD kinds s 0) 3) and not (getD reached s false)
 
--- the hook's fault: the first hook, or else the second, or else the node that is left out, if any
+-- the node that breaks the condition, if there is one: the first hook, else the second, else `out`, which no hook reaches
 unfoldable pub hookBy : ℕ → List ℕ → List ℕ → List ℕ → ℕ → Found → Found
 hookBy places orbit kinds words second out =
     cond (hookedBy places orbit kinds words firstHook) (cond (hookedBy places orbit kinds words second) out (Node second)) (Node firstHook)

@@ -1,4 +1,4 @@
--- The trees of left arcs that reach from the hooks, while they are grown and when they span all that is reached.
+-- The trees of left arcs that reach from the hooks: as they grow, and once they span all that is reached.
 use Prim.Native.Nat.{ℕ, _-_, _≤_, _<_}
 use mathlib.Core.Path.{_≡_}
 use mathlib.Core.Logic.{_⊎_}
@@ -32,24 +32,24 @@ pub record ByTarget (targets : List ℕ) (i x y : ℕ) : Type 0 where
   pub dim : i < 4
   pub is : entry targets x i ≡ y
 
--- entry k is joined to an earlier one
+-- J joins entry k to its parent, which is an earlier entry
 pub record Branch (J : ℕ → ℕ → ℕ → Type 0) (node parent dim : List ℕ) (k : ℕ) : Type 0 where
   pub earlier : ℕ
   pub before : earlier < k
   pub parentIs : getD node earlier 0 ≡ getD parent k 0
   pub joined : J (getD dim k 0) (getD parent k 0) (getD node k 0)
 
--- how many hooks there are, where `second` is the second one or 0
+-- how many hooks there are; `second` is the second one, or 0 if there is none
 abbrev pub rootsOf : ℕ → ℕ
 rootsOf second = cond (ltb firstHook second) 2 1
 
--- the first entries are the hooks, node 0 and then `second`, with no dimension
+-- the first entries are the hooks, node 0 and then `second`, and have no dimension
 pub record Roots (node dim : List ℕ) (second : ℕ) : Type 0 where
   pub first : getD node 0 0 ≡ firstHook
   pub last : getD node (rootsOf second - 1) 0 ≡ second
   pub bare : (k : ℕ) → k < rootsOf second → getD dim k 0 ≡ 255
 
--- the first `size` entries are trees from the hooks whose branches are of J, and `reached` marks their nodes
+-- The first `size` entries are trees from the hooks: J joins every entry but a hook to its parent. `reached` marks their nodes.
 pub record TreeBy (J : ℕ → ℕ → ℕ → Type 0) (second : ℕ) (node parent dim : List ℕ) (reached : List Bool) (size : ℕ) : Type 0 where
   pub longNode : length node ≡ 16
   pub longParent : length parent ≡ 16
@@ -63,50 +63,51 @@ pub record TreeBy (J : ℕ → ℕ → ℕ → Type 0) (second : ℕ) (node pare
   pub found : (s : ℕ) → getD reached s false ≡ true → (k : ℕ) × (k < size) × (getD node k 0 ≡ s)
   pub once : (j k : ℕ) → j < size → k < size → getD node j 0 ≡ getD node k 0 → j ≡ k
 
--- trees over targets that have reached s
+-- trees over targets that have reached node s
 pub record Reaching (targets : List ℕ) (second : ℕ) (node parent dim : List ℕ) (reached : List Bool) (size s : ℕ) : Type 0 where
   pub tree : TreeBy (ByTarget targets) second node parent dim reached size
   pub at : getD reached s false ≡ true
 
--- trees of the first c arcs, from node 0 and a second hook
+-- trees from the hooks in which one of the first c arcs joins an entry to its parent
 abbrev pub Spans : List ℕ → ℕ → ℕ → List ℕ → List ℕ → List ℕ → List Bool → ℕ → Type 0
 Spans arcs c = TreeBy (ByArc (partOf arcs) c)
 
--- targets are the far ends of arcs
+-- a target that is a node is the far end of one of the first c arcs
 pub record Aimed (targets arcs : List ℕ) (c : ℕ) : Type 0 where
   pub at : (s i : ℕ) → s < 16 → i < 4 → entry targets s i < 16 → ByArc (partOf arcs) c i s (entry targets s i)
 
--- arcs join nodes that are not added
+-- the first c arcs join left nodes: neither end is added
 pub record Lefts (nodes : ℕ) (kinds arcs : List ℕ) (c : ℕ) : Type 0 where
   pub from : (a : ℕ) → a < c → (partOf arcs a 1 < nodes) × (getD kinds (partOf arcs a 1) 0 ≡ 3 → ⊥)
   pub to : (a : ℕ) → a < c → (partOf arcs a 2 < nodes) × (getD kinds (partOf arcs a 2) 0 ≡ 3 → ⊥)
 
--- both ends of arc a are reached, or none
+-- both ends of arc a are reached, or neither is
 abbrev pub Even : List ℕ → List Bool → ℕ → Type 0
 Even arcs reached a = getD reached (partOf arcs a 1) false ≡ getD reached (partOf arcs a 2) false
 
--- after arc a was looked at
-pub record Joined (arcs : List ℕ) (c a second : ℕ) (node parent dim : List ℕ) (reached₀ reached : List Bool) (size₀ size : ℕ) : Type 0 where
+-- after arc a was looked at: if there is no new entry, nothing changed, and the arc does not lead out of the trees
+pub record TreeJoined (arcs : List ℕ) (c a second : ℕ) (node parent dim : List ℕ) (reached₀ reached : List Bool) (size₀ size : ℕ) : Type 0 where
   pub spans : Spans arcs c second node parent dim reached size
   pub longer : size₀ ≤ size
   pub even : size ≡ size₀ → (reached ≡ reached₀) × Even arcs reached a
 
--- after the first k arcs were looked at
-pub record Grown (arcs : List ℕ) (c k second : ℕ) (node parent dim : List ℕ) (reached : List Bool) (size₀ size : ℕ) : Type 0 where
+-- after the first k arcs were looked at: if there is no new entry, none of them leads out of the trees
+pub record TreeGrown (arcs : List ℕ) (c k second : ℕ) (node parent dim : List ℕ) (reached : List Bool) (size₀ size : ℕ) : Type 0 where
   pub spans : Spans arcs c second node parent dim reached size
   pub longer : size₀ ≤ size
   pub even : size ≡ size₀ → (a : ℕ) → a < k → Even arcs reached a
 
--- trees of the first c arcs that none of them leads out of
+-- trees of the first c arcs, and none of these arcs leads out of them
 pub record Closed (arcs : List ℕ) (c second : ℕ) (node parent dim : List ℕ) (reached : List Bool) (size : ℕ) : Type 0 where
   pub spans : Spans arcs c second node parent dim reached size
   pub even : (a : ℕ) → a < c → Even arcs reached a
 
--- such trees as one value
+-- the same, of the trees as one value
 abbrev pub Spanning : List ℕ → ℕ → ℕ → Tree → Type 0
 Spanning arcs c second t = Closed arcs c second (t .node) (t .parent) (t .dim) (t .reached) (t .size)
 
--- the trees of a scheme's left arcs: their entries are the nodes that a path leads to, each once, the hooks first and parents before their branches
+-- The trees of a scheme's left arcs. Their entries are the nodes to which a path leads, each once. The hooks come first, and every parent before its
+-- branches.
 pub record TreeOf (S : Scheme) (t : Tree) : Type 0 where
   pub rootsIs : t .roots ≡ rootsOf (S .second)
   pub some : t .roots ≤ t .size

@@ -1,4 +1,4 @@
--- What comes of a scheme: its first fault, if any, and the trees of its left arcs.
+-- What judging a scheme finds: its first fault, if there is one, and the trees of its left arcs.
 use Prim.Native.Nat.{ℕ}
 use mathlib.Core.Path.{_≡_}
 use mathlib.Core.Bool.{Bool}
@@ -20,17 +20,17 @@ use Rattle.incidence.specs.declared.Found.{Found}
 use Rattle.incidence.specs.declared.Found.the-variants.{Node, Nothing}
 use Rattle.conditions.specs.declared.Verdict.{Verdict}
 
--- the hook's fault, or else another
+-- the hook's fault if there is one, else f
 abbrev pub hookElse : Found → Fault → Fault
 hookElse Nothing f = f
 hookElse (Node x) f = Given (BadHook x)
 
--- the first fault, over the lists that go with a scheme: the hook's, then those of the arcs
+-- the first fault of a scheme, over its lists: the hook's, else that of the arcs
 unfoldable pub faultBy : ℕ → ℕ → ℕ → List ℕ → List ℕ → List ℕ → ℕ → Found → List ℕ → List ℕ → List Bool → List Bool → Fault
 faultBy n places nodes orbit kinds words second out lefts rights leftTwice rightTwice =
     hookElse (hookBy places orbit kinds words second out) (arcsFault n nodes orbit kinds lefts rights leftTwice rightTwice)
 
--- the numbers and lists are parts of a scheme in the form, and its nodes with two arcs of a dimension
+-- the numbers and lists are those of a scheme in the form; `ltwice` and `rtwice` mark its nodes with two arcs of one dimension
 pub record Judging (n places nodes second : ℕ) (orbit kinds lwords ltargets rtargets : List ℕ) (lcount : ℕ) (larcs : List ℕ)
     (ltwice rtwice : List Bool) : Type 0 where
   pub scheme : Scheme

@@ -1,4 +1,4 @@
-// The bytes of arcs as a scheme holds them, and the cast with which the phases of an edit read them.
+// The bytes of arcs as a scheme's value holds them, and the cast with which the phases of an edit read them.
 pub use base::byte::wide;
 ghost use mathlib.Core.Path.{_≡_};
 ghost use Prim.Native.Nat.{_<_, _≤_};

@@ -1,4 +1,4 @@
-// Hook: what is asked of a hook, and the nodes that are reached.
+// The condition of hooks: the test of a hook, and the search for a left node that is not reached.
 use incidence::Found;
 ghost use mathlib.Core.Path.{_≡_};
 ghost use Prim.Native.Nat.{_<_, _≤_};
@@ -6,7 +6,7 @@ ghost use Rattle.base.specs.First.{least};
 ghost use Rattle.conditions.specs.Hook.{hookedBy, leftOut};
 ghost use Rattle.incidence.specs.Incidence.{foundOf};
 
-// The hook h is a left node, and its left word is the orbit type.
+// Whether node h is as a hook must be: not added, with the orbit type as its left word.
 pub fn hooked<'a>(
     places: usize,
     orbit: &'a [u8; 4],
@@ -30,7 +30,7 @@ pub fn hooked<'a>(
     true
 }
 
-// The least left node that is not reached.
+// The least left node that is not reached, if there is one.
 pub fn unreached<'a>(nodes: usize, kinds: &'a [u8; 16], reached: &'a [bool; 16]) -> Found
     requires { ⌜ nodes ≤ 16 ⌝ }
     ensures { λ r. ⌜ r ≡ foundOf (least nodes (leftOut (now (kinds .entry)) (now (reached .entry)))) ⌝ }

@@ -17,7 +17,7 @@ ghost use Rattle.conditions.specs.Hook.{hookBy};
 ghost use Rattle.incidence.specs.Cycles.{Coding};
 ghost use Rattle.conditions.specs.Verdict.{faultBy, Judging, VerdictOf};
 
-// The hook's fault: node 0, the second hook, or the least left node that is not reached, which is `out`.
+// The node that breaks the condition of hooks, if there is one: node 0, else the second hook, else `out`, the least left node that no hook reaches.
 fn hook_fault<'a>(
     places: usize,
     orbit: &'a [u8; 4],
@@ -58,7 +58,8 @@ fn fault<'a>(
 ) -> Fault
     requires { ⌜ (2 ≤ n) × (n ≤ 3) × (places ≤ 4) × (nodes ≤ 16) × (second < 16) ⌝ }
     requires { ⌜ Coding nodes (now lefts) × Coding nodes (now rights) ⌝ }
-    ensures { λ r. ⌜ r ≡ faultBy n places nodes (now (orbit .entry)) (now (kinds .entry)) (now (words .entry)) second out (now (lefts .entry)) (now (rights .entry)) (now (ltwice .entry)) (now (rtwice .entry)) ⌝ }
+    ensures { λ r. ⌜ r ≡ faultBy n places nodes (now (orbit .entry)) (now (kinds .entry)) (now (words .entry)) second out
+        (now (lefts .entry)) (now (rights .entry)) (now (ltwice .entry)) (now (rtwice .entry)) ⌝ }
 {
     let hook = hook_fault(places, orbit, kinds, words, second, out);
     if let Found::Node(x) = hook {
@@ -67,7 +68,7 @@ fn fault<'a>(
     arcs_fault(n, nodes, orbit, kinds, lefts, rights, ltwice, rtwice)
 }
 
-// What is known of a scheme: its first fault of refusals 3 to 5, none where it is accepted, and the trees of its left arcs.
+// What is known of a scheme: the first of refusals 3, 4 and 5 that applies, if one does, and the trees of its left arcs.
 pub struct Verdict {
     pub fault: Fault,
     pub tree: Tree,
@@ -89,8 +90,11 @@ pub fn judge<'a>(
     ltwice: &'a [bool; 16],
     rtwice: &'a [bool; 16],
 ) -> Verdict
-    requires { ⌜ Judging n places nodes second (now orbit) (now kinds) (now lwords) (now ltargets) (now rtargets) lcount (now larcs) (now ltwice) (now rtwice) ⌝ }
-    ensures { λ r. ⌜ ((J : Judging n places nodes second (now (orbit .entry)) (now (kinds .entry)) (now (lwords .entry)) (now (ltargets .entry)) (now (rtargets .entry)) lcount (now (larcs .entry)) (now (ltwice .entry)) (now (rtwice .entry))) → VerdictOf (J .scheme) r) ⌝ }
+    requires { ⌜ Judging n places nodes second (now orbit) (now kinds) (now lwords) (now ltargets) (now rtargets) lcount (now larcs)
+        (now ltwice) (now rtwice) ⌝ }
+    ensures { λ r. ⌜ ((J : Judging n places nodes second (now (orbit .entry)) (now (kinds .entry)) (now (lwords .entry)) (now (ltargets .entry))
+        (now (rtargets .entry)) lcount (now (larcs .entry)) (now (ltwice .entry)) (now (rtwice .entry)))
+        → VerdictOf (J .scheme) r) ⌝ }
 {
     let c = wide(nodes);
     let h = wide(second);

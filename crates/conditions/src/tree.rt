@@ -9,13 +9,13 @@ ghost use mathlib.Core.Bool.{true, false};
 ghost use lib.ListN.{set};
 ghost use Rattle.base.specs.First.{least};
 ghost use Rattle.conditions.specs.Arcs.{Joining};
-ghost use Rattle.conditions.specs.Tree.{ByTarget, rootsOf, TreeBy, Reaching, Aimed, Lefts, Spans, Joined, Grown, Closed, Spanning};
+ghost use Rattle.conditions.specs.Tree.{ByTarget, rootsOf, TreeBy, Reaching, Aimed, Lefts, Spans, TreeJoined, TreeGrown, Closed, Spanning};
 ghost use Rattle.conditions.specs.Hook.{leftOut};
 ghost use Rattle.incidence.specs.Incidence.{foundOf};
 
-// What is reached from the hooks over left arcs, as trees: the first `size` entries. The first `roots` are the hooks, node 0 and, where there is
-// one, the second hook; their `dim` is 255. Any other is a node, with an earlier one to which a left arc of dimension `dim` joins it. `reached`
-// tells of each node whether it is an entry.
+// A spanning forest of the left nodes that the hooks reach, one tree for each hook. It has `size` entries, and entry k is the node `node[k]`. Entries
+// 0 to `roots - 1` are the hooks (node 0, then the second hook if there is one) and have no parent: their `dim` is 255. Every other entry was reached
+// from the node `parent[k]`, which comes earlier, by a left arc of dimension `dim[k]`. `reached[s]` says whether node s is an entry.
 pub struct Tree {
     pub size: usize,
     pub roots: usize,
@@ -25,7 +25,7 @@ pub struct Tree {
     pub reached: [bool; 16],
 }
 
-// Makes node `to`, which an arc of dimension i joins to `from`, entry k.
+// Makes node `to` entry k. An arc of dimension i joins it to its parent `from`.
 fn push<'a>(
     node: &'a mut [u8; 16],
     parent: &'a mut [u8; 16],
@@ -48,8 +48,8 @@ fn push<'a>(
     reached[to] = true;
 }
 
-// Where just one end of arc a is reached, the other becomes an entry. It returns the new number of entries.
-// Here and below `second` is the second hook, or 0: the hooks are the first entries, and stay so.
+// If just one end of arc a is reached, makes the other an entry. Returns the new number of entries.
+// Here and below `second` is the second hook, or 0 if there is none. The hooks are the first entries, and stay so.
 fn join<'a>(
     second: usize,
     count: usize,
@@ -64,7 +64,8 @@ fn join<'a>(
     requires { ⌜ Joining (now arcs) count ⌝ }
     requires { ⌜ a < count ⌝ }
     requires { ⌜ Spans (now arcs) count second (now node) (now parent) (now dim) (now reached) size ⌝ }
-    ensures { λ r. ⌜ Joined (now (arcs .entry)) count a second (now (node .exit)) (now (parent .exit)) (now (dim .exit)) (now (reached .entry)) (now (reached .exit)) size r ⌝ }
+    ensures { λ r. ⌜ TreeJoined (now (arcs .entry)) count a second (now (node .exit)) (now (parent .exit)) (now (dim .exit))
+        (now (reached .entry)) (now (reached .exit)) size r ⌝ }
 {
     let i = part(arcs, a, 0);
     let s = part(arcs, a, 1);
@@ -83,7 +84,7 @@ fn join<'a>(
     size
 }
 
-// One pass over the arcs. It returns the new number of entries.
+// Passes over the arcs once. Returns the new number of entries.
 fn grow<'a>(
     second: usize,
     count: usize,
@@ -96,7 +97,7 @@ fn grow<'a>(
 ) -> usize
     requires { ⌜ Joining (now arcs) count ⌝ }
     requires { ⌜ Spans (now arcs) count second (now node) (now parent) (now dim) (now reached) size ⌝ }
-    ensures { λ r. ⌜ Grown (now (arcs .entry)) count count second (now (node .exit)) (now (parent .exit)) (now (dim .exit)) (now (reached .exit)) size r ⌝ }
+    ensures { λ r. ⌜ TreeGrown (now (arcs .entry)) count count second (now (node .exit)) (now (parent .exit)) (now (dim .exit)) (now (reached .exit)) size r ⌝ }
 {
     let mut k = size;
     let mut a = 0;
@@ -107,7 +108,7 @@ fn grow<'a>(
     k
 }
 
-// The target of node s at dimension i, where it is a node that is not reached, becomes an entry. It returns the new number of entries.
+// If the target of node s at dimension i is a node that is not reached, makes it an entry. Returns the new number of entries.
 fn meet<'a>(
     second: usize,
     targets: &[u8; 64],
@@ -134,7 +135,7 @@ fn meet<'a>(
     size + 1
 }
 
-// The targets of node s become entries. It returns the new number of entries.
+// Makes the targets of node s entries. Returns the new number of entries.
 fn spread<'a>(
     second: usize,
     targets: &[u8; 64],
@@ -168,7 +169,7 @@ fn roots_of(second: usize) -> usize
     2
 }
 
-// The trees over targets, from the hooks, the only entries at first. It returns the number of entries.
+// Grows the trees over targets. The hooks are the only entries at first. Returns the number of entries.
 fn walk<'a>(
     second: usize,
     targets: &[u8; 64],
@@ -190,7 +191,7 @@ fn walk<'a>(
     size
 }
 
-// Passes over the arcs until one adds nothing. It returns the new number of entries.
+// Passes over the arcs until a pass adds nothing. Returns the new number of entries.
 fn pass<'a>(
     second: usize,
     count: usize,
@@ -214,15 +215,15 @@ fn pass<'a>(
     k
 }
 
-// What is reached from the hooks: the trees, and the least left node that is no entry of them.
+// What is reached from the hooks: the trees, and the least left node that no hook reaches, if there is one.
 pub struct Reach {
     pub tree: Tree,
     pub out: Found,
 }
 
-// The trees of the first `count` arcs, and what they leave out. A target that is a node is the far end of the first arc of its
-// dimension, so the targets reach all left nodes unless one is reached by a second arc alone, or not at all: then the arcs are
-// passed over.
+// Grows the trees of the first `count` arcs, and finds the least left node that they leave out. It follows targets first: a target that is a node is
+// the far end of the first arc of its dimension. So this walk leaves a left node out only if a second arc alone reaches it, or none. Only then are
+// the arcs passed over.
 pub fn reach_of<'a>(
     nodes: usize,
     second: usize,

@@ -19,7 +19,7 @@ module _ (m : Map) (s : List ℕ) (x : ℕ) where
   unfolding isFresh marked mark
   fresh-marked w e ne = sym (and-no-left _ (ap not (lt-ltb 0 (getD s x 0) (omega arith))))
 
-  -- one without is fresh where it is live
+  -- a slot without a mark is fresh just if it is live
   pub fresh-free : (w : ℕ) → w ≡ getD s x 0 → w ≡ 0 → {b : Bool} → b ≡ live m x → b ≡ isFresh m s x
   unfolding isFresh marked mark _and_
   fresh-free w e z f = let none : ltb 0 (getD s x 0) ≡ false = le-ltb 0 (getD s x 0) (omega arith) in rw none f

@@ -19,12 +19,12 @@ use Rattle.model.proofs.OrbitLaws.{orbit-slot}
 use Rattle.model.proofs.CountLaws.{reached-none, reached-walked, reached-by, smallest-idle, reached-closed, reached-idle, smallest-unreached}
 use Rattle.orbit.specs.Store.{mark, marked, Taken}
 use Rattle.orbit.specs.Places.{Blank, unmarked}
-use Rattle.orbit.specs.Walk.{Begun, Joined}
+use Rattle.orbit.specs.Walk.{Begun, OrbitAdded}
 use Rattle.orbit.proofs.StoreLaws.{unmarked-blank, blank-taken}
 use Rattle.count.specs.Fresh.{isFresh}
 
 module _ (m : Map) (k : ℕ) (dim : ℕ → ℕ) where
-  -- at the loop's head: the orbits of the live darts below x have places, no other slot has one, and each of them is counted
+  -- at the loop's head: the orbits of the live darts below x have places and are counted, and no other slot has a place
   pub record Counting (x : ℕ) (s : List ℕ) (end found : ℕ) : Type 0 where
     pub within : x ≤ m .slots
     pub few : found ≤ x
@@ -52,7 +52,7 @@ module _ (m : Map) (k : ℕ) (dim : ℕ → ℕ) where
 
   module _ (n : ℕ) (w : WellFormed n m) (dims : (p : ℕ) → p < k → dim p ≤ n) (x : ℕ) (s : List ℕ) (end found : ℕ) (c : Counting x s end found)
       (h : x < m .slots) where
-    -- x is fresh just where it is the smallest dart of its orbit
+    -- x is fresh just if it is the smallest dart of its orbit
     smallest-fresh : smallest m k dim x ≡ isFresh m s x
     unfolding isFresh
     smallest-fresh = ⊎-elim
@@ -60,7 +60,7 @@ module _ (m : Map) (k : ℕ) (dim : ℕ → ℕ) where
         (λ l. smallest-idle m k dim x l ∙ sym (and-no-right _ l))
         (true-or-false (live m x))
 
-    -- one slot more is counted where it is fresh
+    -- one more slot is counted if it is fresh
     counted-more : (b : Bool) → isFresh m s x ≡ b → found + bit b ≡ countBelow (x + 1) (smallest m k dim)
     counted-more b e = sym (count-step x (smallest m k dim) ∙ rw (← c .counted, smallest-fresh, e) refl)
 
@@ -81,7 +81,7 @@ module _ (m : Map) (k : ℕ) (dim : ℕ → ℕ) where
         free = let none = ltb-false 0 (mark s x) (not-true _ (and-left _ _ e)) in omega arith;
       }
 
-      pub counting-more : (s′ : List ℕ) (end′ : ℕ) → Joined m k dim x s s′ end′ → Counting (x + 1) s′ end′ (found + 1)
+      pub counting-more : (s′ : List ℕ) (end′ : ℕ) → OrbitAdded m k dim x s s′ end′ → Counting (x + 1) s′ end′ (found + 1)
       unfolding isFresh
       counting-more s′ end′ j = record {
         within = omega arith;

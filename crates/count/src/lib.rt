@@ -17,7 +17,7 @@ ghost use Rattle.table.specs.Words.{Sized};
 ghost use Rattle.orbit.specs.Walk.{BeforeWalking};
 ghost use Rattle.count.specs.Fresh.{isFresh};
 
-// x is a live dart that no walk has reached.
+// Whether x is a live dart that no walk has reached.
 fn fresh(slots: usize, table: &[u32], store: &[u32], x: usize) -> bool
     requires { ⌜ Sized slots (now table) ⌝ }
     requires { ⌜ length (now store) ≡ 16 * slots ⌝ }
@@ -30,7 +30,7 @@ fn fresh(slots: usize, table: &[u32], store: &[u32], x: usize) -> bool
     state(slots, table, x) == 1
 }
 
-// Walks each orbit from its smallest dart, and counts them. Marks stay from one walk to the next.
+// Walks each orbit from its smallest dart, and counts the walks. Marks stay from one walk to the next, so that no orbit is walked twice.
 fn walks(slots: usize, table: &[u32], dims: [u8; 4], k: usize, store: &mut [u32]) -> u32
     requires { ⌜ Sized slots (now table) ⌝ }
     requires { ⌜ BeforeWalking (view slots (now table)) dims k ⌝ }
@@ -51,7 +51,8 @@ fn walks(slots: usize, table: &[u32], dims: [u8; 4], k: usize, store: &mut [u32]
     found
 }
 
-// How many orbits the first k dimensions of dims make. For two and for three of them the walks are compiled apart, with no test of k at each link.
+// Counts the orbits of the first k dimensions of `dims`. The walks over two and over three dimensions are compiled apart, with no test of k at each
+// link.
 pub fn orbits(slots: usize, table: &[u32], dims: [u8; 4], k: usize, store: &mut [u32]) -> u32
     requires { ⌜ Sized slots (now table) ⌝ }
     requires { ⌜ BeforeWalking (view slots (now table)) dims k ⌝ }
@@ -67,7 +68,7 @@ pub fn orbits(slots: usize, table: &[u32], dims: [u8; 4], k: usize, store: &mut 
     walks(slots, table, dims, k, store)
 }
 
-// The volumes, which there are with n = 3.
+// Counts the volumes. A map with n = 2 has none.
 fn volumes(n: u32, slots: usize, table: &[u32], store: &mut [u32]) -> u32
     requires { ⌜ (n ≡ 2) ⊎ (n ≡ 3) ⌝ }
     requires { ⌜ Sized slots (now table) ⌝ }
@@ -84,7 +85,7 @@ fn volumes(n: u32, slots: usize, table: &[u32], store: &mut [u32]) -> u32
 // Live darts, vertices, edges, faces, pieces and volumes.
 pub type Counts = [u32; 6];
 
-// The counts of a map that has `darts` live darts.
+// Counts the cells of a map. `darts` is the number of its live darts, as the table check has counted them.
 pub fn count(n: u32, slots: usize, table: &[u32], store: &mut [u32], darts: usize) -> Counts
     requires { ⌜ (n ≡ 2) ⊎ (n ≡ 3) ⌝ }
     requires { ⌜ Sized slots (now table) ⌝ }

@@ -33,7 +33,7 @@ use Rattle.model.proofs.AnswerLaws.{answered-free}
 use Rattle.model.proofs.SizeLaws.{sizes-iff}
 use Rattle.model.proofs.WellFormedLaws.{wellFormed-iff}
 use Rattle.model.proofs.SchemeLaws.{shaped}
-use Rattle.model.proofs.AcceptedLaws.{accepted, no-fault}
+use Rattle.model.proofs.AcceptedLaws.{consistent-iff}
 use Rattle.model.proofs.EditLaws.{Ready}
 use Rattle.model.proofs.RewritingLaws.{rewriting}
 use Rattle.model.proofs.RewritingOnce.{edit-once}
@@ -42,7 +42,7 @@ use Rattle.model.proofs.HoldsLaws.{edit-holds}
 use Rattle.demands.specs.Refusals.{Orbit, siteOver, Matched}
 use Rattle.demands.specs.Demands.{doneAt, Admitted, Applicable, EditDone}
 use Rattle.demands.proofs.FaultLaws.{many-iff, taken-iff, darts-iff, orbit-of, site-one, matched-iff}
-use Rattle.demands.proofs.RefusalLaws.{within-test, bytes-within, fit-within, past}
+use Rattle.demands.proofs.RefusalLaws.{within-test, bytes-within, past}
 
 -- refusal 9 comes before 10
 missed : (s r : Bool) (done : Answer) → (s ≡ true → ⊥) → answered done (someIf (not s) NoMatch orElse someIf r NoRoom) ≡ Refused NoMatch
@@ -63,7 +63,7 @@ module _ (n N : ℕ) (t b : List ℕ) (d : Darts) (l : Lent) where
   admitted-fault a = rw (
     and-of (sizes-iff n N t .1 (a .sizes)) (eq-eqb (length store) (16 * N) (a .stored)),
     taken-iff d b .1 (a .form, a .many),
-    no-fault (schemeOf b) (a .accepted),
+    consistent-iff (schemeOf b) (shaped b (a .form)) .1 (a .consistent),
     eq-eqb (schemeOf b .n) n (a .dimension),
     wellFormed-iff n (view N t) .1 (a .well),
     darts-iff N t d .1 (a .dart, a .other),
@@ -78,7 +78,8 @@ module _ (n N : ℕ) (t b : List ℕ) (d : Darts) (l : Lent) where
     by-test : (s : Bool) (a : Refusal) (o : Option Refusal) → 1 ≤ refusalNumber a → refusalNumber a ≤ 8
         → number (answered done (someIf (not s) a orElse o)) ≡ k → (s ≡ true) × (number (answered done o) ≡ k)
     by-test s a o g h e =
-        let p = past k (someIf (not s) a) o done (within-test (refusalNumber a) (refusalNumber a) (not s) a (omega arith) (omega arith)) (beside (refusalNumber a) g h) e in
+        let within = within-test (refusalNumber a) (refusalNumber a) (not s) a (omega arith) (omega arith) in
+        let p = past k (someIf (not s) a) o done within (beside (refusalNumber a) g h) e in
         (passed s a (p .0), p .1)
 
     admitted-by : number (answered done (editFault n N t store b d)) ≡ k
@@ -99,7 +100,7 @@ module _ (n N : ℕ) (t b : List ℕ) (d : Darts) (l : Lent) where
             stored = eqb-true _ _ (and-right _ _ (p1 .0));
             form = taken .0;
             many = taken .1;
-            accepted = accepted (schemeOf b) (shaped b (taken .0)) (bytes .1);
+            consistent = consistent-iff (schemeOf b) (shaped b (taken .0)) .0 (bytes .1);
             dimension = eqb-true _ _ (p6 .0);
             well = wellFormed-iff n (view N t) .0 (p7 .0);
             dart = darts .0;
@@ -109,9 +110,9 @@ module _ (n N : ℕ) (t b : List ℕ) (d : Darts) (l : Lent) where
         )
 
   module _ (a : Admitted n N t store b d) where
-    sound : Sound E
+    pub sound : Sound E
     sound = record {
-      accepted = a .accepted;
+      accepted = record { shaped = shaped b (a .form); consistent = a .consistent };
       well = subst (λ (k : ℕ). WellFormed k (view N t)) (sym (a .dimension)) (a .well);
       dart = a .dart;
       other = a .other;

@@ -10,7 +10,7 @@ use Rattle.base.specs.First.{someIf, _orElse_, there}
 use Rattle.base.proofs.FirstLaws.{or-else-none}
 use Rattle.model.specs.Map.{view}
 use Rattle.model.specs.Scheme.{inForm, schemeOf}
-use Rattle.model.specs.Accepted.{Accepted}
+use Rattle.model.specs.Accepted.{Consistent}
 use Rattle.model.specs.Count.{counts}
 use Rattle.model.specs.Answer.{number, answered}
 use Rattle.model.specs.Calls.{checkTable, bytesFault, checkScheme, countFault, countAnswer, countOut, loadTable}
@@ -21,7 +21,7 @@ use Rattle.model.specs.declared.Answer.the-variants.{Done}
 use Rattle.model.proofs.AnswerLaws.{answered-free}
 use Rattle.model.proofs.WellFormedLaws.{wellFormed-iff}
 use Rattle.model.proofs.SchemeLaws.{shaped}
-use Rattle.model.proofs.AcceptedLaws.{accepted-iff}
+use Rattle.model.proofs.AcceptedLaws.{consistent-iff}
 use Rattle.model.proofs.CallLaws.{passed, output-passed}
 use Rattle.model.proofs.SequenceLaws.{eventOf, call-alike}
 use Rattle.demands.specs.Promises.{Promised}
@@ -80,17 +80,17 @@ demand1 = record {
 -- ---- demand 2
 
 module _ (b : List ℕ) where
-  scheme-free : (inForm b ≡ true) × Accepted (schemeOf b) → bytesFault (inForm b) b ≡ none
+  scheme-free : (inForm b ≡ true) × Consistent (schemeOf b) → bytesFault (inForm b) b ≡ none
   unfolding bytesFault someIf _orElse_
-  scheme-free p = rw (p .0, accepted-iff (schemeOf b) (p .1 .shaped) .1 (p .1)) refl
+  scheme-free p = rw (p .0, consistent-iff (schemeOf b) (shaped b (p .0)) .1 (p .1)) refl
 
-  scheme-iff : (number (checkScheme b) ≡ 0) ↔ ((inForm b ≡ true) × Accepted (schemeOf b))
+  scheme-iff : (number (checkScheme b) ≡ 0) ↔ ((inForm b ≡ true) × Consistent (schemeOf b))
   unfolding checkScheme bytesFault
   scheme-iff = (
     (λ e.
         let parts = or-else-none _ _ (answered-free Done (bytesFault (inForm b) b) e) in
         let form = passed _ _ (parts .0) in
-        (form, accepted-iff (schemeOf b) (shaped b form) .0 (parts .1))),
+        (form, consistent-iff (schemeOf b) (shaped b form) .0 (parts .1))),
     (λ p. ap (λ (o : Option Refusal). number (answered Done o)) (scheme-free p)),
   )
 
@@ -101,7 +101,8 @@ loaded-again : (n N : ℕ) (t : List ℕ) (l : Lent) (o : Outcome) → Promised 
     → (number (p .answer) ≡ 0) × (number (c .answer) ≡ 0) × AlikeTables n N t (p .table)
 loaded-again n N t l o w e small u k p len q j c r =
     let again = written-loaded n N t l (sym (ap number (answer-of w)) ∙ e) small u len in
-    let loads : Promised n N u (load (written write (outcomeOf n N t write l))) k p = subst (λ (x : Outcome). Promised n N u (load (written write x)) k p) w q in
+    let loads : Promised n N u (load (written write (outcomeOf n N t write l))) k p =
+    subst (λ (x : Outcome). Promised n N u (load (written write x)) k p) w q in
     let table = table-of loads in (
       ap number (answer-of loads) ∙ again .0,
       ap number (answer-of r) ∙ ap (λ (x : List ℕ). number (checkTable n N x)) table ∙ again .1,

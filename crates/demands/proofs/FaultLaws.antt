@@ -17,6 +17,7 @@ use Rattle.model.specs.Map.{Map, view}
 use Rattle.model.specs.Scheme.{left, has, firstHook, isHook, orbitDim, schemeOf}
 use Rattle.model.specs.Shaped.{Shaped}
 use Rattle.model.specs.Conditions.{pathTo, hookOk, hookFault, incidenceOk, incidenceFault, cycleOk, cycleFault}
+use Rattle.model.specs.Accepted.{Incident}
 use Rattle.model.specs.Orbit.{orbit}
 use Rattle.model.specs.Match.{matches, Assignment}
 use Rattle.model.specs.Site.{Site, LiveDart, Sound}
@@ -26,11 +27,12 @@ use Rattle.model.specs.declared.Darts.{Darts}
 use Rattle.model.specs.declared.Darts.the-variants.{One, Two}
 use Rattle.model.specs.declared.Refusal.{Refusal}
 use Rattle.model.specs.declared.Refusal.the-variants.{BadCycle}
+use Rattle.model.proofs.AcceptedLaws.{incident-iff, cyclic-iff}
 use Rattle.model.proofs.HookLaws.{hook-iff, hook-below, found-reached, reached-found}
 use Rattle.model.proofs.OrbitLaws.{orbit-is, orbit-only}
 use Rattle.model.proofs.MatchIff.{match-iff}
 use Rattle.model.proofs.CallLaws.{live-dart}
-use Rattle.demands.specs.Refusals.{AsMany, Taken, LeastNode, WrongHook, Unreached, HookFault, Offends, FirstPair}
+use Rattle.demands.specs.Refusals.{AsMany, BytesTaken, LeastNode, WrongHook, Unreached, HookFault, Offends, FirstPair}
 use Rattle.demands.specs.Refusals.{LiveDarts, Orbit, siteOver, Matched}
 
 -- ---- tests
@@ -39,8 +41,9 @@ pub not-true : (b : Bool) → not b ≡ true → b ≡ false
 not-true true e = absurd (true≢false (sym e))
 not-true false e = refl
 
-pub not-iff : (b : Bool) → (not b ≡ true) ↔ (b ≡ false)
-not-iff b = (not-true b, λ e. ap not e)
+-- a test that is not passed is a rule that does not hold
+not-iff : (b : Bool) {P : Type 0} → (b ≡ true) ↔ P → (not b ≡ true) ↔ (P → ⊥)
+not-iff b i = ((λ e p. true≢false (sym (i .1 p) ∙ not-true b e)), λ no. ap not (impossible b (λ t. no (i .0 t))))
 
 -- ---- the bytes that an edit takes, and its darts
 
@@ -54,7 +57,7 @@ many-iff (Two d e) S = (
   (λ ne. ⊎-elim (λ z. absurd (ne (omega arith))) (λ more. lt-ltb firstHook (S .second) more) (le-or-lt (S .second) firstHook)),
 )
 
-pub taken-iff : (d : Darts) (b : List ℕ) → (takes d b ≡ true) ↔ Taken d b
+pub taken-iff : (d : Darts) (b : List ℕ) → (takes d b ≡ true) ↔ BytesTaken d b
 taken-iff d b = (
   (λ e. (and-left _ _ e, many-iff d (schemeOf b) .0 (and-right _ _ e))),
   (λ p. and-of (p .0) (many-iff d (schemeOf b) .1 (p .1))),
@@ -119,20 +122,20 @@ module _ (S : Scheme) (f : Shaped S) where
 -- ---- incidence
 
 module _ (S : Scheme) where
-  pub incidence-found : (s : ℕ) → incidenceFault S ≡ some s → LeastNode (S .nodes) (λ u. incidenceOk S u ≡ false) s
+  pub incidence-found : (s : ℕ) → incidenceFault S ≡ some s → LeastNode (S .nodes) (λ u. Incident S u → ⊥) s
   unfolding incidenceFault
-  incidence-found = least-found (S .nodes) _ _ (λ s h. not-iff (incidenceOk S s))
+  incidence-found = least-found (S .nodes) _ _ (λ s h. not-iff (incidenceOk S s) (incident-iff S s))
 
-  pub incidence-nowhere : incidenceFault S ≡ none → (s : ℕ) → LeastNode (S .nodes) (λ u. incidenceOk S u ≡ false) s → ⊥
+  pub incidence-nowhere : incidenceFault S ≡ none → (s : ℕ) → LeastNode (S .nodes) (λ u. Incident S u → ⊥) s → ⊥
   unfolding incidenceFault
-  incidence-nowhere = least-nowhere (S .nodes) _ _ (λ s h. not-iff (incidenceOk S s))
+  incidence-nowhere = least-nowhere (S .nodes) _ _ (λ s h. not-iff (incidenceOk S s) (incident-iff S s))
 
   -- ---- cycles
 
   offends-iff : (s i j : ℕ) → j < suc (S .n) → ((leb (i + 2) j and not (cycleOk S s i j)) ≡ true) ↔ Offends S s i j
   offends-iff s i j h = (
-    (λ e. record { apart = leb-true _ _ (and-left _ _ e); within = omega arith; wrong = not-true _ (and-right _ _ e) }),
-    (λ o. and-of (le-leb _ _ (o .apart)) (ap not (o .wrong))),
+    (λ e. record { apart = leb-true _ _ (and-left _ _ e); within = omega arith; wrong = not-iff _ (cyclic-iff S s i j) .0 (and-right _ _ e) }),
+    (λ o. and-of (le-leb _ _ (o .apart)) (not-iff _ (cyclic-iff S s i j) .1 (o .wrong))),
   )
 
   -- what is looked for at a node and i, and at a node

@@ -16,6 +16,7 @@ use Rattle.demands.specs.Ours.{ours}
 use Rattle.demands.specs.Refusals.{siteOver}
 use Rattle.demands.specs.Demands.{Demand2}
 use Rattle.demands.specs.Labels.{Labelled, Tagged, LabelsFollow}
+use Rattle.demands.proofs.AdmitLaws.{sound}
 use Rattle.demands.proofs.Demands.{demand2}
 
 module _ (K : Kernel) (D : Demand2 K) (n N : ℕ) (t b : List ℕ) (d : Darts) (l : Lent) (o : Outcome) (p : K .Does n N t (edit b d) l o)
@@ -37,7 +38,7 @@ module _ (K : Kernel) (D : Demand2 K) (n N : ℕ) (t b : List ℕ) (d : Darts) (
         assigned = e .rewriting .assigned;
         inOrder = e .rewriting .inOrder;
         label = λ x h. subst (Label (siteOver N t b d (e .orbit)) (e .dart) x) (sym (word Tag (omega arith) x (h .slot)))
-            (label-follows (siteOver N t b d (e .orbit)) (a .admitted .accepted) (e .isOrbit .within) (e .rewriting) x (h .slot)
+            (label-follows (siteOver N t b d (e .orbit)) (sound n N t b d l (a .admitted) .accepted) (e .isOrbit .within) (e .rewriting) x (h .slot)
             (sym (word State (omega arith) x (h .slot)) ∙ h .alive));
       }
 

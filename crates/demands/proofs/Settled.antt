@@ -12,11 +12,11 @@ use lib.Dec.{eqb}
 use borrow.Author.Tests.{eqb-true, eqb-false, eq-eqb}
 use Rattle.base.specs.First.{least}
 use Rattle.base.proofs.FirstLaws.{least-at, least-none}
-use Rattle.base.proofs.TestLaws.{true-or-false, and-left}
+use Rattle.base.proofs.TestLaws.{true-or-false}
 use Rattle.base.proofs.BelowLaws.{le-or-lt}
 use Rattle.model.specs.Map.{Field, State, Link, Tag, dimension, fieldAt, view}
 use Rattle.model.specs.WellFormed.{WellFormed}
-use Rattle.model.specs.Scheme.{inForm, schemeOf, orbitDim}
+use Rattle.model.specs.Scheme.{schemeOf, orbitDim}
 use Rattle.model.specs.Count.{all}
 use Rattle.model.specs.File.{darts, slotAt}
 use Rattle.model.specs.Answer.{number}
@@ -199,7 +199,8 @@ cleared-one {o = o} same c d = let n = ap number same in has-number (o .answer) 
 module _ (K : Kernel) (D : Demand1 K) (E : Demand2 K) (n N : ℕ) (t : List ℕ) where
   answer-settled : (q : Request) (l : Lent) (o : Outcome) → K .Does n N t q l o → o .answer ≡ outcomeOf n N t q l .answer
   answer-settled q l o p =
-      first-one (rulesOf n N t q l) (Returned n N t q) (o .answer) _ (singles n N t q l) (returned-one n N t q _ _) (D .order n N t q l o p) (in-order n N t q l)
+      first-one (rulesOf n N t q l) (Returned n N t q) (o .answer) _ (singles n N t q l) (returned-one n N t q _ _)
+      (D .order n N t q l o p) (in-order n N t q l)
 
   edit-table : (b : List ℕ) (d : Darts) (l : Lent) (o : Outcome) → K .Does n N t (edit b d) l o → o .table ≡ outcomeOf n N t (edit b d) l .table
   edit-table b d l o p = let same = ap number (answer-settled (edit b d) l o p) in has-number (o .answer) 0

@@ -339,7 +339,8 @@ pub not-hoarding : Demand2 hoarding → ⊥
 not-hoarding D =
     let l = stored (replicate 32 5) in
     let is = as-ours hoarding D 2 2 eDarts turnBytes (One 0) l (ap number turn-answer) _ refl in
-    let refuses = ap (λ (o : Outcome). o .answer) (cond-true _ (answering (Refused NoRoom) (tabling eDarts (outcomeOf 2 2 eDarts (edit turnBytes (One 0)) l))) _ full) in
+    let full-outcome = answering (Refused NoRoom) (tabling eDarts (outcomeOf 2 2 eDarts (edit turnBytes (One 0)) l)) in
+    let refuses = ap (λ (o : Outcome). o .answer) (cond-true _ full-outcome _ full) in
     let ten : _≡_ {A = ℕ} 10 0 = ap number (sym refuses ∙ is .0 ∙ turn-answer) in
     omega arith
 

@@ -12,7 +12,7 @@ use Rattle.base.specs.Below.{countBelow}
 use Rattle.model.specs.Map.{Map, Field, State, Link, Tag, fieldAt, tableSize, view, tableOf, live}
 use Rattle.model.specs.WellFormed.{WellFormed}
 use Rattle.model.specs.Scheme.{inForm, schemeOf}
-use Rattle.model.specs.Accepted.{Accepted}
+use Rattle.model.specs.Accepted.{Consistent}
 use Rattle.model.specs.Orbit.{InOrbit}
 use Rattle.model.specs.Count.{allBut, all}
 use Rattle.model.specs.Site.{Site, LiveDart}
@@ -134,7 +134,7 @@ pub record Admitted (n N : ℕ) (t store b : List ℕ) (D : Darts) : Type 0 wher
   pub stored : length store ≡ 16 * N
   pub form : inForm b ≡ true
   pub many : AsMany D (schemeOf b)
-  pub accepted : Accepted (schemeOf b)
+  pub consistent : Consistent (schemeOf b)
   pub dimension : schemeOf b .n ≡ n
   pub well : WellFormed n (view N t)
   pub dart : LiveDart (view N t) (firstDart D)
@@ -171,9 +171,9 @@ pub record FileAccepted (K : Kernel) (n N : ℕ) (t b t′ : List ℕ) : Type 0 
   pub passes : number (checked .answer) ≡ 0
 
 pub record Demand2 (K : Kernel) : Type 0 where
-  -- a scheme is accepted exactly when it has the byte form and meets the conditions
+  -- a scheme is accepted exactly when it has the byte form and is as the publication asks
   pub accepted : (n N : ℕ) (t b : List ℕ) (l : Lent) (o : Outcome) → K .Does n N t (schemeCheck b) l o
-      → (number (o .answer) ≡ 0) ↔ ((inForm b ≡ true) × Accepted (schemeOf b))
+      → (number (o .answer) ≡ 0) ↔ ((inForm b ≡ true) × Consistent (schemeOf b))
   -- refusal 9 is given exactly when none of 1 to 8 applies and no assignment exists
   pub noMatch : (n N : ℕ) (t b : List ℕ) (D : Darts) (l : Lent) (o : Outcome) → K .Does n N t (edit b D) l o
       → (o .answer ≡ Refused NoMatch) ↔ (Admitted n N t (l .store) b D × (Matched N t b D → ⊥))

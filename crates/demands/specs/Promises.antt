@@ -17,16 +17,19 @@ Promised n N t q l o = o ≡ outcomeOf n N t q l
 abbrev pub lending : List ℕ → List ℕ → Lent
 lending store out = record { store = store; output = out }
 
+abbrev pub nothing : Lent
+nothing = lending [] []
+
 -- the outcome with an answer, a table, a store and an output
 abbrev pub outcomeWith : Answer → List ℕ → List ℕ → List ℕ → Outcome
 outcomeWith r t store out = record { answer = r; table = t; lent = lending store out }
 
 abbrev pub TableChecked : ℕ → ℕ → List ℕ → Answer → Type 0
-TableChecked n N t r = Promised n N t tableCheck (lending [] []) (outcomeWith r t [] [])
+TableChecked n N t r = Promised n N t tableCheck nothing (outcomeWith r t [] [])
 
 -- a scheme check is given no table
 abbrev pub SchemeChecked : List ℕ → Answer → Type 0
-SchemeChecked b r = Promised 0 0 [] (schemeCheck b) (lending [] []) (outcomeWith r [] [] [])
+SchemeChecked b r = Promised 0 0 [] (schemeCheck b) nothing (outcomeWith r [] [] [])
 
 abbrev pub MapEdited : ℕ → ℕ → List ℕ → List ℕ → List ℕ → Darts → Answer → List ℕ → List ℕ → Type 0
 MapEdited n N t store b D r t′ store′ = Promised n N t (edit b D) (lending store []) (outcomeWith r t′ store′ [])
@@ -35,7 +38,7 @@ abbrev pub MapCounted : ℕ → ℕ → List ℕ → List ℕ → List ℕ → A
 MapCounted n N t store out r store′ out′ = Promised n N t count (lending store out) (outcomeWith r t store′ out′)
 
 abbrev pub FileLoaded : ℕ → ℕ → List ℕ → List ℕ → Answer → List ℕ → Type 0
-FileLoaded n N t b r t′ = Promised n N t (load b) (lending [] []) (outcomeWith r t′ [] [])
+FileLoaded n N t b r t′ = Promised n N t (load b) nothing (outcomeWith r t′ [] [])
 
 abbrev pub FileWritten : ℕ → ℕ → List ℕ → List ℕ → Answer → List ℕ → Type 0
 FileWritten n N t out r out′ = Promised n N t write (lending [] out) (outcomeWith r t [] out′)

@@ -3,13 +3,14 @@
 use Prim.Native.Nat.{ℕ, _+_, _*_, _≤_, _<_}
 use mathlib.Core.Path.{_≡_}
 use mathlib.Core.Logic.{_⊎_}
-use mathlib.Core.Bool.{Bool, true, false}
+use mathlib.Core.Bool.{Bool, true}
 use mathlib.Core.List.{List, [], _∷_}
 use lib.ListN.{length}
 use Rattle.model.specs.Map.{view}
 use Rattle.model.specs.WellFormed.{WellFormed}
 use Rattle.model.specs.Scheme.{left, orbitDim, has, firstHook, isHook, inForm, schemeOf}
-use Rattle.model.specs.Conditions.{Hooked, Reached, incidenceOk, cycleOk}
+use Rattle.model.specs.Conditions.{Hooked, Reached}
+use Rattle.model.specs.Accepted.{Incident, Cyclic}
 use Rattle.model.specs.Orbit.{IsOrbit}
 use Rattle.model.specs.Site.{Site, siteWith, LiveDart}
 use Rattle.model.specs.Match.{Assignment}
@@ -49,8 +50,8 @@ AsMany (One d) S = S .second ≡ firstHook
 AsMany (Two d e) S = S .second ≡ firstHook → ⊥
 
 -- the bytes are in the form, and their scheme has as many hooks as the call has darts
-abbrev pub Taken : Darts → List ℕ → Type 0
-Taken D b = (inForm b ≡ true) × AsMany D (schemeOf b)
+abbrev pub BytesTaken : Darts → List ℕ → Type 0
+BytesTaken D b = (inForm b ≡ true) × AsMany D (schemeOf b)
 
 -- ---- 3 to 5: a scheme in the form
 
@@ -79,7 +80,7 @@ module _ (S : Scheme) where
   pub record Offends (s i j : ℕ) : Type 0 where
     pub apart : i + 2 ≤ j
     pub within : j ≤ S .n
-    pub wrong : cycleOk S s i j ≡ false
+    pub wrong : Cyclic S s i j → ⊥
 
   -- the least such node, and at it the first such pair
   pub record FirstPair (s i j : ℕ) : Type 0 where
@@ -91,7 +92,7 @@ module _ (S : Scheme) where
   hookRule f = (s : ℕ) × HookFault s × (f ≡ BadHook s)
 
   abbrev pub incidenceRule : Rule
-  incidenceRule f = (s : ℕ) × LeastNode (S .nodes) (λ u. incidenceOk S u ≡ false) s × (f ≡ BadIncidence s)
+  incidenceRule f = (s : ℕ) × LeastNode (S .nodes) (λ u. Incident S u → ⊥) s × (f ≡ BadIncidence s)
 
   abbrev pub cycleRule : Rule
   cycleRule f = (s : ℕ) × (i : ℕ) × (j : ℕ) × FirstPair s i j × (f ≡ BadCycle s i j)
@@ -147,7 +148,7 @@ siteRules n N t b D = when (schemeOf b .n ≡ n → ⊥) OtherDimension ∷ brok
 abbrev pub rulesOf : ℕ → ℕ → List ℕ → Request → Lent → List Rule
 rulesOf n N t tableCheck l = when (Sizes n N t → ⊥) BadCall ∷ broken n N t ∷ []
 rulesOf n N t (schemeCheck b) l = schemeRules (inForm b ≡ true) b []
-rulesOf n N t (edit b D) l = when (Stored n N t (l .store) → ⊥) BadCall ∷ schemeRules (Taken D b) b (siteRules n N t b D)
+rulesOf n N t (edit b D) l = when (Stored n N t (l .store) → ⊥) BadCall ∷ schemeRules (BytesTaken D b) b (siteRules n N t b D)
 rulesOf n N t count l = when (Stored n N t (l .store) → ⊥) BadCall ∷ broken n N t ∷ when (length (l .output) < countSize) ShortOutput ∷ []
 rulesOf n N t (load b) l = when (Sizes n N t → ⊥) BadCall ∷ when (fileForm n N b ≡ true → ⊥) BadFile ∷ []
 rulesOf n N t write l = when (Sizes n N t → ⊥) BadCall ∷ broken n N t ∷ when (length (l .output) < length (file n (view N t))) ShortOutput ∷ []

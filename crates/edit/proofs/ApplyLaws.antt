@@ -40,7 +40,7 @@ use Rattle.orbit.proofs.WalkLaws.{walked-kept}
 
 -- ---- the ends
 
-pub no-match : {E : Site} {t store store′ rows : List ℕ} {size : ℕ} {answer : Bool} → C.Matched E store store′ rows size answer → answer ≡ false
+pub no-match : {E : Site} {t store store′ rows : List ℕ} {size : ℕ} {answer : Bool} → C.MatchFound E store store′ rows size answer → answer ≡ false
     → Applied E t (Refused NoMatch) t
 unfolding fitFault someIf _orElse_ there
 no-match {E} m e = let q : matches E ≡ false = sym (m .is) ∙ e in record { answer = rw q refl; table = rw q refl }
@@ -88,7 +88,7 @@ module _ {m : Map} (A : At m) where
       rowsLong = wide;
     }
 
-    abbrev pub settle-ready : {store′ rows′ : List ℕ} {answer : Bool} → C.Matched (site A) store store′ rows′ size answer → answer ≡ true
+    abbrev pub settle-ready : {store′ rows′ : List ℕ} {answer : Bool} → C.MatchFound (site A) store store′ rows′ size answer → answer ≡ true
         → {c : ℕ} → c ≡ A .scheme .nodes → {room : ℕ} → room ≡ countBelow (m .slots) (unused m)
         → Settling m store′ c (A .scheme .kinds) (A .scheme .donors) (A .scheme .ltargets) (A .scheme .rtargets) size room rows′
     settle-ready {store′} a e n free = record {

@@ -2,7 +2,7 @@
 use Prim.Native.Nat.{ℕ}
 use mathlib.Core.Path.{_≡_, refl, sym, ap, _∙_}
 use mathlib.Core.List.{List}
-use Rattle.model.specs.Sequence.{Request, Lent, Outcome, outcomeOf}
+use Rattle.model.specs.Sequence.{Request, Lent, outcomeOf}
 use Rattle.demands.specs.Kernel.{Kernel, Refines}
 use Rattle.demands.specs.Ours.{ours}
 use Rattle.demands.specs.Demands.{Demand1, Demand2, Demand3}

@@ -7,18 +7,21 @@ use kernel::load;
 use kernel::write;
 use model::Darts;
 use word::pack;
-ghost use Rattle.exports.specs.Exports.{PackedTableCheck, PackedSchemeCheck, PackedEdit, PackedCount, PackedLoad, PackedWrite};
+ghost use mathlib.Core.List.{[]};
+ghost use Rattle.model.specs.Sequence.{tableCheck, schemeCheck, edit, count as counting, load as loading, write as writing};
+ghost use Rattle.demands.specs.Promises.{lending, nothing};
+ghost use Rattle.exports.specs.Exports.{Packed};
 
 #[no_mangle]
 pub extern "C" fn gmap_check_table(n: u32, slots: u32, table: &[u32]) -> u64
-    ensures { λ r. ⌜ PackedTableCheck n slots (now (table .entry)) r ⌝ }
+    ensures { λ r. ⌜ Packed n slots (now (table .entry)) tableCheck nothing r (now (table .entry)) nothing ⌝ }
 {
     pack(check_table(n, slots, table))
 }
 
 #[no_mangle]
 pub extern "C" fn gmap_check_scheme(scheme: &[u8]) -> u64
-    ensures { λ r. ⌜ PackedSchemeCheck (now (scheme .entry)) r ⌝ }
+    ensures { λ r. ⌜ Packed 0 0 [] (schemeCheck (now (scheme .entry))) nothing r [] nothing ⌝ }
 {
     pack(check_scheme(scheme))
 }
@@ -32,7 +35,8 @@ fn packed_edit(
     scheme: &[u8],
     darts: Darts,
 ) -> u64
-    ensures { λ r. ⌜ PackedEdit n slots (now (table .entry)) (now (store .entry)) (now (scheme .entry)) darts r (now (table .exit)) (now (store .exit)) ⌝ }
+    ensures { λ r. ⌜ Packed n slots (now (table .entry)) (edit (now (scheme .entry)) darts) (lending (now (store .entry)) []) r
+        (now (table .exit)) (lending (now (store .exit)) []) ⌝ }
 {
     pack(edit_at(n, slots, table, store, scheme, darts))
 }
@@ -46,7 +50,8 @@ pub extern "C" fn gmap_edit(
     scheme: &[u8],
     dart: u32,
 ) -> u64
-    ensures { λ r. ⌜ PackedEdit n slots (now (table .entry)) (now (store .entry)) (now (scheme .entry)) (Darts.One dart) r (now (table .exit)) (now (store .exit)) ⌝ }
+    ensures { λ r. ⌜ Packed n slots (now (table .entry)) (edit (now (scheme .entry)) (Darts.One dart)) (lending (now (store .entry)) []) r
+        (now (table .exit)) (lending (now (store .exit)) []) ⌝ }
 {
     packed_edit(n, slots, table, store, scheme, Darts::One(dart))
 }
@@ -61,7 +66,8 @@ pub extern "C" fn gmap_edit2(
     dart: u32,
     other: u32,
 ) -> u64
-    ensures { λ r. ⌜ PackedEdit n slots (now (table .entry)) (now (store .entry)) (now (scheme .entry)) (Darts.Two dart other) r (now (table .exit)) (now (store .exit)) ⌝ }
+    ensures { λ r. ⌜ Packed n slots (now (table .entry)) (edit (now (scheme .entry)) (Darts.Two dart other)) (lending (now (store .entry)) []) r
+        (now (table .exit)) (lending (now (store .exit)) []) ⌝ }
 {
     packed_edit(
         n,
@@ -84,21 +90,23 @@ pub extern "C" fn gmap_count(
     store: &mut [u32],
     out: &mut [u32],
 ) -> u64
-    ensures { λ r. ⌜ PackedCount n slots (now (table .entry)) (now (store .entry)) (now (out .entry)) r (now (store .exit)) (now (out .exit)) ⌝ }
+    ensures { λ r. ⌜ Packed n slots (now (table .entry)) counting (lending (now (store .entry)) (now (out .entry))) r
+        (now (table .entry)) (lending (now (store .exit)) (now (out .exit))) ⌝ }
 {
     pack(count(n, slots, table, store, out))
 }
 
 #[no_mangle]
 pub extern "C" fn gmap_load(n: u32, slots: u32, table: &mut [u32], file: &[u8]) -> u64
-    ensures { λ r. ⌜ PackedLoad n slots (now (table .entry)) (now (file .entry)) r (now (table .exit)) ⌝ }
+    ensures { λ r. ⌜ Packed n slots (now (table .entry)) (loading (now (file .entry))) nothing r (now (table .exit)) nothing ⌝ }
 {
     pack(load(n, slots, table, file))
 }
 
 #[no_mangle]
 pub extern "C" fn gmap_write(n: u32, slots: u32, table: &[u32], out: &mut [u8]) -> u64
-    ensures { λ r. ⌜ PackedWrite n slots (now (table .entry)) (now (out .entry)) r (now (out .exit)) ⌝ }
+    ensures { λ r. ⌜ Packed n slots (now (table .entry)) writing (lending [] (now (out .entry))) r
+        (now (table .entry)) (lending [] (now (out .exit))) ⌝ }
 {
     pack(write(n, slots, table, out))
 }

@@ -14,7 +14,7 @@ use Rattle.model.proofs.MapLaws.{state-not-tag, state-not-link, tag-not-link, p
 use Rattle.table.specs.Words.{Sized}
 use Rattle.table.proofs.WordLaws.{put-sized}
 use Rattle.model.specs.File.{slotsFrom, tagsFrom, linksFrom, dartsIn, slotIn, tagIn, linkIn}
-use Rattle.file.specs.Records.{Formed, Linked, linkOf, linkWord, rowOf, putRow, putLinks}
+use Rattle.file.specs.Records.{Formed, LinksOf, linkOf, linkWord, rowOf, putRow, putLinks}
 use Rattle.file.specs.declared.records.Links.{Links}
 
 -- ---- the links of a dart
@@ -82,7 +82,7 @@ module _ (t : List ℕ) (x : ℕ) (g : Field → ℕ) where
 -- the words of the k-th dart, as they are put
 pub entered : (w n : ℕ) (b : List ℕ) (k x v at tagged : ℕ) (l : Links) (t t1 t2 t3 : List ℕ)
     → x ≡ slotIn w b k → at ≡ linksFrom w (dartsIn w b) + w + w * ((n + 1) * k) → v ≡ numberAt 4 b tagged
-    → tagged ≡ tagsFrom w (dartsIn w b) + w + 4 * k → Linked w n b at x l
+    → tagged ≡ tagsFrom w (dartsIn w b) + w + 4 * k → LinksOf w n b at x l
     → t1 ≡ put t State x 1 → t2 ≡ putLinks t1 x (linkOf l) 4 → t3 ≡ put t2 Tag x v → t3 ≡ putRow t (slotIn w b k) (rowOf w n b k)
 unfolding putRow rowOf putLinks linkOf linkWord linkIn tagIn
 entered w n b k x v at tagged l t t1 t2 t3 e f g h u p q r = rw (r, q, p, u .a0, u .a1, u .a2, u .a3, g, h, f, e) refl

@@ -28,7 +28,7 @@ linkOf l (suc (suc zero)) = l .a2
 linkOf l (suc (suc (suc i))) = l .a3
 
 -- l has the links of x
-pub record Linked (w n : ℕ) (b : List ℕ) (at x : ℕ) (l : Links) : Type 0 where
+pub record LinksOf (w n : ℕ) (b : List ℕ) (at x : ℕ) (l : Links) : Type 0 where
   pub a0 : l .a0 ≡ linkWord w n b at x 0
   pub a1 : l .a1 ≡ linkWord w n b at x 1
   pub a2 : l .a2 ≡ linkWord w n b at x 2

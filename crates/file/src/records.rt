@@ -12,7 +12,7 @@ ghost use Rattle.model.specs.Map.{tableSize, tableOf, maxSlots};
 ghost use Rattle.model.specs.File.{dartsIn, slotIn, mapIn};
 ghost use Rattle.table.specs.Words.{Sized};
 ghost use Rattle.file.specs.Form.{Kind};
-ghost use Rattle.file.specs.Records.{Formed, Linked, linkOf, rowOf, putRow, putLinks};
+ghost use Rattle.file.specs.Records.{Formed, LinksOf, linkOf, rowOf, putRow, putLinks};
 
 // The links of a dart, by dimension.
 struct Links {
@@ -26,7 +26,7 @@ struct Links {
 fn read_links(w: usize, n: u32, x: u32, b: &[u8], from: Cursor) -> Links
     requires { ⌜ Kind w n ⌝ }
     requires { ⌜ from .at + w * (n + 1) ≤ length (now b) ⌝ }
-    ensures { λ r. ⌜ Linked w n (now (b .entry)) (from .at) x r ⌝ }
+    ensures { λ r. ⌜ LinksOf w n (now (b .entry)) (from .at) x r ⌝ }
 {
     let first = from.number(w, b);
     let from1 = first.next;

@@ -1,5 +1,4 @@
--- What the first byte says, and where the nodes stand; counts that are out of their range, or sections that do not fill the bytes, refute the
--- form.
+-- What the first byte says, and where the nodes are. A count out of its range, or sections that do not fill the bytes, refute the form.
 use Prim.Native.Nat.{ℕ, _+_, _*_, _-_, _≤_, _<_}
 use mathlib.Core.Path.{_≡_, refl, sym, ap, ap₂, _∙_}
 use mathlib.Core.Logic.{_⊎_, inl, inr, ⊎-elim}
@@ -36,7 +35,7 @@ marked weight start h = sym (ap bit (le-leb _ _ h))
 pub unmarked : (weight start : ℕ) → start < weight → 0 ≡ markOf weight start
 unmarked weight start h = sym (ap bit (lt-leb _ _ h))
 
--- what is left once the mark of a weight is taken
+-- what the mark of a weight leaves of a first byte
 rest-of : (weight start : ℕ) → start - weight * markOf weight start ≡ cond (leb weight start) (start - weight) start
 rest-of weight start = less (leb weight start)
   where
@@ -63,10 +62,10 @@ pub has-mark : (c : Bool) {mark : ℕ} → mark ≡ bit c → (mark ≡ 0 → �
 has-mark true e h = refl
 has-mark false e h = absurd (h e)
 
--- ---- where the nodes stand
+-- ---- where the nodes are
 
 module _ (b : List ℕ) where
-  -- the bytes that name a donor
+  -- how many bytes name a donor
   donor-bytes : {donors : ℕ} (kind : ℕ) → donors ≡ bit (namesDonors b) → donorBytes donors kind ≡ bit (hasDonor b kind)
   unfolding hasDonor _and_
   donor-bytes {donors} kind e = ap (λ (d : ℕ). cond (eqb kind 3) d 0) e ∙ joined (namesDonors b) (eqb kind 3)
@@ -77,14 +76,14 @@ module _ (b : List ℕ) where
       joined false true = refl
       joined false false = refl
 
-  -- the place after the words of node s and the bytes that name its donor
+  -- the next node comes after the words of node s and its donor, if it has one
   pub node-after : {donors kind place extra : ℕ} (s : ℕ) → donors ≡ bit (namesDonors b) → kind ≡ kindAt b s → place ≡ nodeAt b s + 1 + 2 * placesOf b
       → extra ≡ donorBytes donors kind → place + extra ≡ nodeAt b (s + 1)
   node-after {kind} {extra} s d k p e =
       let one : extra ≡ bit (hasDonor b (kindAt b s)) = e ∙ donor-bytes kind d ∙ ap (λ (x : ℕ). bit (hasDonor b x)) k in
       omega (arith, node-next b s)
 
--- the node at a place, where donors are named: its words, or its donor, may not lie within the bytes
+-- stepping over the node at `at`, if donors are named: its words, or its donor, may lie outside the bytes
 module _ (b : List ℕ) (size at : ℕ) where
   outside : (from : Cursor) → length b < nodeEnd b size at → PastNode b size at (record { ok = false; next = from })
   outside from h = record { okIs = sym (lt-leb _ _ h); nextIs = λ e. absurd (false≢true e) }
@@ -150,8 +149,9 @@ module _ (b : List ℕ) where
   unfolding after
   other-end h = impossible (λ f. h (omega arith))
 
--- node s, where donors are named: it is followed by the next one, or does not lie within the bytes
-module _ {b : List ℕ} {places w s at : ℕ} {r : Verdict} (z : NodeSize b places 1) (e : w ≡ places) (p : NodePlace b s at) (n : PastNode b (1 + 2 * w) at r) where
+-- stepping over node s, if donors are named: the next node follows it, or it does not lie within the bytes
+module _ {b : List ℕ} {places w s at : ℕ} {r : Verdict} (z : NodeSize b places 1) (e : w ≡ places) (p : NodePlace b s at)
+    (n : PastNode b (1 + 2 * w) at r) where
   next : nodeEnd b (1 + 2 * w) at ≡ nodeAt b (s + 1)
   next = node-after b s (z .donorsIs) (ap (byte b) (p .placeIs)) (omega (arith, z .placesIs, p .placeIs)) refl
 

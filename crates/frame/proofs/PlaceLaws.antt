@@ -118,7 +118,7 @@ told-bad : (t : Bool) (m : ℕ) (c : Cursor) → cond t (Count m c) Bad ≡ Bad 
 told-bad true m c e = absurd (let z : _≡_ {A = ℕ} 0 1 = cc in omega arith)
 told-bad false m c e = refl
 
--- what a count's answer tells, at the place, the bound and the size that the model names
+-- what a count's answer tells, with the place, the bound and the size as the model names them
 module _ (b : List ℕ) (at least most size : ℕ) {at′ most′ size′ : ℕ} {r : Section} (p : at′ ≡ at) (q : most′ ≡ most) (z : size′ ≡ size)
     (s : r ≡ sectionAt b at′ least most′ size′) where
   pub counted : {m : ℕ} {c : Cursor} → r ≡ Count m c → (m ≡ byte b at) × (c .at ≡ after b at size) × Fitted b at least most size

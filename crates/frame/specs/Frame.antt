@@ -1,4 +1,4 @@
--- What is known of the bytes once their counts are read.
+-- What the frame tells of a scheme's bytes, once their counts are read.
 use Prim.Native.Nat.{ℕ, _+_, _*_, _-_, _≤_}
 use mathlib.Core.Path.{_≡_}
 use mathlib.Core.Logic.{_⊎_}
@@ -16,17 +16,17 @@ use Rattle.frame.specs.declared.Layout.{Layout}
 use Rattle.frame.specs.declared.Form.{Form}
 use Rattle.frame.specs.declared.Form.the-variants.{Laid, Broken}
 
--- whether a first byte, or what is left of it, has the mark of a weight: 1, else 0
+-- 1 if a first byte has the mark of this weight, else 0; `start` is the byte, or what an earlier mark leaves of it
 abbrev pub markOf : ℕ → ℕ → ℕ
 markOf weight start = bit (leb weight start)
 
--- m is what a first byte says: the mark of 32 is taken from it, then that of 16, and what is left is n
+-- m is what a first byte says: take off the mark of 32, then that of 16, and n is left
 pub record MarksOf (start : ℕ) (m : Marks) : Type 0 where
   pub hookIs : m .hook ≡ markOf 32 start
   pub donorsIs : m .donors ≡ markOf 16 (start - 32 * m .hook)
   pub nIs : m .n ≡ start - 32 * m .hook - 16 * m .donors
 
--- the dimension, the bytes of the second hook, whether donors are named, and the counts of places and nodes, each in its range
+-- the bytes say this n, this number of bytes for the second hook, these donors and these counts of places and nodes, each in its range
 pub record Headed (b : List ℕ) (n hook donors places nodes : ℕ) : Type 0 where
   pub nIs : n ≡ dimensionOf b
   pub hookIs : hook ≡ hookBytes b
@@ -42,7 +42,7 @@ abbrev pub HeadOf : List ℕ → Opening → Type 0
 HeadOf b (Counts n hook donors places nodes first next) = Headed b n hook donors places nodes × (first .at ≡ 1) × (next .at ≡ arcsAt b left)
 HeadOf b Shut = inForm b ≡ false
 
--- the layout is that of the bytes, whose sections end where the bytes end
+-- l is the layout of the bytes, and the last section ends where the bytes end
 pub record LaidOut (b : List ℕ) (l : Layout) : Type 0 where
   pub headed : Headed b (l .n) (l .hook) (l .donors) (l .places) (l .nodes)
   pub lcountIs : l .lcount ≡ arcCount b left

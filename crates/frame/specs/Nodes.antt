@@ -12,37 +12,37 @@ use Rattle.frame.specs.declared.cursor.Verdict.{Verdict}
 use Rattle.frame.specs.declared.cursor.Section.{Section}
 use Rattle.frame.specs.declared.cursor.Section.the-variants.{Count, Bad}
 
--- how many bytes name the donor of a node of this kind, where `donors` is 1 as donors are named, else 0
+-- how many bytes name the donor of a node of this kind; `donors` is 1 if donors are named, else 0
 abbrev pub donorBytes : ℕ → ℕ → ℕ
 donorBytes donors kind = cond (eqb kind 3) donors 0
 
--- the place after the node at a place, which has `size` bytes beside its donor, where donors are named
+-- the place after the node at `at`, if donors are named: the node has `size` bytes, and one more if it is added
 abbrev pub nodeEnd : List ℕ → ℕ → ℕ → ℕ
 nodeEnd b size at = at + size + donorBytes 1 (byte b at)
 
--- r tells whether the node at a place lies within the bytes, and the place after it
+-- r says whether the node at `at` lies within the bytes, and if so, the place after it
 pub record PastNode (b : List ℕ) (size at : ℕ) (r : Verdict) : Type 0 where
   pub okIs : r .ok ≡ leb (nodeEnd b size at) (length b)
   pub nextIs : r .ok ≡ true → r .next .at ≡ nodeEnd b size at
 
--- what settles how many bytes a node has: the count of places and the mark of donors are those of the bytes
+-- the count of places and the mark of donors are those of the bytes: together they give the length of a node
 pub record NodeSize (b : List ℕ) (places donors : ℕ) : Type 0 where
   pub placesIs : places ≡ placesOf b
   pub placesFew : places ≤ 4
   pub donorsIs : donors ≡ bit (namesDonors b)
 
--- the count of the nodes, in its range
+-- `nodes` is the bytes' count of nodes, and in its range
 pub record NodeCount (b : List ℕ) (nodes : ℕ) : Type 0 where
   pub nodesIs : nodes ≡ nodesOf b
   pub some : 1 ≤ nodes
   pub few : nodes ≤ 16
 
--- the place of node s, within the bytes
+-- `at` is the place of node s, and within the bytes
 pub record NodePlace (b : List ℕ) (s at : ℕ) : Type 0 where
   pub placeIs : at ≡ nodeAt b s
   pub inside : at ≤ length b
 
--- the count of the nodes and the place after them
+-- what reading the nodes finds: their count and the place after them, or bytes that are not in the form
 abbrev pub NodesOf : List ℕ → Section → Type 0
 NodesOf b (Count nodes next) = NodeCount b nodes × NodePlace b (nodesOf b) (next .at)
 NodesOf b Bad = inForm b ≡ false

@@ -1,5 +1,5 @@
-// A place in the bytes, which goes in and comes back by value. Every byte of a scheme is read by a method of it. It is not the cursor of `numbers`,
-// since a step or a count may find that the bytes end.
+// A place in the bytes of a scheme, passed and returned by value. Its methods read every byte of a scheme. The cursor of `numbers` would not do,
+// since here a step or a count may find that the bytes end.
 use base::byte::wide;
 ghost use mathlib.Core.Path.{_≡_};
 ghost use Prim.Native.Nat.{_+_, _≤_, _<_};
@@ -43,7 +43,7 @@ pub enum Section {
 }
 
 impl Cursor {
-    // The byte at the cursor, where it is known that the bytes do not end there.
+    // Reads the byte at the cursor. The caller knows that the bytes do not end there.
     pub fn take(self, bytes: &[u8]) -> Taken
         requires { ⌜ self .at < length (now bytes) ⌝ }
         ensures { λ r. ⌜ TakenAt (now (bytes .entry)) (self .at) r ⌝ }
@@ -55,7 +55,7 @@ impl Cursor {
         }
     }
 
-    // The three bytes of an arc.
+    // Reads the three bytes of an arc.
     pub fn arc(self, bytes: &[u8]) -> Arc
         requires { ⌜ self .at + 3 ≤ length (now bytes) ⌝ }
         ensures { λ r. ⌜ ArcAt (now (bytes .entry)) (self .at) r ⌝ }
@@ -85,7 +85,7 @@ impl Cursor {
         }
     }
 
-    // The count at the cursor, from `least` to `most`, of items of `size` bytes each that lie within the bytes.
+    // Reads a count, from `least` to `most`, and steps over that many items of `size` bytes each, which must lie within the bytes.
     pub fn count(self, bytes: &[u8], least: u8, most: u8, size: u8) -> Section
         ensures { λ r. ⌜ r ≡ sectionAt (now (bytes .entry)) (self .at) least most size ⌝ }
     {

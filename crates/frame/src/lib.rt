@@ -1,5 +1,4 @@
-// The frame of a scheme's bytes: n, whether a second hook and donors are named, and the counts, which settle that every section lies within
-// the bytes.
+// The frame of a scheme's bytes: n, the marks of a second hook and of donors, and the counts. It settles that every section lies within the bytes.
 pub mod cursor;
 pub mod nodes;
 
@@ -12,14 +11,14 @@ ghost use mathlib.Core.Path.{_≡_};
 ghost use Prim.Native.Nat.{_≤_, _*_};
 ghost use Rattle.frame.specs.Frame.{HeadOf, FrameOf, MarksOf, markOf};
 
-// What a first byte says: n, how many bytes name a second hook, and whether donors are named (1, else 0).
+// What a first byte says: n, how many bytes name a second hook (1 or 0), and whether donors are named (1 or 0).
 pub struct Marks {
     pub n: u8,
     pub hook: u8,
     pub donors: u8,
 }
 
-// What the first byte says, the counts of the orbit type and of the nodes, the place of the first section and that of the left arcs.
+// The frame up to the nodes: what the first byte says, the counts of places and nodes, where the first section begins, and where the left arcs do.
 pub enum Opening {
     Counts {
         n: u8,
@@ -33,7 +32,7 @@ pub enum Opening {
     Broken,
 }
 
-// What the first byte says, the counts, and the place of the first section.
+// The whole frame: what the first byte says, the four counts, and where the first section begins.
 pub struct Layout {
     pub n: u8,
     pub hook: u8,
@@ -50,7 +49,7 @@ pub enum Form {
     Broken,
 }
 
-// Whether a first byte, or what is left of it, has the mark of a weight: 1, else 0.
+// 1 if a first byte has the mark of this weight, else 0. `start` is the byte, or what an earlier mark leaves of it.
 fn mark(start: u8, weight: u8) -> u8
     ensures { λ r. ⌜ (r ≡ markOf weight start) × (r ≤ 1) × (weight * r ≤ start) ⌝ }
 {
@@ -60,7 +59,7 @@ fn mark(start: u8, weight: u8) -> u8
     0
 }
 
-// What a first byte says: it is n, with 32 more for a second hook and 16 more for donors.
+// Takes the marks off a first byte, which is n, plus 32 if a second hook is named, plus 16 if donors are.
 fn marks_of(start: u8) -> Marks
     ensures { λ r. ⌜ MarksOf start r ⌝ }
 {
@@ -116,7 +115,7 @@ fn head(bytes: &[u8]) -> Opening
     }
 }
 
-// The layout, where every count is in its range and the bytes end with the right arcs.
+// Reads the frame. It is broken if n or a count is out of its range, or if the bytes do not end with the right arcs.
 pub fn frame(bytes: &[u8]) -> Form
     ensures { λ r. ⌜ FrameOf (now (bytes .entry)) r ⌝ }
 {

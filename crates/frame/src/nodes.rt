@@ -1,4 +1,4 @@
-// The count of the nodes and the place after them. Where donors are named an added node has one byte more, its donor.
+// The count of the nodes, and the place after the last. If donors are named, an added node is one byte longer: that byte is its donor.
 use crate::cursor::Cursor;
 use crate::cursor::Section;
 use crate::cursor::Verdict;
@@ -9,7 +9,7 @@ ghost use lib.ListN.{length};
 ghost use Rattle.model.specs.Bytes.{placesOf};
 ghost use Rattle.frame.specs.Nodes.{NodeSize, NodeCount, NodePlace, NodesOf, donorBytes, PastNode};
 
-// How many bytes name the donor of a node of this kind: one where it is added and donors are named, else none.
+// How many bytes name the donor of a node of this kind: one if the node is added and donors are named, else none.
 pub fn donor_bytes(donors: u8, kind: u8) -> usize
     ensures { λ r. ⌜ r ≡ donorBytes donors kind ⌝ }
 {
@@ -19,8 +19,9 @@ pub fn donor_bytes(donors: u8, kind: u8) -> usize
     0
 }
 
-// The node at the cursor, where donors are named: the place after it, where that is within the bytes. It has `size` bytes and, where it is
-// added, its donor. The kind is tested, since the next node's place would wait for a number that is computed from it.
+// Steps over one node of a scheme that names donors, and fails if the node does not fit in the bytes. A node has `size` bytes; an added node is one
+// byte longer. This is a branch and not an addition on purpose: the processor predicts the branch and goes on to the next node, where a computed
+// length would make it wait.
 fn past_node(bytes: &[u8], from: Cursor, size: usize) -> Verdict
     requires { ⌜ (from .at ≤ length (now bytes)) × (1 ≤ size) × (size ≤ 9) ⌝ }
     ensures { λ r. ⌜ PastNode (now (bytes .entry)) size (from .at) r ⌝ }
@@ -52,7 +53,7 @@ fn past_node(bytes: &[u8], from: Cursor, size: usize) -> Verdict
     }
 }
 
-// The place after the nodes, node by node from the first, which is at the cursor, where donors are named.
+// Steps over the nodes of a scheme that names donors, one by one. The first is at the cursor.
 fn past_nodes(bytes: &[u8], from: Cursor, nodes: u8, places: u8) -> Section
     requires { ⌜ NodeSize (now bytes) places 1 ⌝ }
     requires { ⌜ NodeCount (now bytes) nodes × NodePlace (now bytes) 0 (from .at) ⌝ }
@@ -75,7 +76,8 @@ fn past_nodes(bytes: &[u8], from: Cursor, nodes: u8, places: u8) -> Section
     }
 }
 
-// The count of the nodes at the cursor, from 1 to 16, and the place after the last node. Without donors all nodes have as many bytes.
+// Reads the count of the nodes, from 1 to 16, and finds the place after the last. Without donors all nodes are equally long, so the count gives the
+// place.
 pub(crate) fn count_nodes(bytes: &[u8], from: Cursor, places: u8, donors: u8) -> Section
     requires { ⌜ NodeSize (now bytes) places donors ⌝ }
     requires { ⌜ from .at ≡ 2 + placesOf (now bytes) ⌝ }

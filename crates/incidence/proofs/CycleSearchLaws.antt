@@ -1,5 +1,5 @@
--- The search over nodes and dimension pairs: what it knows while it finds nothing, and what it has found where it stops. At a node it goes through
--- the pairs by their second dimension, which up to dimension 3 is the order of the pairs.
+-- The search over nodes and pairs of dimensions: what is known while it finds nothing, and what it has found when it stops. At a node it takes the
+-- pairs by their second dimension. Up to dimension 3 that is the order of the pairs.
 use Prim.Native.Nat.{ℕ, suc, _+_, _≤_, _<_}
 use mathlib.Core.Path.{_≡_, sym, ap, _∙_}
 use mathlib.Core.Logic.{⊎-elim}

@@ -1,4 +1,4 @@
--- The ways through the tests of cycles.
+-- The tests of cycles, case by case.
 use Prim.Native.Nat.{ℕ, _+_, _-_, _≤_, _<_}
 use mathlib.Core.Path.{_≡_, _∙_}
 use mathlib.Core.Bool.{Bool, true, false}

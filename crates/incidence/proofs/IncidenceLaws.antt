@@ -154,7 +154,7 @@ module _ (S : Scheme) (f : Shaped S) where
         (λ l. let few = leb-false 2 (arcsOfDim S side s i) l in omega arith)
         (true-or-false (leb 2 (arcsOfDim S side s i)))
 
-    -- there is no arc just where the code is 255
+    -- there is no arc just if the code is 255
     present : (codes : List ℕ) → Coded S side codes → (i : ℕ) → i < 4
         → ((arcsOfDim S side s i ≡ 0) × (entry codes s i ≡ 255)) ⊎ ((1 ≤ arcsOfDim S side s i) × (entry codes s i ≡ 255 → ⊥))
     present codes c i b = go (arcAt S side s i) refl (small-arc S f side s i)
@@ -192,7 +192,7 @@ module _ (S : Scheme) (f : Shaped S) where
       (tl : ltwice ≡ twiceOf S left) (tr : rtwice ≡ twiceOf S right) where
     module _ (s : ℕ) (h : s < S .nodes) where
       bad : (side : Side) → twiceAt S side s ≡ true → incidenceOk S s ≡ false
-      bad side e = let w = twice-dim side s h e in impossible _ (λ q. omega (arith, AcceptedLaws.single-arc S side s (w .0) q (w .1), w .2))
+      bad side e = let w = twice-dim side s h e in impossible _ (λ q. omega (arith, AcceptedLaws.incident-iff S s .0 q .single side (w .0) (w .1), w .2))
 
       same-node : twiceAt S left s ≡ false → twiceAt S right s ≡ false → incidenceOk S s ≡ incidentBy (S .n) (getD (S .kinds) s 0) lefts rights s
       unfolding incidenceOk incidentBy

@@ -1,4 +1,4 @@
--- Incidence, over the codes of arcs and the nodes that have two of a dimension, and the fault of incidence or of the cycles.
+-- Incidence, over the codes of arcs and the nodes with two arcs of one dimension; and the first fault of incidence and cycles.
 use Prim.Native.Nat.{ℕ, suc}
 use mathlib.Core.Bool.{Bool, false, not, cond}
 use mathlib.Core.Option.{Option, none, some}
@@ -22,15 +22,15 @@ abbrev pub foundOf : Option ℕ → Found
 foundOf none = Nothing
 foundOf (some s) = Node s
 
--- a node of a kind with at most one arc of a dimension on each side may have these codes there, 255 for none
+-- a node of this kind may have these codes at a dimension: l on the left and r on the right, 255 for no arc; a second arc there is found apart
 unfoldable pub paired : ℕ → ℕ → ℕ → Bool
 paired kind l r = cond (eqb kind 1) (not (eqb l 255)) (cond (eqb kind 3) (not (eqb r 255)) (cond (eqb l 255) (eqb r 255) (not (eqb r 255))))
 
--- node s, of a kind, has the arcs of each dimension that it may have
+-- node s, of this kind, has at every dimension the arcs that its kind requires
 unfoldable pub incidentBy : ℕ → ℕ → List ℕ → List ℕ → ℕ → Bool
 incidentBy n kind lefts rights s = allBelow (suc n) (λ i. paired kind (entry lefts s i) (entry rights s i))
 
--- s has two arcs of a dimension on a side, or has not the arcs that it may have
+-- s has two arcs of one dimension on a side, or lacks one that its kind requires
 unfoldable pub offends : ℕ → List ℕ → List ℕ → List ℕ → List Bool → List Bool → ℕ → Bool
 offends n kinds lefts rights leftTwice rightTwice s =
     getD leftTwice s false or (getD rightTwice s false or not (incidentBy n (getD kinds s 0) lefts rights s))

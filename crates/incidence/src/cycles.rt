@@ -1,4 +1,4 @@
-// Cycles, from the codes of arcs.
+// The test of cycles. It reads an arc by its code: a node, which is below 16, or 16 + a position for an implicit arc, or 255 for none.
 use base::byte::wide;
 use model::Fault;
 use model::Refusal;
@@ -15,7 +15,7 @@ fn code(codes: &[u8; 64], s: usize, i: usize) -> usize
     wide(codes[4 * s + i])
 }
 
-// Two dimensions differ by at least 2.
+// Whether two dimensions differ by at least 2.
 fn apart(p: usize, q: usize) -> bool
     requires { ⌜ (p ≤ 255) × (q ≤ 255) ⌝ }
     ensures { λ r. ⌜ r ≡ farApart p q ⌝ }
@@ -26,7 +26,10 @@ fn apart(p: usize, q: usize) -> bool
     q + 2 <= p
 }
 
-// The i-arc of node s leads to a node, whose j-arc is t: explicit arcs i, j, i, j lead back to s, or s has that arc too.
+// Whether node s is on an ij-cycle, if its i-arc leads to a node. That node's j-arc has the code t:
+// - t is a node: s is on a cycle if explicit arcs i, j, i, j lead back to it.
+// - t is a position: s is on a cycle if its own j-arc has the same code.
+// - t is none: s is on no cycle.
 fn from_node(codes: &[u8; 64], s: usize, i: usize, j: usize, t: usize) -> bool
     requires { ⌜ (s < 16) × (i < 4) × (j < 4) ⌝ }
     ensures { λ r. ⌜ r ≡ fromNode (now (codes .entry)) s i j t ⌝ }
@@ -44,7 +47,10 @@ fn from_node(codes: &[u8; 64], s: usize, i: usize, j: usize, t: usize) -> bool
     t == code(codes, s, j)
 }
 
-// The i-arc of a node is implicit, with the code a, and its j-arc has the code b.
+// Whether a node is on an ij-cycle, if its i-arc is implicit, with the code a. Its j-arc has the code b:
+// - b is a node: it is on a cycle if the i-arc of b has the code a too.
+// - b is a position: it is on a cycle if the orbit type's dimensions at both positions differ by at least 2.
+// - b is none: it is on no cycle.
 fn from_place<'a>(orbit: &'a [u8; 4], codes: &'a [u8; 64], i: usize, a: usize, b: usize) -> bool
     requires { ⌜ (i < 4) × (16 ≤ a) × (a < 20) ⌝ }
     requires { ⌜ ((b ≡ 255 → ⊥) → b < 20) ⌝ }
@@ -61,7 +67,7 @@ fn from_place<'a>(orbit: &'a [u8; 4], codes: &'a [u8; 64], i: usize, a: usize, b
     apart(p, q)
 }
 
-// Node s is on an ij-cycle.
+// Whether node s is on an ij-cycle.
 fn on_cycle<'a>(orbit: &'a [u8; 4], codes: &'a [u8; 64], s: usize, i: usize, j: usize) -> bool
     requires { ⌜ (s < 16) × (i < 4) × (j < 4) ⌝ }
     requires { ⌜ ((k : ℕ) → k < 4 → (entry (now codes) s k ≡ 255 → ⊥) → entry (now codes) s k < 20) ⌝ }
@@ -77,7 +83,7 @@ fn on_cycle<'a>(orbit: &'a [u8; 4], codes: &'a [u8; 64], s: usize, i: usize, j: 
     from_place(orbit, codes, i, a, code(codes, s, j))
 }
 
-// Node s, of a kind, is right at the pair i, j.
+// Whether node s, of this kind, meets the condition of cycles at the pair i, j.
 fn pair_ok<'a>(
     kind: u8,
     orbit: &'a [u8; 4],
@@ -107,7 +113,7 @@ fn pair_ok<'a>(
     code(lefts, s, j) == code(rights, s, j)
 }
 
-// The highest dimension, n, as one of two numbers that the compiler knows: it then writes the pairs out.
+// n as one of two constants, so that the compiler can unroll the loops over pairs.
 fn top_of(n: u8) -> usize
     requires { ⌜ (2 ≤ n) × (n ≤ 3) ⌝ }
     ensures { λ r. ⌜ r ≡ n ⌝ }
@@ -118,7 +124,7 @@ fn top_of(n: u8) -> usize
     3
 }
 
-// The first offence: the least node, and at it the first pair i, j with i + 2 ≤ j ≤ n.
+// The first offence: that of the least node that offends, at its first pair i, j with i + 2 ≤ j ≤ n.
 pub fn cycle_fault<'a>(
     n: u8,
     nodes: usize,

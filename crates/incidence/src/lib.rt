@@ -1,4 +1,4 @@
-// Incidence, from the codes of arcs and the nodes that have two of a dimension, and after it the cycles.
+// Incidence, and after it the cycles, from the codes of arcs. `ltwice` and `rtwice` say which nodes have two arcs of one dimension on a side.
 pub mod cycles;
 
 use base::byte::wide;
@@ -11,13 +11,14 @@ ghost use Rattle.base.specs.First.{least};
 ghost use Rattle.incidence.specs.Cycles.{Coding};
 ghost use Rattle.incidence.specs.Incidence.{foundOf, paired, incidentBy, offends, arcsFault};
 
-// The least node that offends, where there is one.
+// What a search for an offending node finds: the least one, if there is one.
 pub enum Found {
     Node(u32),
     Nothing,
 }
 
-// A node of a kind with at most one arc of a dimension on each side may have these codes there.
+// Whether a node of this kind may have these codes at a dimension: l on the left and r on the right, 255 for no arc. A second arc there is found
+// apart.
 fn allowed(kind: u8, l: u8, r: u8) -> bool
     ensures { λ b. ⌜ b ≡ paired kind l r ⌝ }
 {
@@ -33,7 +34,7 @@ fn allowed(kind: u8, l: u8, r: u8) -> bool
     r != 255
 }
 
-// Node s has the arcs of each dimension that it may have. Dimension 3 stands apart, so that the loop has a fixed number of turns.
+// Whether node s has, at every dimension, the arcs that its kind requires. Dimension 3 is tested apart, so that the loop has a fixed number of turns.
 fn incident<'a>(n: usize, kind: u8, lefts: &'a [u8; 64], rights: &'a [u8; 64], s: usize) -> bool
     requires { ⌜ (2 ≤ n) × (n ≤ 3) × (s < 16) ⌝ }
     ensures { λ r. ⌜ r ≡ incidentBy n kind (now (lefts .entry)) (now (rights .entry)) s ⌝ }
@@ -62,7 +63,8 @@ fn unbalanced<'a>(
     rtwice: &'a [bool; 16],
 ) -> Found
     requires { ⌜ (2 ≤ n) × (n ≤ 3) × (nodes ≤ 16) ⌝ }
-    ensures { λ r. ⌜ r ≡ foundOf (least nodes (offends n (now (kinds .entry)) (now (lefts .entry)) (now (rights .entry)) (now (ltwice .entry)) (now (rtwice .entry)))) ⌝ }
+    ensures { λ r. ⌜ r ≡ foundOf (least nodes
+        (offends n (now (kinds .entry)) (now (lefts .entry)) (now (rights .entry)) (now (ltwice .entry)) (now (rtwice .entry)))) ⌝ }
 {
     let mut s = 0;
     while s < nodes {
@@ -80,7 +82,7 @@ fn unbalanced<'a>(
     Found::Nothing
 }
 
-// The fault of incidence, or else that of the cycles.
+// The first fault of the arcs: that of incidence, or else that of the cycles.
 pub fn arcs_fault<'a>(
     n: u8,
     nodes: usize,
@@ -93,7 +95,8 @@ pub fn arcs_fault<'a>(
 ) -> Fault
     requires { ⌜ (2 ≤ n) × (n ≤ 3) × (nodes ≤ 16) ⌝ }
     requires { ⌜ Coding nodes (now lefts) × Coding nodes (now rights) ⌝ }
-    ensures { λ r. ⌜ r ≡ arcsFault n nodes (now (orbit .entry)) (now (kinds .entry)) (now (lefts .entry)) (now (rights .entry)) (now (ltwice .entry)) (now (rtwice .entry)) ⌝ }
+    ensures { λ r. ⌜ r ≡ arcsFault n nodes (now (orbit .entry)) (now (kinds .entry)) (now (lefts .entry)) (now (rights .entry))
+        (now (ltwice .entry)) (now (rtwice .entry)) ⌝ }
 {
     let bad = unbalanced(wide(n), nodes, kinds, lefts, rights, ltwice, rtwice);
     if let Found::Node(x) = bad {

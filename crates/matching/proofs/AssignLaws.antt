@@ -18,9 +18,8 @@ use Rattle.model.specs.Scheme.{left, orbitDim, word, arcPart, has, firstHook}
 use Rattle.model.specs.Conditions.{Arc, absent, explicit, implicit, arcAt}
 use Rattle.model.specs.Site.{Site, Sound}
 use Rattle.model.specs.Match.{image, matches, Assignment}
-use Rattle.model.specs.Accepted.{SingleSide}
-use Rattle.model.proofs.AcceptedLaws.{small}
-use Rattle.model.proofs.ArcLaws.{explicit-at, explicit-end, implicit-at, implicit-from, far-from, far-to, touches-from, touches-to}
+use Rattle.model.proofs.AcceptedLaws.{one-side, small}
+use Rattle.model.proofs.ArcLaws.{SingleSide, explicit-at, explicit-end, implicit-at, implicit-from, far-from, far-to, touches-from, touches-to}
 use Rattle.model.proofs.HookLaws.{first-hook, second-hook}
 use Rattle.model.proofs.MatchLaws.{assigns-match}
 use Rattle.orbit.specs.At.{site}
@@ -28,9 +27,9 @@ use Rattle.orbit.specs.Store.{mark, place, next, dartAt, Taken, Assigned}
 use Rattle.model.specs.Codes.{arcCode}
 use Rattle.model.specs.Shaped.{Coded}
 use Rattle.matching.specs.Retrace.{Longer, HungAll}
-use Rattle.matching.specs.Images.{BeforeMatching, Grown}
+use Rattle.matching.specs.Images.{BeforeMatching, RowsGrown}
 use Rattle.matching.specs.ArcTests.{Turns, follows, explicitTest, implicitTest, codeTest, arcTest, arcsTest, Firm}
-use Rattle.matching.specs.Assign.{Posed, Matched}
+use Rattle.matching.specs.Assign.{Posed, MatchFound}
 use Rattle.orbit.proofs.PlaceLaws.{place-in, place-of}
 use Rattle.matching.proofs.ImageRowLaws.{longer-less, longer-trans, longer-mark, longer-kept}
 use Rattle.matching.proofs.RetraceLaws.{next-longer, hung-walked}
@@ -87,7 +86,7 @@ module _ (m : Map) (s : List ℕ) (size : ℕ) (dims rows : List ℕ) (j i from 
       rw (ne-eqb (16 + p) 255 (λ q. absurd (omega arith)), le-ltb (16 + p) 16 (omega arith), same) (or-right _ f)
 
 module _ {M : Map} {s : List ℕ} {size : ℕ} {nodes parents dims : List ℕ} {roots count : ℕ}
-    (R : BeforeMatching M s size nodes parents dims roots count) {s′ rows : List ℕ} (G : Grown M nodes parents dims roots s s′ rows size count)
+    (R : BeforeMatching M s size nodes parents dims roots count) {s′ rows : List ℕ} (G : RowsGrown M nodes parents dims roots s s′ rows size count)
     {codes : List ℕ} (C : Coded (R .at .scheme) left codes) where
   abbrev E : Site
   E = site (R .at)
@@ -107,7 +106,7 @@ module _ {M : Map} {s : List ℕ} {size : ℕ} {nodes parents dims : List ℕ} {
   at v r = dartAt s′ (getD rows v 0) r
 
   abbrev single : SingleSide S left
-  single = accepted .sides left
+  single = one-side accepted left
 
   code-at : (j i : ℕ) → j < count → i < 4 → getD codes (4 * node j + i) 0 ≡ arcCode (arcAt S left (node j) i)
   code-at j i h k = C .at (node j) i (R .rooted .onLeft j h .0) k
@@ -348,12 +347,12 @@ module _ {M : Map} {s : List ℕ} {size : ℕ} {nodes parents dims : List ℕ} {
         (λ f.
         let g = turn r p c o in
         let first : v ≡ firstHook = sym (z .2) ∙ f .1 in
-        let dim : i ≡ orbitDim S p = sym w ∙ ap (λ (x : ℕ). word S left x p) first ∙ accepted .hooks firstHook (first-hook S) .word p o in
+        let dim : i ≡ orbitDim S p = sym w ∙ ap (λ (x : ℕ). word S left x p) first ∙ accepted .consistent .hooks firstHook (first-hook S) .word p o in
         subst (λ (x : ℕ). m .link i (at x r) ≡ at x (next N s′ r p)) (sym (f .1))
         (ap₂ (m .link) dim (hook-at r c) ∙ sym (g .1) ∙ sym (hook-at (next N s′ r p) (g .0))))
         (λ f.
         let second : v ≡ S .second = sym (z .2) ∙ f .2 in
-        let dim : i ≡ orbitDim S p = sym w ∙ ap (λ (x : ℕ). word S left x p) second ∙ accepted .hooks (S .second) (second-hook S) .word p o in
+        let dim : i ≡ orbitDim S p = sym w ∙ ap (λ (x : ℕ). word S left x p) second ∙ accepted .consistent .hooks (S .second) (second-hook S) .word p o in
         ap (λ (x : ℕ). m .link x (at (node (z .0)) r)) dim ∙ second-turn (z .0) p r (f .0) (f .1) (f .2) (z .1) o c)
         (hook-node R (z .0) hook))
         (λ late.
@@ -426,7 +425,7 @@ module _ {M : Map} {s : List ℕ} {size : ℕ} {nodes parents dims : List ℕ} {
 
   -- s₀ is the store before the second hook had its row
   pub matched : (s₀ : List ℕ) → Taken N s₀ size → Longer N s₀ s size → (b : Bool) → b ≡ arcsTest m s′ size nodes dims roots codes rows (4 * count)
-      → Matched E s₀ s′ rows size b
+      → MatchFound E s₀ s′ rows size b
   matched s₀ T L b e =
       let longer = longer-trans N s₀ s size L s′ (longer-less N s s′ (roots * size) (G .longer) size first-row) in
       record {
@@ -449,12 +448,12 @@ module _ {m : Map} {s : List ℕ} {size : ℕ} {orbit : List ℕ} {k other : ℕ
     rooted = P .rooted;
   }
 
-  pub matched-at : {s″ rows : List ℕ} → Grown m nodes parents dims roots s′ s″ rows size count → (b : Bool)
-      → b ≡ arcsTest m s″ size nodes dims roots codes rows (4 * count) → Matched (site (P .ready .at)) s s″ rows size b
+  pub matched-at : {s″ rows : List ℕ} → RowsGrown m nodes parents dims roots s′ s″ rows size count → (b : Bool)
+      → b ≡ arcsTest m s″ size nodes dims roots codes rows (4 * count) → MatchFound (site (P .ready .at)) s s″ rows size b
   matched-at G b f = matched ready G (P .coded) s (P .ready .taken) (H .done e (P .ready) .1) b f
 
 -- where two pairs fall on one dart, or the other dart is in the orbit
-pub unmatched : {E : Site} {s s′ rows : List ℕ} {size : ℕ} → matches E ≡ false → length s′ ≡ length s → Matched E s s′ rows size false
+pub unmatched : {E : Site} {s s′ rows : List ℕ} {size : ℕ} → matches E ≡ false → length s′ ≡ length s → MatchFound E s s′ rows size false
 unmatched e long = record {
   is = sym e;
   long = long;

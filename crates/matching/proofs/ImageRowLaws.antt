@@ -11,7 +11,7 @@ use Rattle.base.proofs.TestLaws.{same-test}
 use Rattle.orbit.specs.Store.{mark, place, next, dartAt, Taken, Kept}
 use Rattle.orbit.specs.Places.{Pushed}
 use Rattle.matching.specs.Retrace.{Longer}
-use Rattle.matching.specs.Images.{Linked, Row, RowMade}
+use Rattle.matching.specs.Images.{RowLinked, Row, RowMade}
 use Rattle.orbit.proofs.StoreLaws.{pushed-other, pushed-place-other, pushed-here, among-at, among-of}
 
 -- ---- a store with further places
@@ -104,7 +104,7 @@ module _ (N : ℕ) (link : ℕ → ℕ) (from : ℕ) (s : List ℕ) (end : ℕ) 
       at : y ≡ link (dartAt s from r)
       at = b ∙ ap link (read x a)
 
-      pub row-below : (size : ℕ) → r < size → Linked N link s from size → y < N
+      pub row-below : (size : ℕ) → r < size → RowLinked N link s from size → y < N
       row-below size h o = rw at (o .slot r h)
 
       pub row-clash : (size w : ℕ) → r < size → w ≡ getD s′ y 0 → (w ≡ 0 → ⊥) → RowMade N link from s s′ end size false

@@ -203,7 +203,7 @@ module _ {M : Map} (A : At M) {s : List ℕ} {size : ℕ} (W : WalkedAt (site A)
         → (u ≡ r) × (v ≡ h)
     pair-once r u v b l c k e =
         let w = assignment₁ .different (place₁ u) (W .slot u l) (place-in W u l) v c k
-        (place₁ r) (W .slot r b) (place-in W r b) h (accepted .shaped .secondBelow) (accepted .hooks h (second-hook S) .kind) e in
+        (place₁ r) (W .slot r b) (place-in W r b) h (accepted .shaped .secondBelow) (accepted .consistent .hooks h (second-hook S) .kind) e in
         (place-once W u r l b (w .0), w .1)
 
     -- the image for the next place has no place yet
@@ -213,14 +213,14 @@ module _ {M : Map} (A : At M) {s : List ℕ} {size : ℕ} (W : WalkedAt (site A)
         let there = O .taken .found y low a in
         by-cases (decLt e size)
         (λ old.
-        let w = pair-once end e firstHook b old (accepted .shaped .nodesSome) (accepted .hooks firstHook (first-hook S) .kind)
+        let w = pair-once end e firstHook b old (accepted .shaped .nodesSome) (accepted .consistent .hooks firstHook (first-hook S) .kind)
         (assignment₁ .hook (place₁ e) (W .slot e old) (place-in W e old) ∙ there .1 ∙ is) in
         absurd (omega (arith, w .1)))
         (λ new.
         let u = e - size in
         let l : u < end = omega (arith, there .0) in
         let at : e ≡ size + u = omega arith in
-        let w = pair-once end u h b (omega arith) (accepted .shaped .secondBelow) (accepted .hooks h (second-hook S) .kind)
+        let w = pair-once end u h b (omega arith) (accepted .shaped .secondBelow) (accepted .consistent .hooks h (second-hook S) .kind)
         (sym (O .images q u l) ∙ ap place₁ (sym at) ∙ there .1 ∙ is) in
         absurd (omega (arith, w .0)))
 

@@ -12,6 +12,7 @@ use Rattle.model.specs.Accepted.{Accepted}
 use Rattle.model.specs.declared.Scheme.{Scheme}
 use Rattle.model.proofs.ArcLaws.{explicit-at, far-from, far-to, touches-from, touches-to}
 use Rattle.model.proofs.HookLaws.{first-hook, second-hook, reached-found}
+use Rattle.model.proofs.AcceptedLaws.{one-side}
 use Rattle.conditions.specs.Tree.{Ends, rootsOf, TreeOf}
 use Rattle.conditions.specs.declared.tree.Tree.{Tree}
 use Rattle.conditions.proofs.TreeLaws.{root-cases}
@@ -26,19 +27,19 @@ module _ (S : Scheme) (A : Accepted S) where
   end-arc : (a x y i : ℕ) → a < arcs S left → arcPart S left a 0 ≡ i → Ends (arcPart S left) a x y → arcAt S left x i ≡ explicit y
   end-arc a x y i h d (inl e) =
       ap₂ (arcAt S left) (sym (e .0)) (sym d)
-      ∙ explicit-at S left (A .sides left) _ _ a (A .shaped .sides left .from a h .0) h (A .shaped .sides left .dims a h) (touches-from S left a)
+      ∙ explicit-at S left (one-side A left) _ _ a (A .shaped .sides left .from a h .0) h (A .shaped .sides left .dims a h) (touches-from S left a)
       ∙ ap explicit (far-from S left a ∙ e .1)
   end-arc a x y i h d (inr e) =
       ap₂ (arcAt S left) (sym (e .1)) (sym d)
-      ∙ explicit-at S left (A .sides left) _ _ a (A .shaped .sides left .to a h .0) h (A .shaped .sides left .dims a h) (touches-to S left a)
+      ∙ explicit-at S left (one-side A left) _ _ a (A .shaped .sides left .to a h .0) h (A .shaped .sides left .dims a h) (touches-to S left a)
       ∙ ap explicit (far-to S left a ∙ e .0)
 
   module _ (t : Tree) (T : TreeOf S t) where
     -- a hook is a left node
     root-left : (k : ℕ) → k < rootsOf (S .second) → has S left (getD (t .node) k 0) ≡ true
     root-left k h = ⊎-elim
-        (λ e. ap (has S left) e ∙ A .hooks _ (first-hook S) .kind)
-        (λ e. ap (has S left) e ∙ A .hooks _ (second-hook S) .kind)
+        (λ e. ap (has S left) e ∙ A .consistent .hooks _ (first-hook S) .kind)
+        (λ e. ap (has S left) e ∙ A .consistent .hooks _ (second-hook S) .kind)
         (root-cases (t .node) (t .dim) (S .second) (T .roots) k h)
 
     entry-left : (k : ℕ) → k < t .size → has S left (getD (t .node) k 0) ≡ true
@@ -61,5 +62,5 @@ module _ (S : Scheme) (A : Accepted S) where
           );
       earlier = λ k l h. let b = T .branch k l h in (b .earlier, b .before, b .parentIs);
       once = T .once;
-      every = λ s h l. T .entry s (reached-found S (A .shaped) (A .reach s h l));
+      every = λ s h l. T .entry s (reached-found S (A .shaped) (A .consistent .reach s h l));
     }

@@ -22,7 +22,7 @@ use Rattle.model.proofs.MatchLaws.{GoodOrbit, match-assigns, arc-of}
 use Rattle.model.proofs.MatchIff.{good-orbit}
 use Rattle.orbit.specs.At.{site}
 use Rattle.orbit.specs.Store.{mark, place, dartAt, Taken}
-use Rattle.matching.specs.Images.{BeforeMatching, Linked, Row, RowMade, Grown, RowsMade}
+use Rattle.matching.specs.Images.{BeforeMatching, RowLinked, Row, RowMade, RowsGrown, RowsMade}
 use Rattle.conditions.specs.Tree.{rootsOf}
 use Rattle.conditions.proofs.TreeLaws.{roots-few}
 use Rattle.orbit.proofs.PlaceLaws.{place-in}
@@ -82,7 +82,7 @@ module _ {M : Map} {s : List ℕ} {size : ℕ} {nodes parents dims : List ℕ} {
 
   -- the rows of the hooks: that of the first begins with the places, that of the last of them behind the others
   pub grown-hooks : (rows : List ℕ) → length rows ≡ 16 → (y : ℕ) → y ≡ getD nodes (roots - 1) 0
-      → Grown m nodes parents dims roots s s (set (set rows 0 N) y (N + (roots - 1) * size)) size roots
+      → RowsGrown m nodes parents dims roots s s (set (set rows 0 N) y (N + (roots - 1) * size)) size roots
   grown-hooks rows long y at =
       let some = hooks-some in
       let below : y < 16 = rw at (node-below (roots - 1) (omega (arith, R .rooted .some))) in
@@ -121,7 +121,7 @@ module _ {M : Map} {s : List ℕ} {size : ℕ} {nodes parents dims : List ℕ} {
           (λ z. absurd (let one : roots * size ≡ size = ap (λ (k : ℕ). k * size) z ∙ omega arith in omega arith))
           (λ ne. let some = hooks-some in let few = hooks-few in omega arith)
 
-  module _ {s′ rows : List ℕ} {k : ℕ} (G : Grown m nodes parents dims roots s s′ rows size k) where
+  module _ {s′ rows : List ℕ} {k : ℕ} (G : RowsGrown m nodes parents dims roots s s′ rows size k) where
     -- the dart of entry j at place r of the orbit
     abbrev dart : ℕ → ℕ → ℕ
     dart j r = dartAt s′ (getD rows (node j) 0) r
@@ -148,7 +148,7 @@ module _ {M : Map} {s : List ℕ} {size : ℕ} {nodes parents dims : List ℕ} {
       source-slot r b = let p = R .rooted .earlier k l h in
           subst (λ (v : ℕ). (dartAt s′ (getD rows v 0) r < N) × (m .state (dartAt s′ (getD rows v 0) r) ≡ 1)) (p .2) (dart-slot (p .0) r (p .1) b)
 
-      pub linked : Linked N (m .link (dim k)) s′ (getD rows (parent k) 0) size
+      pub linked : RowLinked N (m .link (dim k)) s′ (getD rows (parent k) 0) size
       linked = record { slot = λ r b. let e = source-slot r b in well .below _ (e .0) (e .1) (dim k) (R .rooted .arc k l h .0) }
 
       module _ (s″ : List ℕ) (C : Row N (m .link (dim k)) (getD rows (parent k) 0) s′ s″ (k * size) size) where
@@ -171,7 +171,7 @@ module _ {M : Map} {s : List ℕ} {size : ℕ} {nodes parents dims : List ℕ} {
         source-old j r a b c = let p = R .rooted .earlier j a (omega arith) in
             subst (λ (v : ℕ). dartAt s″ (getD rows′ v 0) r ≡ dartAt s′ (getD rows v 0) r) (p .2) (dart-old (p .0) r (omega (arith, p .1)) c)
 
-        pub grown-more : Grown m nodes parents dims roots s s″ rows′ size (k + 1)
+        pub grown-more : RowsGrown m nodes parents dims roots s s″ rows′ size (k + 1)
         grown-more =
             let same : (k + 1) * size ≡ k * size + size = omega arith in
             let first : roots * size ≤ k * size = mul-le-mul-right size l in
@@ -233,7 +233,7 @@ module _ {M : Map} {s : List ℕ} {size : ℕ} {nodes parents dims : List ℕ} {
         let same : mark s (place N s r) ≡ mark s (place N s q) = ap (mark s) (p .0) in
         (omega (arith, R .walked .back r a, R .walked .back q b), R .rooted .once j i c e (p .1))
 
-    module _ {s′ rows : List ℕ} {k : ℕ} (G : Grown m nodes parents dims roots s s′ rows size k) (few : k ≤ count) where
+    module _ {s′ rows : List ℕ} {k : ℕ} (G : RowsGrown m nodes parents dims roots s s′ rows size k) (few : k ≤ count) where
       -- the row of a hook: the orbit, or that of the second hook
       hook-image : (j r : ℕ) → j < roots → j < k → r < size → dartAt s′ (getD rows (node j) 0) r ≡ image E (place N s r) (node j)
       hook-image j r b l h =
@@ -296,7 +296,7 @@ module _ {M : Map} {s : List ℕ} {size : ℕ} {nodes parents dims : List ℕ} {
 -- ---- the loop over the entries
 
 pub rows-done : {m : Map} {nodes parents dims s s′ rows : List ℕ} {roots size count k : ℕ} → k ≤ count → count ≤ k
-    → Grown m nodes parents dims roots s s′ rows size k → RowsMade m nodes parents dims roots s s′ rows size count true
+    → RowsGrown m nodes parents dims roots s s′ rows size k → RowsMade m nodes parents dims roots s s′ rows size count true
 rows-done {count = count} {k = k} h l G = record {
   done = λ e. let same : k ≡ count = omega arith in rw (← same) G;
   none = λ e. absurd (true≢false e);
@@ -315,12 +315,12 @@ module _ {m : Map} {s : List ℕ} {size : ℕ} {nodes parents dims : List ℕ} {
 
 -- from, i and end are what the loop hands to the row of entry k
 module _ {m : Map} {s : List ℕ} {size : ℕ} {nodes parents dims : List ℕ} {roots count : ℕ} {s′ rows : List ℕ} {k : ℕ}
-    (G : Grown m nodes parents dims roots s s′ rows size k) (l : roots ≤ k) (h : k < count) {x i end : ℕ}
+    (G : RowsGrown m nodes parents dims roots s s′ rows size k) (l : roots ≤ k) (h : k < count) {x i end : ℕ}
     (a : x ≡ getD parents k 0) (b : i ≡ getD dims k 0) (e : end ≡ k * size) where
   module _ (R : BeforeMatching m s size nodes parents dims roots count) where
     pub row-asks : Taken (m .slots) s′ end
         × (((i ≤ 3) × (size ≤ m .slots) × (m .slots ≤ getD rows x 0) × (getD rows x 0 + size ≤ m .slots + end))
-        × Linked (m .slots) (m .link i) s′ (getD rows x 0) size)
+        × RowLinked (m .slots) (m .link i) s′ (getD rows x 0) size)
     row-asks =
         let from = source R G l h in
         let few = R .walked .fits in (
@@ -329,7 +329,7 @@ module _ {m : Map} {s : List ℕ} {size : ℕ} {nodes parents dims : List ℕ} {
         )
 
     pub rows-more : (s″ : List ℕ) (y : ℕ) → y ≡ getD nodes k 0 → (w : Bool) → RowMade (m .slots) (m .link i) (getD rows x 0) s′ s″ end size w → w ≡ true
-        → Grown m nodes parents dims roots s s″ (set rows y (m .slots + end)) size (k + 1)
+        → RowsGrown m nodes parents dims roots s s″ (set rows y (m .slots + end)) size (k + 1)
     rows-more s″ y c w C z =
         let D : Row (m .slots) (m .link (getD dims k 0)) (getD rows (getD parents k 0) 0) s′ s″ (k * size) size = rw (a, b, e) at (C .done z) in
         rw (c, e) (grown-more R G l h s″ D)

@@ -23,7 +23,7 @@ pub record Posed (m : Map) (s : List ℕ) (size : ℕ) (orbit : List ℕ) (k oth
   pub rowsLong : length rows ≡ 16
 
 -- the answer on the match at a site, and what the store and the rows hold where there is one
-pub record Matched (E : Site) (s s′ rows : List ℕ) (size : ℕ) (answer : Bool) : Type 0 where
+pub record MatchFound (E : Site) (s s′ rows : List ℕ) (size : ℕ) (answer : Bool) : Type 0 where
   pub is : answer ≡ matches E
   pub long : length s′ ≡ length s
   pub assigned : answer ≡ true → Assigned E s′ rows size
@@ -33,4 +33,4 @@ pub record Matched (E : Site) (s s′ rows : List ℕ) (size : ℕ) (answer : Bo
 -- it is the answer for the site at which it was asked
 pub record Answered (m : Map) (s : List ℕ) (size : ℕ) (orbit : List ℕ) (k other : ℕ) (nodes parents dims : List ℕ) (roots count : ℕ)
     (codes rows s′ rows′ : List ℕ) (answer : Bool) : Type 0 where
-  pub at : (P : Posed m s size orbit k other nodes parents dims roots count codes rows) → Matched (site (P .ready .at)) s s′ rows′ size answer
+  pub at : (P : Posed m s size orbit k other nodes parents dims roots count codes rows) → MatchFound (site (P .ready .at)) s s′ rows′ size answer

@@ -35,7 +35,7 @@ pub record BeforeMatching (m : Map) (s : List ℕ) (size : ℕ) (nodes parents d
   pub rooted : Rooted (at .scheme) roots count nodes parents dims
 
 -- the links lead from the row at `from` to slots
-pub record Linked (N : ℕ) (link : ℕ → ℕ) (s : List ℕ) (from size : ℕ) : Type 0 where
+pub record RowLinked (N : ℕ) (link : ℕ → ℕ) (s : List ℕ) (from size : ℕ) : Type 0 where
   pub slot : (r : ℕ) → r < size → link (dartAt s from r) < N
 
 -- from the places `end` on stand the first r darts of a row: those to which the links of the row at `from` lead
@@ -50,7 +50,7 @@ pub record RowMade (N : ℕ) (link : ℕ → ℕ) (from : ℕ) (s s′ : List �
   pub clash : whole ≡ false → (r : ℕ) × (r < size) × Row N link from s s′ end r × (1 ≤ mark s′ (link (dartAt s from r)))
 
 -- the first k entries of the trees have their rows, and each but the hooks' was made from its parent's
-pub record Grown (m : Map) (nodes parents dims : List ℕ) (roots : ℕ) (s s′ rows : List ℕ) (size k : ℕ) : Type 0 where
+pub record RowsGrown (m : Map) (nodes parents dims : List ℕ) (roots : ℕ) (s s′ rows : List ℕ) (size k : ℕ) : Type 0 where
   pub wide : length rows ≡ 16
   pub taken : Taken (m .slots) s′ (k * size)
   pub longer : Longer (m .slots) s s′ (roots * size)
@@ -61,5 +61,5 @@ pub record Grown (m : Map) (nodes parents dims : List ℕ) (roots : ℕ) (s s′
 
 -- all entries have their rows, or else there is no match
 pub record RowsMade (m : Map) (nodes parents dims : List ℕ) (roots : ℕ) (s s′ rows : List ℕ) (size count : ℕ) (whole : Bool) : Type 0 where
-  pub done : whole ≡ true → Grown m nodes parents dims roots s s′ rows size count
+  pub done : whole ≡ true → RowsGrown m nodes parents dims roots s s′ rows size count
   pub none : whole ≡ false → (R : BeforeMatching m s size nodes parents dims roots count) → matches (site (R .at)) ≡ false

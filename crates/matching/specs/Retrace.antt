@@ -1,5 +1,5 @@
 -- The row of the second hook. It is made along the links in the walk's order: step 4 × r + p follows the link at position p of the dart for place r.
--- `opposite` of Match.antt is the same over a path from the dart.
+-- `secondDartOf` of Match.antt is the same over a path from the dart.
 use Prim.Native.Nat.{ℕ, _+_, _*_, _≤_, _<_}
 use mathlib.Core.Path.{_≡_}
 use mathlib.Core.Logic.{_⊎_, _≢_}

@@ -9,7 +9,7 @@ ghost use lib.ListN.{length, getD, set};
 ghost use Rattle.model.specs.Map.{view, maxSlots};
 ghost use Rattle.table.specs.Words.{Sized};
 ghost use Rattle.orbit.specs.Store.{Taken};
-ghost use Rattle.matching.specs.Images.{BeforeMatching, Linked, RowMade, RowsMade};
+ghost use Rattle.matching.specs.Images.{BeforeMatching, RowLinked, RowMade, RowsMade};
 
 // Makes a row from the place `end` on: the darts to which the i-links of the row at `from` lead. It returns false where a dart has a place already.
 fn row(
@@ -24,7 +24,7 @@ fn row(
     requires { ⌜ Sized slots (now table) ⌝ }
     requires { ⌜ Taken slots (now store) end ⌝ }
     requires { ⌜ (i ≤ 3) × (size ≤ slots) × (slots ≤ from) × (from + size ≤ slots + end) ⌝ }
-    requires { ⌜ Linked slots (view slots (now table) .link i) (now store) from size ⌝ }
+    requires { ⌜ RowLinked slots (view slots (now table) .link i) (now store) from size ⌝ }
     ensures { λ r. ⌜ RowMade slots (view slots (now (table .entry)) .link i) from (now (store .entry)) (now (store .exit)) end size r ⌝ }
 {
     let mut r = 0;

@@ -34,7 +34,8 @@ use Rattle.model.specs.declared.Answer.the-variants.{Done, Edited, Writt
 use Rattle.model.proofs.WellFormedLaws.{wellFormed-iff}
 use Rattle.model.proofs.AcceptedLaws.{small}
 use Rattle.model.proofs.MatchIff.{good-orbit}
-use Rattle.model.proofs.CallLaws.{passed, output-passed, bytes-accepted, bytes-many, darts-alone, live-dart, granted, sound, ready, edit-table, refused-table}
+use Rattle.model.proofs.CallLaws.{passed, output-passed, bytes-accepted, bytes-many, darts-alone, live-dart}
+use Rattle.model.proofs.CallLaws.{granted, sound, ready, edit-table, refused-table}
 use Rattle.model.proofs.HoldsLaws.{holds-slotted, dimension-small, table-length, edit-holds, store-zero, load-slotted, written-is}
 use Rattle.model.proofs.AlikeLaws.{alike-refl, alike-sym, alike-trans, words-alike, well-alike, same-live, same-orbit}
 use Rattle.model.proofs.AlikeMatch.{moved, same-matches}

@@ -19,7 +19,7 @@ use Rattle.model.specs.Match.{image}
 use Rattle.model.specs.Edit.{Pair, freed, isFree, orbitSize, addedDarts, deletedDarts, roomOf, rank, freeSlot, dartOf, pairOf}
 use Rattle.model.specs.Edit.{newLink, unnamedLink, newTag, leftWord, afterDeletion, newWord, edited}
 use Rattle.model.specs.Alike.{Alike}
-use Rattle.model.proofs.AcceptedLaws.{donor-left}
+use Rattle.model.proofs.AcceptedLaws.{one-side, donor-left}
 use Rattle.model.proofs.ArcLaws.{explicit-end, implicit-from}
 use Rattle.model.proofs.EditLaws.{Ready, kinds, pair-at, left-alive, bare-live, field-other}
 use Rattle.model.proofs.RoomLaws.{freed-same}
@@ -139,7 +139,7 @@ module _ (E : Site) (m′ : Map) (a : Alike (E .map) m′) (w : WellFormed (E .s
         → newLink E u s c (unnamedLink E (added S s) i x) ≡ newLink E′ u s c (unnamedLink E′ (added S s) i x)
     unfolding newLink
     new-link-same i k u s e b d absent q = unnamed-same E m′ (added S s) i x (λ n. a .link x h (pair-live u s e b d n) i k)
-    new-link-same i k u s e b d (explicit t) q = same-dart u t e (explicit-end S right (g .sides right) s i t q .0)
+    new-link-same i k u s e b d (explicit t) q = same-dart u t e (explicit-end S right (one-side g right) s i t q .0)
     new-link-same i k u s e b d (implicit p) q =
         let f = implicit-from S right s i p q in
         same-dart (m .link (orbitDim S p) u) s (o .link u p e (f .0)) b

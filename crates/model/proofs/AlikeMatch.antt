@@ -63,11 +63,11 @@ module _ (E : Site) (g : Accepted (E .scheme)) (m′ : Map) (a : Alike (E .map) 
     second = A .second;
     explicitArc = λ u b e c k.
         let both = A .explicitArc u (o .slot u e) e c k in
-        let from = g .sides left .shaped .from c k in
-        let to = g .sides left .shaped .to c k in
+        let from = g .shaped .sides left .from c k in
+        let to = g .shaped .sides left .to c k in
         let x = A .darts u (o .slot u e) e _ (from .0) (from .1) in
         let y = A .darts u (o .slot u e) e _ (to .0) (to .1) in
-        let dim = g .sides left .shaped .dims c k in (
+        let dim = g .shaped .sides left .dims c k in (
           sym (link-same _ _ (x .0) (x .1) dim) ∙ both .0,
           sym (link-same _ _ (y .0) (y .1) dim) ∙ both .1,
         );
@@ -75,7 +75,7 @@ module _ (E : Site) (g : Accepted (E .scheme)) (m′ : Map) (a : Alike (E .map) 
         let x = A .darts u (o .slot u e) e s h l in
         ⊎-elim (λ z. absurd (no z))
         (λ dim. sym (link-same _ _ (x .0) (x .1) dim) ∙ A .implicitArc u (o .slot u e) e s h l p k no ∙ ap (λ (v : ℕ). f v s) (orbit-link-same u p e k))
-        (g .sides left .shaped .words s p h k);
+        (g .shaped .sides left .words s p h k);
     different = λ u b e s h l v c d t i r q. A .different u (o .slot u e) e s h l v (o .slot v d) d t i r q;
   }
 

@@ -12,11 +12,16 @@ use Rattle.base.specs.First.{first, least, someIf}
 use Rattle.model.specs.Arc.{farEnd, arcOf}
 use Rattle.model.specs.Scheme.{Side, word, arcs, arcPart, has}
 use Rattle.model.specs.Conditions.{Arc, absent, explicit, implicit, arcAt, arcsOfDim, touches, far, reads}
-use Rattle.model.specs.Accepted.{SingleSide}
+use Rattle.model.specs.Shaped.{ShapedSide}
 use Rattle.model.specs.declared.Scheme.{Scheme}
 use Rattle.base.proofs.TestLaws.{and-left, and-right, and-of, or-cases, or-left, or-right, true-or-false}
 use Rattle.base.proofs.BelowLaws.{count-none, count-zero, count-some, count-once}
 use Rattle.base.proofs.FirstLaws.{when-at, when-none, first-at, first-none, first-only, first-none-of, least-at, least-none, least-only, least-none-of}
+
+-- one side of a scheme, with at most one arc of each dimension at a node
+pub record SingleSide (S : Scheme) (side : Side) : Type 0 where
+  pub shaped : ShapedSide S side
+  pub single : (s i : ℕ) → s < S .nodes → i ≤ S .n → arcsOfDim S side s i ≤ 1
 
 module _ (S : Scheme) (side : Side) where
   -- the arc found at s, seen from the arcs

@@ -26,7 +26,7 @@ unfolding _and_ _or_ _⇒_ someIf _orElse_ there allBelow anyBelow countBelow fi
     farEnd S.wordsOf placed targetsOf S.arcsOf S.schemeOf C.arcsOfDim C.arcAt C.leftArc C.pathFrom C.pathTo S.isHook C.hookOk C.hookFault
     C.incidenceOk C.incidenceFault C.fourArcs C.oneArc C.bothImplicit C.onCycle C.cycleOk C.cycleFault C.schemeFault O.leads O.orbitPath O.orbit
     N.smallest N.reachedBelow N.cells N.sizesBelow N.allBut N.counts
-    M.walk M.opposite M.image M.arcHolds M.eachPair M.onlyPair M.matches E.freed E.isFree E.leftWord E.afterDeletion E.freeSlot E.rank
+    M.walk M.secondDartOf M.image M.arcHolds M.eachPair M.onlyPair M.matches E.freed E.isFree E.leftWord E.afterDeletion E.freeSlot E.rank
     E.orbitSize E.addedDarts E.deletedDarts E.roomOf E.dartOf E.pairOf E.newLink E.newWord E.edited
     bytesOf numberAt F.liveDarts F.section F.fileIn F.slotIn F.tagIn F.linkIn F.placeIn F.formIn F.mapIn F.fileMap
     A.mapFault A.tableFault A.checkTable A.bytesFault A.checkScheme A.fitFault

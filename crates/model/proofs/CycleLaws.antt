@@ -8,10 +8,9 @@ use borrow.Author.Tests.{eqb-true, eq-eqb, leb-true, le-leb}
 use Rattle.model.specs.Scheme.{Side}
 use Rattle.model.specs.Conditions.{Arc, absent, explicit, implicit, arcAt, sameArc, atEnd, atPlaces, fourArcs, oneArc, bothImplicit, onCycle, Cycle, four}
 use Rattle.model.specs.Conditions.{oneI, oneJ, apart}
-use Rattle.model.specs.Accepted.{SingleSide}
 use Rattle.model.specs.declared.Scheme.{Scheme}
 use Rattle.base.proofs.TestLaws.{or-cases, or-left, or-right}
-use Rattle.model.proofs.ArcLaws.{explicit-end}
+use Rattle.model.proofs.ArcLaws.{SingleSide, explicit-end}
 
 end-at : (c : Arc) (p : ℕ → Bool) → atEnd c p ≡ true → (t : ℕ) × (c ≡ explicit t) × (p t ≡ true)
 end-at absent p e = absurd (false≢true e)

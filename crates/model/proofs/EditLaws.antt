@@ -21,7 +21,7 @@ use Rattle.model.specs.Edit.{Pair, freed, isFree, leftWord, afterDeletio
 use Rattle.model.specs.Edit.{newLink, unnamedLink, newWord, edited}
 use Rattle.base.proofs.TestLaws.{and-left, and-right, and-of, or-cases, or-left, or-right, impossible, true-or-false}
 use Rattle.base.proofs.FirstLaws.{when-at, first-at, first-only, first-none-of, nth-at, nth-found}
-use Rattle.model.proofs.AcceptedLaws.{left-or-added}
+use Rattle.model.proofs.AcceptedLaws.{one-side, left-or-added}
 use Rattle.model.proofs.ArcLaws.{explicit-end, implicit-from}
 use Rattle.model.proofs.KindLaws.{deleted-left, preserved-left, right-stays}
 use Rattle.model.proofs.MatchLaws.{GoodOrbit, arc-of}
@@ -242,12 +242,12 @@ module _ {E : Site} (r : Ready E) where
           go : (c : Arc) → arcAt S right s i ≡ c → edited E .link i (dartOf E u s) ≡ m .link i (dartOf E u s)
           go absent a = link-kept i (left-not-added S s l) a
           go (explicit t) a =
-              let end = explicit-end S left (r .accepted .sides left) s i t (same ∙ a) in
+              let end = explicit-end S left (one-side (r .accepted) left) s i t (same ∙ a) in
               link-explicit i t a ∙ dart-left E u t (end .1) ∙ sym (eqb-true _ _ (holds (explicit t) (same ∙ a) (end .2)))
               ∙ ap (m .link i) (sym (dart-left E u s l))
           go (implicit p) a =
               let f = implicit-from S left s i p (same ∙ a) in
-              let words = r .accepted .sides left .shaped .words s p h (f .0) in
+              let words = r .accepted .shaped .sides left .words s p h (f .0) in
               let dim : i ≤ S .n = ⊎-elim (λ w. absurd (omega (arith, f .1))) (λ w. omega (arith, f .1)) words in
               link-implicit i p a ∙ dart-left E (m .link (orbitDim S p) u) s l ∙ sym (eqb-true _ _ (holds (implicit p) (same ∙ a) dim))
               ∙ ap (m .link i) (sym (dart-left E u s l))

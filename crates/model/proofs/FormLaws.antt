@@ -8,7 +8,8 @@ use borrow.Author.Tests.{eqb-true, eq-eqb, leb-true, le-leb, ltb-true, lt-ltb}
 use lib.ListN.{length}
 use Rattle.base.specs.Below.{allBelow}
 use Rattle.base.proofs.TestLaws.{and-left, and-right, and-of, or-cases, or-left, or-right, if-so, if-of}
-use Rattle.model.specs.Bytes.{onSide, byte, namesSecond, dimensionOf, placesOf, nodesOf, hasDonor, nodeAt, kindAt, donorOf, secondOf, arcCount, arcByte, endAt}
+use Rattle.model.specs.Bytes.{onSide, byte, namesSecond, dimensionOf, placesOf, nodesOf, hasDonor, nodeAt}
+use Rattle.model.specs.Bytes.{kindAt, donorOf, secondOf, arcCount, arcByte, endAt}
 use Rattle.model.specs.Scheme.{Side, left, right, orbitForm, nodeForm, donorForm, secondForm, arcForm, arcsForm, inForm}
 
 module _ (b : List ℕ) where

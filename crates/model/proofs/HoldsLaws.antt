@@ -15,7 +15,7 @@ use Rattle.base.specs.First.{someIf, there, _orElse_}
 use Rattle.base.proofs.TestLaws.{true-or-false}
 use Rattle.base.proofs.FirstLaws.{or-else-none}
 use Rattle.model.specs.Map.{Map, State, view, tableOf, tableSize}
-use Rattle.model.specs.WellFormed.{WellFormed, wellFormed}
+use Rattle.model.specs.WellFormed.{WellFormed}
 use Rattle.model.specs.Edit.{edited}
 use Rattle.model.specs.File.{fileForm, fileMap, placeOf}
 use Rattle.model.specs.Answer.{refusalNumber, number, values, answered}

@@ -23,6 +23,7 @@ use Rattle.model.proofs.EditLaws as L
 use Rattle.model.proofs.EditLaws.{Ready}
 use Rattle.model.proofs.RankLaws.{dart-left}
 use Rattle.model.proofs.RoomLaws.{freed-at}
+use Rattle.model.proofs.AcceptedLaws.{one-side}
 
 one-not-zero : _≡_ {A = ℕ} 1 0 → ⊥
 one-not-zero e = omega arith
@@ -69,7 +70,7 @@ module _ (E : Site) (w : WellFormed (E .scheme .n) (E .map)) (ready : Ready E) w
       → (m .link i (D v t) ≡ D v r) × (r < S .nodes) × (has S left r ≡ true)
   unfolding arcHolds
   old-explicit v t i r e h l a =
-      let x = explicit-end S left (g .sides left) t i r a in
+      let x = explicit-end S left (one-side g left) t i r a in
       let q = eqb-true _ _ (arc-of E g o (image E) A v e t h l i (x .2) (explicit r) a) in
       (ap (m .link i) (dart-left E v t l) ∙ q ∙ sym (dart-left E v r (x .1)), x .0, x .1)
 
@@ -117,13 +118,13 @@ module _ (E : Site) (w : WellFormed (E .scheme .n) (E .map)) (ready : Ready E) w
           → (c : Arc) → arcAt S left t i ≡ c → Loose i (m .link i x)
       by-arc v t e h l q back z (explicit r) a =
           let y = old-explicit v t i r e h l a in
-          absurd (loose-not z v r e (y .1) (y .2) (not-absent (explicit-end S left (g .sides left) t i r a .3)) (sym back ∙ ap (m .link i) q ∙ y .0))
+          absurd (loose-not z v r e (y .1) (y .2) (not-absent (explicit-end S left (one-side g left) t i r a .3)) (sym back ∙ ap (m .link i) q ∙ y .0))
       by-arc v t e h l q back z (implicit p) a =
           let y = old-implicit v t i p e h l k a in
           absurd (loose-not z (m .link (orbitDim S p) v) t (y .1) h l (not-absent′ a) (sym back ∙ ap (m .link i) q ∙ y .0))
       by-arc v t e h l q back z absent a =
           looseKept v t e h (⊎-elim
-          (λ d. absurd (one-not-zero (sym (g .allLeft t i h k d) ∙ absent-from S left t i a)))
+          (λ d. absurd (one-not-zero (sym (g .consistent .incidence t h .allLeft i k d) ∙ absent-from S left t i a)))
           (λ d. d) (or-cases _ _ l)) a q
 
   -- ---- live darts after the edit
@@ -156,7 +157,7 @@ module _ (E : Site) (w : WellFormed (E .scheme .n) (E .map)) (ready : Ready E) w
   new-loose i x k (looseOther p h l) =
       (L.field-other ready (Link i) x p ∙ L.field-stays ready (Link i) x (L.bare-live ready x l .1), L.field-other ready State x p ∙ l)
   new-loose i x k (looseKept u s e h z a q) =
-      let b = absent-of S right s i (sym (g .same s i h k z) ∙ absent-from S left s i a) in
+      let b = absent-of S right s i (sym (g .consistent .incidence s h .same i k z) ∙ absent-from S left s i a) in
       let r = preserved-right S s z in (
         ap (new .link i) q ∙ L.link-kept ready u s e h r i (preserved-not-added S s z) b ∙ ap (m .link i) (sym q),
         ap (new .state) q ∙ new-state u s e h r,
@@ -181,8 +182,8 @@ module _ (E : Site) (w : WellFormed (E .scheme .n) (E .map)) (ready : Ready E) w
   -- a right pair's node that has no i-arc is preserved, and has none on the left
   right-loose : (u s i : ℕ) → O u ≡ true → s < S .nodes → has S right s ≡ true → i ≤ S .n → arcAt S right s i ≡ absent → Loose i (D u s)
   right-loose u s i e h r k a = ⊎-elim
-      (λ z. looseKept u s e h z (absent-of S left s i (g .same s i h k z ∙ absent-from S right s i a)) refl)
-      (λ z. absurd (one-not-zero (sym (g .allRight s i h k z) ∙ absent-from S right s i a)))
+      (λ z. looseKept u s e h z (absent-of S left s i (g .consistent .incidence s h .same i k z ∙ absent-from S right s i a)) refl)
+      (λ z. absurd (one-not-zero (sym (g .consistent .incidence s h .allRight i k z) ∙ absent-from S right s i a)))
       (or-cases _ _ r)
 
   -- a link of the orbit type leads back
@@ -192,7 +193,7 @@ module _ (E : Site) (w : WellFormed (E .scheme .n) (E .map)) (ready : Ready E) w
   step-pair : (u s i : ℕ) → O u ≡ true → s < S .nodes → has S right s ≡ true → i ≤ S .n → (c : Arc) → arcAt S right s i ≡ c → Step i (D u s)
   step-pair u s i e h r k absent a = step-loose i (D u s) k (right-loose u s i e h r k a)
   step-pair u s i e h r k (explicit t) a =
-      let x = explicit-end S right (g .sides right) s i t a in
+      let x = explicit-end S right (one-side g right) s i t a in
       let l = new-explicit u s e h r i t a in (
         subst (λ (v : ℕ). v < m .slots) (sym l) (L.dart-slot ready u t e (x .0)),
         ap (new .state) l ∙ new-state u t e (x .0) (x .1),
@@ -217,7 +218,7 @@ module _ (E : Site) (w : WellFormed (E .scheme .n) (E .map)) (ready : Ready E) w
       let b = L.bare-live ready x l in
       L.field-other ready (Link 3) x p ∙ L.field-stays ready (Link 3) x (b .1) ∙ w .flat n x h (b .0)
   flat-of x n (livePair u s e h r q) =
-      let a = no-arc S right (g .sides right) s 3 h (omega arith) (omega arith) in
+      let a = no-arc S right (one-side g right) s 3 h (omega arith) (omega arith) in
       ap (new .link 3) q ∙ ⊎-elim
       (λ z. L.link-kept ready u s e h r 3 (preserved-not-added S s z) a
       ∙ w .flat n (D u s) (L.dart-slot ready u s e h) (L.left-alive ready u s e h (preserved-left S s z)))
@@ -251,19 +252,19 @@ module _ (E : Site) (w : WellFormed (E .scheme .n) (E .map)) (ready : Ready E) w
 
     cycle-square : (u s : ℕ) → O u ≡ true → s < S .nodes → has S right s ≡ true → Cycle S right s i j → Square (D u s)
     cycle-square u s e h r (four {t} {u = v} {v = z} a b c d) =
-        let x = explicit-end S right (g .sides right) s i t a in
-        let y = explicit-end S right (g .sides right) t j v b in
-        let k = explicit-end S right (g .sides right) v i z c in
+        let x = explicit-end S right (one-side g right) s i t a in
+        let y = explicit-end S right (one-side g right) t j v b in
+        let k = explicit-end S right (one-side g right) v i z c in
         chain (new .link i) (new .link j) (new-explicit u s e h r i t a) (new-explicit u t e (x .0) (x .1) j v b)
         (new-explicit u v e (y .0) (y .1) i z c) (new-explicit u z e (k .0) (k .1) j s d)
     cycle-square u s e h r (oneI {t} {p} a b c) =
-        let x = explicit-end S right (g .sides right) s i t a in
+        let x = explicit-end S right (one-side g right) s i t a in
         let y = new-implicit u t e (x .0) (x .1) j p c in
         let v = m .link (orbitDim S p) u in
         chain (new .link i) (new .link j) (new-explicit u s e h r i t a) (y .0) (new-explicit v t (y .1) (x .0) (x .1) i s (x .3))
         (new-implicit v s (y .1) h r j p b .0 ∙ ap (λ (z : ℕ). D z s) (orbit-back u p e (implicit-from S right s j p b .0)))
     cycle-square u s e h r (oneJ {t} {p} a b c) =
-        let x = explicit-end S right (g .sides right) s j t a in
+        let x = explicit-end S right (one-side g right) s j t a in
         let y = new-implicit u s e h r i p b in
         let v = m .link (orbitDim S p) u in
         chain (new .link i) (new .link j) (y .0) (new-explicit v s (y .1) h r j t a)
@@ -296,12 +297,12 @@ module _ (E : Site) (w : WellFormed (E .scheme .n) (E .map)) (ready : Ready E) w
     in-range (inr e) = omega arith
 
     off : (s k : ℕ) → One k → arcAt S left s k ≡ absent → Cycle S left s i j → ⊥
-    off s k (inl e) a = none-i S left (g .sides left) s i j (ap (arcAt S left s) (sym e) ∙ a)
-    off s k (inr e) a = none-j S left (g .sides left) s i j (ap (arcAt S left s) (sym e) ∙ a)
+    off s k (inl e) a = none-i S left (one-side g left) s i j (ap (arcAt S left s) (sym e) ∙ a)
+    off s k (inr e) a = none-j S left (one-side g left) s i j (ap (arcAt S left s) (sym e) ∙ a)
 
     pass : (s r k : ℕ) → One k → arcAt S left s k ≡ explicit r → Cycle S left r i j → Cycle S left s i j
-    pass s r k (inl e) a = pass-i S left (g .sides left) i j s r (ap (arcAt S left s) (sym e) ∙ a)
-    pass s r k (inr e) a = pass-j S left (g .sides left) i j s r (ap (arcAt S left s) (sym e) ∙ a)
+    pass s r k (inl e) a = pass-i S left (one-side g left) i j s r (ap (arcAt S left s) (sym e) ∙ a)
+    pass s r k (inr e) a = pass-j S left (one-side g left) i j s r (ap (arcAt S left s) (sym e) ∙ a)
 
     loose-plain : (k x : ℕ) → One k → Loose k x → Plain x
     loose-plain k x y (looseOther p h l) = plainOther p h l
@@ -310,7 +311,7 @@ module _ (E : Site) (w : WellFormed (E .scheme .n) (E .map)) (ready : Ready E) w
     -- a preserved node on no left cycle has the same arcs on both sides
     same-arcs : (s k : ℕ) → One k → s < S .nodes → preserved S s ≡ true → (Cycle S left s i j → ⊥) → arcAt S left s k ≡ arcAt S right s k
     same-arcs s k y h z c =
-        let arcs = g .keptArcs s i j h ij jn z c in
+        let arcs = g .consistent .cycles s i j h ij jn .keptArcs z c in
         ⊎-elim
         (λ e. ap (arcAt S left s) e ∙ arcs .0 ∙ ap (arcAt S right s) (sym e))
         (λ e. ap (arcAt S left s) e ∙ arcs .1 ∙ ap (arcAt S right s) (sym e))
@@ -325,7 +326,7 @@ module _ (E : Site) (w : WellFormed (E .scheme .n) (E .map)) (ready : Ready E) w
     plain-kept k u s y e h z c (explicit r) a =
         let b = sym (same-arcs s k y h z c) ∙ a in
         let old = old-explicit u s k r e h (preserved-left S s z) a in
-        let end = explicit-end S right (g .sides right) s k r b in (
+        let end = explicit-end S right (one-side g right) s k r b in (
           new-explicit u s e h (preserved-right S s z) k r b ∙ sym (old .0),
           plainKept u r e (old .1) (both-preserved S r (old .2) (end .1)) (λ d. c (pass s r k y a d)) (old .0),
         )
@@ -354,10 +355,10 @@ module _ (E : Site) (w : WellFormed (E .scheme .n) (E .map)) (ready : Ready E) w
     square-of x (liveOther p h l) = plain-square x (plainOther p h l)
     square-of x (livePair u s e h r q) = subst Square (sym q) (⊎-elim
         (λ z. ⊎-elim
-        (λ t. cycle-square u s e h r (g .keptCycle s i j h ij jn z (cycle-at S left s i j t)))
+        (λ t. cycle-square u s e h r (g .consistent .cycles s i j h ij jn .keptCycle z (cycle-at S left s i j t)))
         (λ t. plain-square (D u s) (plainKept u s e h z (λ c. true≢false (sym (cycle-of S left s i j c) ∙ t)) refl))
         (true-or-false (onCycle S left s i j)))
-        (λ z. cycle-square u s e h r (g .addedCycle s i j h ij jn z))
+        (λ z. cycle-square u s e h r (g .consistent .cycles s i j h ij jn .addedCycle z))
         (or-cases _ _ r))
 
   -- ---- the theorem

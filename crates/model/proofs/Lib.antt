@@ -38,5 +38,6 @@ pub mod AlikeCalls
 pub mod SequenceLaws
 pub mod RewritingLaws
 pub mod RewritingOnce
+pub mod RewritingCountLaws
 pub mod LabelLaws
 pub mod LongestScheme

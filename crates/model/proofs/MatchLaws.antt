@@ -16,13 +16,13 @@ use Rattle.model.specs.Scheme.{left, orbitDim, word, arcs, arcPart, has,
 use Rattle.model.specs.Conditions.{Arc, absent, explicit, implicit, arcAt, touches, far, pathFrom}
 use Rattle.model.specs.Orbit.{InOrbit, itself, onward}
 use Rattle.model.specs.Site.{Site, LiveDart}
-use Rattle.model.specs.Match.{walk, along, opposite, image, arcHolds, eachPair, onlyPair, matches, Assignment}
-use Rattle.model.specs.Accepted.{Accepted, SingleSide}
+use Rattle.model.specs.Match.{walk, along, secondDartOf, image, arcHolds, eachPair, onlyPair, matches, Assignment}
+use Rattle.model.specs.Accepted.{Accepted}
 use Rattle.base.proofs.TestLaws.{and-left, and-right, and-of, or-cases, if-so, if-of}
 use Rattle.base.proofs.BelowLaws.{all-at, all-of}
 use Rattle.base.proofs.FirstLaws.{there-at}
-use Rattle.model.proofs.ArcLaws.{explicit-at, implicit-at, explicit-from, implicit-from, far-from, far-to, touches-from, touches-to}
-use Rattle.model.proofs.AcceptedLaws.{small}
+use Rattle.model.proofs.ArcLaws.{SingleSide, explicit-at, implicit-at, explicit-from, implicit-from, far-from, far-to, touches-from, touches-to}
+use Rattle.model.proofs.AcceptedLaws.{one-side, small}
 use Rattle.model.proofs.HookLaws.{Path, second-hook, hook-path, arc-between, path-from, path-cases, reached-found}
 use Rattle.model.proofs.OrbitLaws.{step-link, OrbitPath, orbit-path}
 
@@ -51,19 +51,19 @@ module _ (E : Site) (g : Accepted (E .scheme)) where
 
   image-hook : (u : ℕ) → image E u firstHook ≡ u
   unfolding image walk
-  image-hook u = ap (λ (o : Option (List ℕ)). along m o u (along m (pathFrom S (S .second) firstHook) (opposite E u) u)) (hook-path S (g .shaped))
+  image-hook u = ap (λ (o : Option (List ℕ)). along m o u (along m (pathFrom S (S .second) firstHook) (secondDartOf E u) u)) (hook-path S (g .shaped))
 
   abbrev gl : SingleSide S left
-  gl = g .sides left
+  gl = one-side g left
 
-  -- the image of (u, s) is the end of a walk from the dart of a hook: u at the first, its opposite at the second
+  -- the image of (u, s) is the end of a walk from the dart of a hook: u at the first, its secondDartOf at the second
   record Walk (u s : ℕ) : Type 0 where
     hook : ℕ
     start : ℕ
     path : List ℕ
     leads : Path S hook path s
     is : image E u s ≡ walk m path start
-    from : ((hook ≡ firstHook) × (start ≡ u)) ⊎ ((hook ≡ S .second) × (start ≡ opposite E u))
+    from : ((hook ≡ firstHook) × (start ≡ u)) ⊎ ((hook ≡ S .second) × (start ≡ secondDartOf E u))
 
   image-walk : (u s : ℕ) → s < S .nodes → has S left s ≡ true → Walk u s
   unfolding image
@@ -73,18 +73,18 @@ module _ (E : Site) (g : Accepted (E .scheme)) where
         start = u;
         path = p .0;
         leads = path-from S firstHook s (p .0) h (p .1);
-        is = ap (λ (o : Option (List ℕ)). along m o u (along m (pathFrom S (S .second) s) (opposite E u) u)) (p .1);
+        is = ap (λ (o : Option (List ℕ)). along m o u (along m (pathFrom S (S .second) s) (secondDartOf E u) u)) (p .1);
         from = inl (refl, refl);
       })
       (λ q. let p = there-at _ (q .1) in record {
         hook = S .second;
-        start = opposite E u;
+        start = secondDartOf E u;
         path = p .0;
         leads = path-from S (S .second) s (p .0) h (p .1);
-        is = ap₂ (λ (o r : Option (List ℕ)). along m o u (along m r (opposite E u) u)) (q .0) (p .1);
+        is = ap₂ (λ (o r : Option (List ℕ)). along m o u (along m r (secondDartOf E u) u)) (q .0) (p .1);
         from = inr (refl, refl);
       })
-      (path-cases S s (reached-found S (g .shaped) (g .reach s h l)))
+      (path-cases S s (reached-found S (g .shaped) (g .consistent .reach s h l)))
 
   module _ (o : GoodOrbit E) where
     -- all that is reached from the dart is in the orbit
@@ -95,10 +95,10 @@ module _ (E : Site) (g : Accepted (E .scheme)) where
     abbrev OPath : List ℕ → ℕ → Type 0
     OPath = OrbitPath m (S .places) (orbitDim S) d
 
-    -- every orbit dart has a path from the dart, and its opposite is the end of that path from the other dart
-    opposite-path : (u : ℕ) → O u ≡ true → (p : List ℕ) × OPath p u × (opposite E u ≡ walk m p d₂)
-    unfolding opposite
-    opposite-path u e =
+    -- every orbit dart has a path from the dart, and its secondDartOf is the end of that path from the other dart
+    second-path : (u : ℕ) → O u ≡ true → (p : List ℕ) × OPath p u × (secondDartOf E u ≡ walk m p d₂)
+    unfolding secondDartOf
+    second-path u e =
         let f = orbit-path m (S .places) (orbitDim S) d (λ x r. o .slot x (in-orbit r)) (o .reached u e) in
         (f .0, f .2, ap (λ (q : Option (List ℕ)). along m q d₂ d₂) (f .1))
 
@@ -139,7 +139,7 @@ module _ (E : Site) (g : Accepted (E .scheme)) where
       start-live : (u s : ℕ) → O u ≡ true → (v : Walk u s) → LiveDart m (v .start)
       start-live u s e v = ⊎-elim
           (λ q. subst (LiveDart m) (sym (q .1)) (record { slot = o .slot u e; alive = o .alive u e }))
-          (λ q. let r = opposite-path u e in subst (LiveDart m) (sym (q .1 ∙ r .2)) (orbit-live (r .1)))
+          (λ q. let r = second-path u e in subst (LiveDart m) (sym (q .1 ∙ r .2)) (orbit-live (r .1)))
           (v .from)
 
       image-live : (u : ℕ) → O u ≡ true → (s : ℕ) → s < S .nodes → has S left s ≡ true → LiveDart m (image E u s)
@@ -207,14 +207,14 @@ module _ (E : Site) (g : Accepted (E .scheme)) where
       -- what the second hook's implicit arcs say: its darts follow one another as the orbit darts do
       pub second-link : (u p : ℕ) → O u ≡ true → p < S .places → m .link (orbitDim S p) (f u (S .second)) ≡ f (m .link (orbitDim S p) u) (S .second)
       second-link u p e k =
-          let h = g .hooks (S .second) (second-hook S) in
+          let h = g .consistent .hooks (S .second) (second-hook S) in
           let q : word S left (S .second) p ≡ orbitDim S p = h .word p k in
           let low = g .shaped .orbitDims p k in
           let n3 = small S (g .shaped) in
           ap (λ (i : ℕ). m .link i (f u (S .second))) (sym q)
           ∙ A .implicitArc u (o .slot u e) e (S .second) (g .shaped .secondBelow) (h .kind) p k (λ c. omega arith)
 
-      -- so the path from the dart to u leads from the other dart to the opposite of u
+      -- so the path from the dart to u leads from the other dart to the secondDartOf of u
       orbit-is : {p : List ℕ} {u : ℕ} → OPath p u → (walk m p d₂ ≡ f u (S .second)) × (O u ≡ true)
       unfolding walk
       orbit-is (here {y} b z) =
@@ -232,7 +232,7 @@ module _ (E : Site) (g : Accepted (E .scheme)) where
           let v = image-walk u s h l in
           v .is ∙ walk-is u e (v .start) (v .hook) (⊎-elim
           (λ q. q .1 ∙ sym (A .hook u (o .slot u e) e) ∙ ap (f u) (sym (q .0)))
-          (λ q. let r = opposite-path u e in q .1 ∙ r .2 ∙ orbit-is (r .1) .0 ∙ ap (f u) (sym (q .0)))
+          (λ q. let r = second-path u e in q .1 ∙ r .2 ∙ orbit-is (r .1) .0 ∙ ap (f u) (sym (q .0)))
           (v .from)) (v .leads)
 
       touched : (u : ℕ) → O u ≡ true → (s i a : ℕ) → a < arcs S left → touches S left s i a ≡ true
@@ -272,7 +272,7 @@ module _ (E : Site) (g : Accepted (E .scheme)) where
 
       pub assigns-match : matches E ≡ true
       unfolding matches onlyPair
-      assigns-match = and-of (eq-eqb _ _ (assigned d (o .dart) (S .second) (g .shaped .secondBelow) (g .hooks _ (second-hook S) .kind) ∙ A .second))
+      assigns-match = and-of (eq-eqb _ _ (assigned d (o .dart) (S .second) (g .shaped .secondBelow) (g .consistent .hooks _ (second-hook S) .kind) ∙ A .second))
           (pair-of _ (λ u b e s h l. and-of
           (all-of (suc (S .n)) _ (λ i k. arc-of u e s h l i (omega arith) (arcAt S left s i) refl))
           (pair-of _ (λ v c d t i r. if-of _ (λ same.

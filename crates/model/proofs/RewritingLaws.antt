@@ -11,7 +11,7 @@ use Rattle.model.specs.Site.{Site}
 use Rattle.model.specs.Match.{image, Assignment}
 use Rattle.model.specs.Edit.{isFree, rank, dartOf, edited}
 use Rattle.model.specs.Rewriting.{Rewriting}
-use Rattle.model.proofs.AcceptedLaws.{donor-left}
+use Rattle.model.proofs.AcceptedLaws.{one-side, donor-left}
 use Rattle.model.proofs.ArcLaws.{no-arc}
 use Rattle.model.proofs.HookLaws.{first-hook, second-hook}
 use Rattle.model.proofs.KindLaws.{right-stays, deleted-left, added-right, preserved-left, preserved-right, preserved-not-added}
@@ -31,8 +31,8 @@ module _ {E : Site} (ready : Ready E) where
   assignment : Assignment E D
   assignment = record {
     darts = λ u b e s h l. subst (λ (x : ℕ). (x < m .slots) × (m .state x ≡ 1)) (sym (dart-left E u s l)) (A .darts u b e s h l);
-    hook = λ u b e. dart-left E u firstHook (g .hooks firstHook (first-hook S) .kind) ∙ A .hook u b e;
-    second = dart-left E (E .dart) (S .second) (g .hooks (S .second) (second-hook S) .kind) ∙ A .second;
+    hook = λ u b e. dart-left E u firstHook (g .consistent .hooks firstHook (first-hook S) .kind) ∙ A .hook u b e;
+    second = dart-left E (E .dart) (S .second) (g .consistent .hooks (S .second) (second-hook S) .kind) ∙ A .second;
     explicitArc = λ u b e a h.
         let from = g .shaped .sides left .from a h in
         let to = g .shaped .sides left .to a h in
@@ -68,7 +68,7 @@ module _ {E : Site} (ready : Ready E) where
     newTag = λ u s e h a. L.tag-new ready u s e h (added-right S s a) a
         ∙ ap (m .tag) (sym (dart-left E u (donor S s) (donor-left S g s h)));
     ownLink = λ u s e h a n. L.link-own ready u s e h (added-right S s a) 3 a
-        (no-arc S right (g .sides right) s 3 h (omega arith) (omega arith));
+        (no-arc S right (one-side g right) s 3 h (omega arith) (omega arith));
     keptTag = λ u s e h k. L.tag-kept ready u s e h (preserved-right S s k) (preserved-not-added S s k);
     keptLink = λ u s i e h k a. L.link-kept ready u s e h (preserved-right S s k) i (preserved-not-added S s k) a;
     gone = λ u s e h d no k l. L.field-deleted ready u s e h k d (L.pair-none ready _ (λ v t f b r q. ⊎-elim

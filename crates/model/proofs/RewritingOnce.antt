@@ -21,7 +21,7 @@ use Rattle.model.specs.declared.Scheme.{Scheme}
 use Rattle.model.specs.Rewriting.{Rewriting, SameRecord}
 use Rattle.model.proofs.MapLaws.{words-are, length-words, field-words}
 use Rattle.model.proofs.ArcLaws.{explicit-end, implicit-from, absent-from}
-use Rattle.model.proofs.AcceptedLaws.{at-least-two, kind-cases, left-or-added}
+use Rattle.model.proofs.AcceptedLaws.{one-side, at-least-two, kind-cases, left-or-added}
 use Rattle.model.proofs.MatchLaws.{GoodOrbit, assigned}
 use Rattle.model.proofs.KindLaws.{added-right, preserved-right}
 use Rattle.model.proofs.RoomLaws.{free-same}
@@ -80,13 +80,13 @@ module _ (E : Site) (a : Accepted (E .scheme)) (o : GoodOrbit E) {m′ m″ : Ma
   added-absent s i h k l c =
       let two = at-least-two S (a .shaped) in
       let none = absent-from S right s i c in
-      ⊎-elim (λ b. let one = a .allRight s i h b k in absurd (omega arith)) (λ b. (omega arith, omega arith)) (le-or-lt i (S .n))
+      ⊎-elim (λ b. let one = a .consistent .incidence s h .allRight i b k in absurd (omega arith)) (λ b. (omega arith, omega arith)) (le-or-lt i (S .n))
 
   -- a preserved or added pair has the same links
   link-once : (u s i : ℕ) → O u ≡ true → s < S .nodes → has S right s ≡ true → i ≤ 3 → (c : Arc) → arcAt S right s i ≡ c
       → m″ .link i (g u s) ≡ m′ .link i (f u s)
   link-once u s i e h k l (explicit t) c =
-      q .explicitLink u s i t e h k c ∙ sym (dart-once u t e (explicit-end S right (a .sides right) s i t c .0)) ∙ sym (r .explicitLink u s i t e h k c)
+      q .explicitLink u s i t e h k c ∙ sym (dart-once u t e (explicit-end S right (one-side a right) s i t c .0)) ∙ sym (r .explicitLink u s i t e h k c)
   link-once u s i e h k l (implicit p) c =
       q .implicitLink u s i p e h k c
       ∙ sym (dart-once (m .link (orbitDim S p) u) s (o .link u p e (implicit-from S right s i p c .0)) h) ∙ sym (r .implicitLink u s i p e h k c)

@@ -16,11 +16,13 @@ use Rattle.base.proofs.TestLaws.{and-left, and-right, or-cases, true-or-false}
 use Rattle.base.proofs.BelowLaws.{all-at}
 use Rattle.base.proofs.FirstLaws.{first-same, least-none-of, least-same}
 use Rattle.base.proofs.ListLaws.{getD-list}
-use Rattle.model.specs.Bytes.{onSide, byte, namesSecond, dimensionOf, placesOf, nodesOf, hasDonor, kindAt, wordAt, donorOf, hookBytes, secondOf, arcCount, arcByte}
+use Rattle.model.specs.Bytes.{onSide, byte, namesSecond, dimensionOf, placesOf, nodesOf, hasDonor, kindAt}
+use Rattle.model.specs.Bytes.{wordAt, donorOf, hookBytes, secondOf, arcCount, arcByte}
 use Rattle.model.specs.Bytes.{upTo}
 use Rattle.model.specs.Arc.{farEnd, arcOf}
 use Rattle.model.specs.Codes.{placeCode, placed, placedAt, targetsOf, targets, arcCode}
-use Rattle.model.specs.Scheme.{Side, left, right, orbitForm, wordForm, wordEmpty, nodeForm, donorForm, arcsForm, inForm, wordsOf, arcsOf, schemeOf, kind, orbitDim}
+use Rattle.model.specs.Scheme.{Side, left, right, orbitForm, wordForm, wordEmpty, nodeForm, donorForm}
+use Rattle.model.specs.Scheme.{arcsForm, inForm, wordsOf, arcsOf, schemeOf, kind, orbitDim}
 use Rattle.model.specs.Scheme.{donor, word, arcs, arcPart, has, firstHook}
 use Rattle.model.specs.Conditions.{arcAt, reads}
 use Rattle.model.specs.Shaped.{Shaped, ShapedSide}

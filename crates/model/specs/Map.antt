@@ -1,5 +1,5 @@
 -- 'The dart table': a map looked at through a view, the state, links and tag of each slot. All rules are over the view.
--- The table's layout is `recordSize`, `column` and `recordOf`; beside the crate `table`, nothing else knows it.
+-- The table's layout is `recordSize`, `offset` and `recordOf`; beside the crate `table`, nothing else knows it.
 use Prim.Native.Nat.{ℕ, _+_, _*_}
 use mathlib.Core.Bool.{Bool, cond}
 use mathlib.Core.List.{List, [], _∷_}
@@ -42,10 +42,10 @@ abbrev pub recordSize : ℕ
 recordSize = 6
 
 -- which of them a field is
-abbrev pub column : Field → ℕ
-column State = 0
-column (Link i) = 1 + i
-column Tag = 5
+abbrev pub offset : Field → ℕ
+offset State = 0
+offset (Link i) = 1 + i
+offset Tag = 5
 
 -- the words of a slot
 abbrev pub recordOf : Map → ℕ → List ℕ
@@ -57,11 +57,11 @@ tableSize N = recordSize * N
 
 -- the word of a slot in a table; 0 for a link that a record has not
 unfoldable pub fieldAt : List ℕ → Field → ℕ → ℕ
-fieldAt t f x = cond (leb (dimension f) 3) (getD t (recordSize * x + column f) 0) 0
+fieldAt t f x = cond (leb (dimension f) 3) (getD t (recordSize * x + offset f) 0) 0
 
 -- the table with v as the word of a slot
 unfoldable pub put : List ℕ → Field → ℕ → ℕ → List ℕ
-put t f x v = set t (recordSize * x + column f) v
+put t f x v = set t (recordSize * x + offset f) v
 
 -- the map in a table of N slots
 abbrev pub view : ℕ → List ℕ → Map

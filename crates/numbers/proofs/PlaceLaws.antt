@@ -11,7 +11,7 @@ use lib.Seq.{length-sets}
 use Rattle.base.specs.Digits.{bytesOf, numberAt}
 use Rattle.base.proofs.DigitLaws.{length-bytes, number-join, bytes-join}
 use Rattle.base.proofs.ListLaws.{sets-sets}
-use Rattle.numbers.specs.Places.{Width, Taken, Put}
+use Rattle.numbers.specs.Places.{Width, NumberRead, Put}
 use Rattle.numbers.specs.declared.Number.{Number}
 
 -- ---- the width that is chosen
@@ -26,15 +26,15 @@ wide-few (inr e) = (omega arith, omega arith)
 
 -- ---- read
 
-pub taken-wide : (w v : ℕ) (b : List ℕ) (at : ℕ) (r : Number) → w ≡ v → Taken v b at r → Taken w b at r
+pub taken-wide : (w v : ℕ) (b : List ℕ) (at : ℕ) (r : Number) → w ≡ v → NumberRead v b at r → NumberRead w b at r
 taken-wide w v b at r e x = rw e x
 
-pub taken-one : (b : List ℕ) (at v : ℕ) → v ≡ getD b at 0 → v < 256 → Taken 1 b at (record { value = v; next = record { at = at + 1 } })
+pub taken-one : (b : List ℕ) (at v : ℕ) → v ≡ getD b at 0 → v < 256 → NumberRead 1 b at (record { value = v; next = record { at = at + 1 } })
 unfolding numberAt
 taken-one b at v e h = record { value = rw e (omega arith); small = h; next = refl }
 
-pub taken-join : (w u : ℕ) (b : List ℕ) (at : ℕ) (low high : Number) → Taken w b at low → Taken u b (low .next .at) high
-    → Taken (w + u) b at (record { value = low .value + 256 ^ w * high .value; next = high .next })
+pub taken-join : (w u : ℕ) (b : List ℕ) (at : ℕ) (low high : Number) → NumberRead w b at low → NumberRead u b (low .next .at) high
+    → NumberRead (w + u) b at (record { value = low .value + 256 ^ w * high .value; next = high .next })
 taken-join w u b at low high x y = record {
   value = rw (x .value, y .value, x .next) (sym (number-join w u b at));
   small =

@@ -1,10 +1,10 @@
-// A place in bytes, which goes in and comes back by value, and the numbers read and put there. Callers know that these lie within the bytes; a
-// scheme's reader does not, and has a cursor of its own (`frame::cursor`), which finds where the bytes end.
+// A place in bytes, passed and returned by value, and the numbers that are read and put there. Callers know that these lie within the bytes. The
+// reader of a scheme does not know it, so it has a cursor of its own (`frame::cursor`), which finds where the bytes end.
 use base::byte::number;
 ghost use Prim.Native.Nat.{_+_, _≤_};
 ghost use lib.ListN.{length};
 ghost use Rattle.base.specs.Digits.{bytesOf};
-ghost use Rattle.numbers.specs.Places.{Width, Taken, Put};
+ghost use Rattle.numbers.specs.Places.{Width, NumberRead, Put};
 
 pub struct Cursor {
     pub at: usize,
@@ -17,10 +17,10 @@ pub struct Number {
 }
 
 impl Cursor {
-    // The number in one byte.
+    // Reads the number in one byte.
     pub fn one(self, b: &[u8]) -> Number
         requires { ⌜ self .at + 1 ≤ length (now b) ⌝ }
-        ensures { λ r. ⌜ Taken 1 (now (b .entry)) (self .at) r ⌝ }
+        ensures { λ r. ⌜ NumberRead 1 (now (b .entry)) (self .at) r ⌝ }
     {
         let at = self.at;
         Number {
@@ -29,10 +29,10 @@ impl Cursor {
         }
     }
 
-    // The number in two bytes.
+    // Reads the number in two bytes.
     pub fn two(self, b: &[u8]) -> Number
         requires { ⌜ self .at + 2 ≤ length (now b) ⌝ }
-        ensures { λ r. ⌜ Taken 2 (now (b .entry)) (self .at) r ⌝ }
+        ensures { λ r. ⌜ NumberRead 2 (now (b .entry)) (self .at) r ⌝ }
     {
         let low = self.one(b);
         let next = low.next;
@@ -44,10 +44,10 @@ impl Cursor {
         }
     }
 
-    // The number in four bytes.
+    // Reads the number in four bytes.
     pub fn four(self, b: &[u8]) -> Number
         requires { ⌜ self .at + 4 ≤ length (now b) ⌝ }
-        ensures { λ r. ⌜ Taken 4 (now (b .entry)) (self .at) r ⌝ }
+        ensures { λ r. ⌜ NumberRead 4 (now (b .entry)) (self .at) r ⌝ }
     {
         let low = self.two(b);
         let next = low.next;
@@ -59,11 +59,11 @@ impl Cursor {
         }
     }
 
-    // The number in w bytes.
+    // Reads the number in w bytes.
     pub fn number(self, w: usize, b: &[u8]) -> Number
         requires { ⌜ Width w ⌝ }
         requires { ⌜ self .at + w ≤ length (now b) ⌝ }
-        ensures { λ r. ⌜ Taken w (now (b .entry)) (self .at) r ⌝ }
+        ensures { λ r. ⌜ NumberRead w (now (b .entry)) (self .at) r ⌝ }
     {
         if w == 2 {
             return self.two(b);
@@ -71,7 +71,7 @@ impl Cursor {
         self.four(b)
     }
 
-    // The lowest byte of v.
+    // Puts the lowest byte of v.
     pub fn put_one(self, out: &mut [u8], v: u32) -> Cursor
         requires { ⌜ self .at + 1 ≤ length (now out) ⌝ }
         ensures { λ r. ⌜ Put (now (out .entry)) (self .at) (bytesOf 1 v) (now (out .exit)) (r .at) ⌝ }
@@ -81,7 +81,7 @@ impl Cursor {
         Cursor { at: at + 1 }
     }
 
-    // The lowest two bytes of v.
+    // Puts the lowest two bytes of v.
     pub fn put_two(self, out: &mut [u8], v: u32) -> Cursor
         requires { ⌜ self .at + 2 ≤ length (now out) ⌝ }
         ensures { λ r. ⌜ Put (now (out .entry)) (self .at) (bytesOf 2 v) (now (out .exit)) (r .at) ⌝ }
@@ -90,7 +90,7 @@ impl Cursor {
         next.put_one(out, v / 256)
     }
 
-    // The four bytes of v.
+    // Puts the four bytes of v.
     pub fn put_four(self, out: &mut [u8], v: u32) -> Cursor
         requires { ⌜ self .at + 4 ≤ length (now out) ⌝ }
         ensures { λ r. ⌜ Put (now (out .entry)) (self .at) (bytesOf 4 v) (now (out .exit)) (r .at) ⌝ }
@@ -99,7 +99,7 @@ impl Cursor {
         next.put_two(out, v / 65536)
     }
 
-    // The lowest w bytes of v.
+    // Puts the lowest w bytes of v.
     pub fn put(self, w: usize, out: &mut [u8], v: u32) -> Cursor
         requires { ⌜ Width w ⌝ }
         requires { ⌜ self .at + w ≤ length (now out) ⌝ }

@@ -17,9 +17,9 @@ use Rattle.model.specs.Map.{Map}
 use Rattle.model.specs.WellFormed.{WellFormed}
 use Rattle.model.specs.Orbit.{orbit, InOrbit, itself, onward}
 use Rattle.model.proofs.OrbitLaws.{reached-dart, orbit-iff}
-use Rattle.orbit.specs.Store.{mark, place, next, marked, among, Taken, Reached, Walked, Kept}
+use Rattle.orbit.specs.Store.{mark, place, next, marked, among, Taken, Arrived, Walked, Kept}
 use Rattle.orbit.specs.Places.{Pushed, Blank}
-use Rattle.orbit.specs.Walk.{MoreTaken, Followed, Expanded, Begun, Joined}
+use Rattle.orbit.specs.Walk.{MoreTaken, Followed, Expanded, Begun, OrbitAdded}
 use Rattle.orbit.proofs.StoreLaws.{
   place-set-behind,
   taken-set-behind,
@@ -125,8 +125,8 @@ module _ (m : Map) (dim : ℕ → ℕ) (head : ℕ) (s : List ℕ) (tail : ℕ) 
 -- ---- `walk`
 
 -- where the links of the first places stay, a place is reached as it was
-reached-kept : {N k : ℕ} {s s′ : List ℕ} {passed passed′ e : ℕ} (w : Reached N k s passed e) → passed′ ≤ passed → w .from < passed′
-    → ((r p : ℕ) → r < passed′ → p < k → next N s′ r p ≡ next N s r p) → Reached N k s′ passed′ e
+reached-kept : {N k : ℕ} {s s′ : List ℕ} {passed passed′ e : ℕ} (w : Arrived N k s passed e) → passed′ ≤ passed → w .from < passed′
+    → ((r p : ℕ) → r < passed′ → p < k → next N s′ r p ≡ next N s r p) → Arrived N k s′ passed′ e
 reached-kept w few low same = record {
   from = w .from;
   position = w .position;
@@ -153,7 +153,7 @@ module _ (m : Map) (k : ℕ) (dim : ℕ → ℕ) (d : ℕ) (s₁ : List ℕ) (be
     pub start : place (m .slots) s begin ≡ d
     pub old : (e : ℕ) → e < begin → place (m .slots) s e ≡ place (m .slots) s₁ e
     pub sound : (e : ℕ) → begin ≤ e → e < tail → InOrbit m k dim d (place (m .slots) s e)
-    pub reached : begin ≡ 0 → (e : ℕ) → 1 ≤ e → e < tail → (w : Reached (m .slots) k s head e) × (w .from < head)
+    pub reached : begin ≡ 0 → (e : ℕ) → 1 ≤ e → e < tail → (w : Arrived (m .slots) k s head e) × (w .from < head)
     pub links : (r : ℕ) → r < head → begin ≤ r → (p : ℕ) → p < k → (next (m .slots) s r p < tail)
         × (place (m .slots) s (next (m .slots) s r p) ≡ m .link (dim p) (place (m .slots) s r))
 
@@ -294,7 +294,7 @@ module _ (m : Map) (k : ℕ) (dim : ℕ → ℕ) (d : ℕ) (s₁ : List ℕ) (be
         counted = count-same (m .slots) (orbit m k dim d) (marked s) (λ x b. sym (is-orbit z x b)) ∙ v .taken .total;
       }
 
-      pub walking-done : Joined m k dim d s₀ s tail × (begin ≡ 0 → Walked m k dim d s tail)
+      pub walking-done : OrbitAdded m k dim d s₀ s tail × (begin ≡ 0 → Walked m k dim d s tail)
       walking-done = (record { taken = v .taken; is = is-joined }, is-walked)
 
 -- ---- after the walk

@@ -4,7 +4,7 @@
 --   2N .. 3N - 1   the darts of the added pairs, and before a pair has its dart, the tag for it
 --   4N .. 8N - 1   for each orbit dart and each position of the orbit type, the place of the dart to which that link leads
 --   8N ..          a binary digit for each slot while the added pairs get their darts: 32 to a word, two words to 64 slots, set for the orbit darts
--- Nothing is asked of the other words. Assumes nothing.
+-- Nothing is asked of the other words.
 use Prim.Native.Nat.{ℕ, _+_, _*_, _-_, _≤_, _<_}
 use mathlib.Core.Path.{_≡_}
 use mathlib.Core.Bool.{Bool, true}
@@ -52,7 +52,7 @@ pub record Taken (N : ℕ) (s : List ℕ) (end : ℕ) : Type 0 where
 
 -- How the walk came to place e. It followed the link at `position` of the dart at the earlier place `from`, and that was the first link that led there:
 -- of the links of the first `passed` places, each that leads to a later place than e was followed after this one.
-pub record Reached (N k : ℕ) (s : List ℕ) (passed e : ℕ) : Type 0 where
+pub record Arrived (N k : ℕ) (s : List ℕ) (passed e : ℕ) : Type 0 where
   pub from : ℕ
   pub position : ℕ
   pub before : from < e
@@ -72,7 +72,7 @@ pub record Walked (m : Map) (k : ℕ) (dim : ℕ → ℕ) (d : ℕ) (s : List �
   pub links : (r p : ℕ) → r < size → p < k → (next (m .slots) s r p < size)
       × (place (m .slots) s (next (m .slots) s r p) ≡ m .link (dim p) (place (m .slots) s r))
   pub start : place (m .slots) s 0 ≡ d
-  pub reached : (e : ℕ) → 1 ≤ e → e < size → Reached (m .slots) k s size e
+  pub reached : (e : ℕ) → 1 ≤ e → e < size → Arrived (m .slots) k s size e
   pub counted : countBelow (m .slots) (orbit m k dim d) ≡ size
 
 -- what the later phases leave of the store: the orbit's places, their marks and links

@@ -48,6 +48,6 @@ pub record Begun (m : Map) (k : ℕ) (dim : ℕ → ℕ) (s : List ℕ) (begin d
   pub free : mark s d ≡ 0
 
 -- the orbit of d took places beside the darts that had them
-pub record Joined (m : Map) (k : ℕ) (dim : ℕ → ℕ) (d : ℕ) (s s′ : List ℕ) (end : ℕ) : Type 0 where
+pub record OrbitAdded (m : Map) (k : ℕ) (dim : ℕ → ℕ) (d : ℕ) (s s′ : List ℕ) (end : ℕ) : Type 0 where
   pub taken : Taken (m .slots) s′ end
   pub is : (x : ℕ) → x < m .slots → marked s′ x ≡ (marked s x or orbit m k dim d x)

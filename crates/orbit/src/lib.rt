@@ -12,7 +12,7 @@ ghost use lib.ListN.{getD};
 ghost use Rattle.model.specs.Map.{view, maxSlots};
 ghost use Rattle.table.specs.Words.{Sized};
 ghost use Rattle.orbit.specs.Store.{Taken, Walked, place};
-ghost use Rattle.orbit.specs.Walk.{BeforeWalking, Followed, Expanded, Begun, Joined};
+ghost use Rattle.orbit.specs.Walk.{BeforeWalking, Followed, Expanded, Begun, OrbitAdded};
 
 // Slot y takes the place `end`, unless it has a place, and the word `at` becomes the place of y. It returns the new end.
 fn follow(slots: usize, store: &mut [u32], end: usize, at: usize, y: usize) -> usize
@@ -78,7 +78,7 @@ pub fn walk(
     requires { ⌜ BeforeWalking (view slots (now table)) dims k ⌝ }
     requires { ⌜ (d < slots) × (view slots (now table) .state d ≡ 1) ⌝ }
     requires { ⌜ Begun (view slots (now table)) k (λ p. getD dims p 0) (now store) begin d ⌝ }
-    ensures { λ r. ⌜ Joined (view slots (now (table .entry))) k (λ p. getD dims p 0) d (now (store .entry)) (now (store .exit)) r ⌝ }
+    ensures { λ r. ⌜ OrbitAdded (view slots (now (table .entry))) k (λ p. getD dims p 0) d (now (store .entry)) (now (store .exit)) r ⌝ }
     ensures { λ r. ⌜ (begin ≡ 0 → Walked (view slots (now (table .entry))) k (λ p. getD dims p 0) d (now (store .exit)) r) ⌝ }
 {
     push(slots, store, begin, d);

@@ -1,5 +1,5 @@
--- The refusals of a map file that is opened: 11 where it names no n and N, 1 where the programs do not take its N, and then, by its load and the
--- check, 1, 11 and 7 in this order.
+-- The refusals of opening a map file, in their order: 11 if it names no n and N; 1 if the programs do not take its N; then 1 and 11 by its load, and
+-- 7 by the check.
 use Prim.Native.Nat.{ℕ}
 use mathlib.Core.Path.{_≡_, refl, ap, _∙_}
 use mathlib.Core.Bool.{Bool, true, false, not, cond}
@@ -23,7 +23,7 @@ use Rattle.program.specs.Opening.{mostSlots, emptyTable, fileDimension, 
 abbrev firstOf : Bool → Bool → Bool → Answer
 firstOf sizes form well = answered Done (someIf (not sizes) BadCall orElse someIf (not form) BadFile orElse someIf (not well) BadTable)
 
--- a check that follows a load, where the sizes are right and the file is in the form
+-- a check that follows a load, if the sizes are right and the file is in the form
 module _ (n N : ℕ) (t b : List ℕ) (s : sizesOk n N t ≡ true) (f : fileForm n N b ≡ true) where
   loaded-well : wellFormed n (view N (loadTable n N t b)) ≡ wellFormed n (fileMap n N b)
   unfolding fileMap
@@ -33,7 +33,7 @@ module _ (n N : ℕ) (t b : List ℕ) (s : sizesOk n N t ≡ true) (f : fileForm
   unfolding checkTable tableFault mapFault someIf _orElse_
   check-loaded = rw (load-slotted n N t b s .sizes, loaded-well) refl
 
--- a load with these tests, and c where it is done
+-- a load with these tests, and c if it is done
 composed : (sizes form well : Bool) (c : Answer) → (sizes ≡ true → form ≡ true → c ≡ firstOf true true well)
     → let load = answered Done (someIf (not sizes) BadCall orElse someIf (not form) BadFile) in cond (eqb (number load) 0) c load ≡ firstOf sizes form well
 unfolding someIf _orElse_
@@ -61,7 +61,8 @@ module _ (f : List ℕ) where
   unfolding openAnswer someIf _orElse_
   open-refusals = go (leb 3 (length f)) (leb N mostSlots)
     where
-      go : (long few : Bool) → cond long (cond few (cond (eqb (number (fileLoaded f)) 0) (checkTable n N (fileTable f)) (fileLoaded f)) (Refused BadCall)) (Refused BadFile)
+      go : (long few : Bool)
+          → cond long (cond few (cond (eqb (number (fileLoaded f)) 0) (checkTable n N (fileTable f)) (fileLoaded f)) (Refused BadCall)) (Refused BadFile)
           ≡ answered Done (someIf (not long) BadFile orElse someIf (not few) BadCall orElse someIf (not (sizesOk n N (emptyTable N))) BadCall
           orElse someIf (not (fileForm n N f)) BadFile orElse someIf (not (wellFormed n (fileMap n N f))) BadTable)
       go true true = taken-refusals

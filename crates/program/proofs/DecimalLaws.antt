@@ -1,4 +1,4 @@
--- Laws of numbers in decimal: the last digit stands behind the others, and a small number has few digits.
+-- Laws of numbers in decimal: the last digit comes after the others, and a small number has few digits.
 use Prim.Native.Nat.{ℕ, zero, suc, _+_, _/_, _%_, _^_, _≤_, _<_}
 use mathlib.Core.Path.{_≡_, refl, sym, ap, _∙_}
 use mathlib.Core.Logic.{⊎-elim}

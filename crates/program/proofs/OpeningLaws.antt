@@ -36,7 +36,7 @@ module _ (n N : ℕ) (t u b : List ℕ) (e : length t ≡ length u) where
   load-as =
       ap (λ (k : ℕ). answered Done (loadFaultAt ((eqb n 2 or eqb n 3) and leb 1 N and leb N maxSlots and eqb k (tableSize N)) n N b)) e
 
-  -- what it leaves where it is done
+  -- what it leaves if it is done
   table-as : number (loadAnswer n N t b) ≡ 0 → loadTable n N t b ≡ loadTable n N u b
   table-as z = load-done n N t b z .2 ∙ sym (load-done n N u b (ap number (sym load-as) ∙ z) .2)
 
@@ -125,7 +125,7 @@ pub short-table : (f t : List ℕ) → length f < 3 → t ≡ openTable f t
 unfolding openTable
 short-table f t h = rw (and-no-left (leb (fileSlots f) mostSlots) (lt-leb 3 (length f) h)) refl
 
--- ---- where the map is open
+-- ---- if the map is open
 
 -- a file that is not refused has passed the check
 pub open-checked : (f : List ℕ) → number (openAnswer f) ≡ 0 → number (checkTable (fileDimension f) (fileSlots f) (fileTable f)) ≡ 0
@@ -163,7 +163,7 @@ module _ (f : List ℕ) (n N : ℕ) (m : MapOpen f n N) where
       ap length (sym (table-file f n N (m .named) (emptyTable N) blank open-loaded))
       ∙ table-length n N (loadTable n N (emptyTable N) f) (load-slotted n N (emptyTable N) f sizes .sizes)
 
-  -- the table of the map stands at the start, whatever the table held before
+  -- the map's table is at the start, whatever the table held before
   pub open-words : (t : List ℕ) → length t ≡ tableSize mostSlots → take (tableSize N) (openTable f t) ≡ fileTable f
   open-words t e =
       let part = take (tableSize N) t in

@@ -26,7 +26,7 @@ text-all l at s l' i h e = record {
   after = rw h refl;
 }
 
--- where the first part of what is to be written is written, there is room for the rest
+-- once the first part is written, there is room for the rest
 pub room-left : (l : List ℕ) (at : ℕ) (a b l' : List ℕ) (p : ℕ) → Put l at a l' p → at + length (a ++ b) ≤ length l → p + length b ≤ length l'
 room-left l at a b l' p x h = let h' = rw length-append at h in rw (put-length l at a l' p x, x .after) (omega arith)
 

@@ -1,4 +1,4 @@
--- Opening a map file by the n and N that it names itself: the answer, and what the table holds afterwards.
+-- Opening a map file, which itself names its n and N: the answer, and what the table holds afterwards.
 use Prim.Native.Nat.{ℕ, _≤_}
 use mathlib.Core.Path.{_≡_}
 use mathlib.Core.Bool.{cond}
@@ -24,12 +24,12 @@ mostSlots = 1024
 abbrev pub longestFile : ℕ
 longestFile = 14345
 
--- the table of N slots that is all zero
+-- the empty table of N slots: all zeros
 abbrev pub emptyTable : ℕ → List ℕ
 emptyTable N = replicate (tableSize N) 0
 
 module _ (f : List ℕ) where
-  -- n and N as the file has them
+  -- n and N as the file names them
   unfoldable pub fileDimension : ℕ
   fileDimension = getD f 0 0
 
@@ -43,25 +43,28 @@ module _ (f : List ℕ) where
   unfoldable pub fileTable : List ℕ
   fileTable = loadTable fileDimension fileSlots (emptyTable fileSlots) f
 
-  -- a file of under three bytes names no n and N, and one may name an N that the programs do not take; of any other, what the check of the table
-  -- answers where the map is loaded, else what the load answers
+  -- What the opening answers:
+  -- - refusal 11, if the file is too short to name n and N;
+  -- - refusal 1, if the programs do not take its N;
+  -- - what the load answers, if it is refused;
+  -- - else what the check of the table answers.
   unfoldable pub openAnswer : Answer
   openAnswer = cond (leb 3 (length f)) (cond (leb fileSlots mostSlots)
       (cond (eqb (number fileLoaded) 0) (checkTable fileDimension fileSlots fileTable) fileLoaded) (refusal BadCall)) (refusal BadFile)
 
-  -- what a table t of `mostSlots` slots holds afterwards: what the load leaves of its first N records, and the rest unchanged; all of it where the
-  -- file names no N or one that is too large
+  -- What a table t of `mostSlots` slots holds afterwards. If the file names an N that the programs take, the first N records are what the load
+  -- leaves, and the rest is unchanged. Else all of t is unchanged.
   unfoldable pub openTable : List ℕ → List ℕ
   openTable t = cond (leb 3 (length f) and leb fileSlots mostSlots)
       (loadTable fileDimension fileSlots (take (tableSize fileSlots) t) f ++ drop (tableSize fileSlots) t) t
 
--- the file is long enough to name n and N, and names these
+-- the file is long enough to name an n and an N, and these are they
 pub record Named (f : List ℕ) (n N : ℕ) : Type 0 where
   pub long : 3 ≤ length f
   pub dimension : n ≡ fileDimension f
   pub slots : N ≡ fileSlots f
 
--- the file's map is open: it is loaded and checked
+-- the file's map is open: it was loaded and checked
 pub record MapOpen (f : List ℕ) (n N : ℕ) : Type 0 where
   pub named : Named f n N
   pub few : N ≤ mostSlots

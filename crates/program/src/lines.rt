@@ -1,4 +1,4 @@
-// The line writer: fixed bytes and numbers in decimal go to a place of the output, and the place after them comes back.
+// The line writer. Its functions put fixed bytes and numbers in decimal at a place of the output, and return the place after them.
 ghost use mathlib.Core.Path.{_≡_};
 ghost use mathlib.Core.List.{_++_};
 ghost use Prim.Native.Nat.{_+_, _%_, _≤_};
@@ -6,7 +6,7 @@ ghost use lib.ListN.{length};
 ghost use Rattle.numbers.specs.Places.{Put};
 ghost use Rattle.program.specs.Lines.{decimal as decimalOf, numbersLine, refusedLine};
 
-// Fixed bytes.
+// Puts fixed bytes.
 pub fn text(out: &mut [u8], at: usize, bytes: &[u8]) -> usize
     requires { ⌜ at + length (now bytes) ≤ length (now out) ⌝ }
     ensures { λ r. ⌜ Put (now (out .entry)) at (now (bytes .entry)) (now (out .exit)) r ⌝ }
@@ -25,7 +25,7 @@ fn digit(v: u32) -> u8
     48 + (v % 10) as u8
 }
 
-// v in decimal.
+// Puts v in decimal.
 pub fn decimal(out: &mut [u8], at: usize, v: u32) -> usize
     requires { ⌜ at + length (decimalOf v) ≤ length (now out) ⌝ }
     ensures { λ r. ⌜ Put (now (out .entry)) at (decimalOf v) (now (out .exit)) r ⌝ }
@@ -39,7 +39,7 @@ pub fn decimal(out: &mut [u8], at: usize, v: u32) -> usize
     last + 1
 }
 
-// Fixed bytes, then a number.
+// Puts fixed bytes, then a number.
 pub fn field(out: &mut [u8], at: usize, lead: &[u8], v: u32) -> usize
     requires { ⌜ at + length (now lead ++ decimalOf v) ≤ length (now out) ⌝ }
     ensures { λ r. ⌜ Put (now (out .entry)) at (now (lead .entry) ++ decimalOf v) (now (out .exit)) r ⌝ }
@@ -48,7 +48,7 @@ pub fn field(out: &mut [u8], at: usize, lead: &[u8], v: u32) -> usize
     decimal(out, next, v)
 }
 
-// Numbers, with a space between any two, and the end of the line.
+// Puts numbers, with a space between any two, and the end of the line.
 pub fn numbers_line(out: &mut [u8], at: usize, values: &[u32]) -> usize
     requires { ⌜ 1 ≤ length (now values) ⌝ }
     requires { ⌜ at + length (numbersLine (now values)) ≤ length (now out) ⌝ }

@@ -1,4 +1,4 @@
-// Opening a map file by the n and the number of slots that it names itself.
+// Opening a map file: the file itself names its n and its number of slots.
 use crate::answer::number;
 use numbers::Cursor;
 use table::words::RECORD;
@@ -23,13 +23,13 @@ pub const TABLE: usize = RECORD * MOST_SLOTS as usize;
 // The words of a working store for the greatest number of slots.
 pub const STORE: usize = 16 * MOST_SLOTS as usize;
 
-// A map that is open, or the number of the refusal.
+// What opening a file finds: its map, or the number of the refusal.
 pub enum Opened {
     Map { n: u32, slots: u32 },
     Refused(u32),
 }
 
-// Loads the file's map in a table for its slots, and checks it where it is loaded; gives the number of the answer.
+// Loads the file's map into a table for its slots. If the load is done, checks the table. Returns the number of the last answer.
 fn load(file: &[u8], n: u32, slots: u32, table: &mut [u32]) -> u32
     requires { ⌜ Named (now file) n slots × (slots ≤ mostSlots) ⌝ }
     requires { ⌜ length (now table) ≡ tableSize slots ⌝ }
@@ -43,8 +43,8 @@ fn load(file: &[u8], n: u32, slots: u32, table: &mut [u32]) -> u32
     number(kernel::check_table(n, slots, table))
 }
 
-// Loads the file's map at the start of a table for the greatest number of slots, by the n and the number of slots that the file names, and
-// checks it.
+// Opens a file: loads its map, by the n and the number of slots that it names, and checks it. The table is for the greatest number of slots; the map
+// goes to its start.
 pub fn open(file: &[u8], table: &mut [u32]) -> Opened
     requires { ⌜ length (now table) ≡ tableSize mostSlots ⌝ }
     ensures { λ r. ⌜ OpenedAs (now (file .entry)) r ⌝ }

@@ -16,7 +16,7 @@ use Rattle.program.specs.Opening.{longestFile}
 use Rattle.program.proofs.LineLaws.{refused-few}
 use Rattle.report.specs.Report.{countLine}
 use Rattle.report.specs.Steps.{lengthAhead, stateAhead, linesAhead}
-use Rattle.report.specs.Promises.{longestLine, Room, Ready, RefusedAs, AheadAs}
+use Rattle.report.specs.Promises.{longestLine, SumsRoom, Ready, RefusedAs, AheadAs}
 use Rattle.report.specs.declared.State.{State}
 use Rattle.report.specs.declared.State.the-variants.{File, End}
 use Rattle.report.specs.declared.Fed.{Fed}
@@ -48,7 +48,7 @@ module _ (sums tail out : List ℕ) (at : ℕ) (r : Fed) (out′ : List ℕ) whe
   unfolding stateAhead linesAhead
   last-extra ne x = ahead-refused 0 sums tail out at r out′ refl (rw (ne-eqb _ _ ne) refl) x
 
-pub last-totals : (sums tail out : List ℕ) (at printed : ℕ) (out′ : List ℕ) → Room 0 sums → length tail ≡ 0 → Put out at (countLine sums) out′ printed
+pub last-totals : (sums tail out : List ℕ) (at printed : ℕ) (out′ : List ℕ) → SumsRoom 0 sums → length tail ≡ 0 → Put out at (countLine sums) out′ printed
     → AheadAs 0 sums tail out at (record { state = End; sums = sums; printed = printed }) out′
 unfolding stateAhead linesAhead
 last-totals sums tail out at printed out′ room z p = record {
@@ -59,8 +59,8 @@ last-totals sums tail out at printed out′ room z p = record {
   short = omega (arith, p .after, room-short 0 sums room);
 }
 
-pub room-left : (left : ℕ) (sums : List ℕ) → left ≡ 0 → Room left sums → Room 0 sums
-room-left left sums e r = subst (λ (k : ℕ). Room k sums) e r
+pub room-left : (left : ℕ) (sums : List ℕ) → left ≡ 0 → SumsRoom left sums → SumsRoom 0 sums
+room-left left sums e r = subst (λ (k : ℕ). SumsRoom k sums) e r
 
 pub none-left : (left : ℕ) (sums tail out : List ℕ) (at : ℕ) (r : Fed) (out′ : List ℕ) → left ≡ 0 → AheadAs 0 sums tail out at r out′
     → AheadAs left sums tail out at r out′
@@ -95,7 +95,7 @@ module _ (left : ℕ) (some : left ≡ 0 → ⊥) (tail : List ℕ) where
       unfolding lengthAhead
       ahead-long h = no-length (and-no-right (leb 2 (length tail)) (lt-leb (numberAt 2 tail 0) longestFile (rw is at h)))
 
-      pub ahead-file : Room left sums → 2 ≤ length tail → long ≤ longestFile
+      pub ahead-file : SumsRoom left sums → 2 ≤ length tail → long ≤ longestFile
           → AheadAs left sums tail out at (record { state = File (left - 1) long; sums = sums; printed = at }) out
       unfolding lengthAhead
       ahead-file room two h = record {

@@ -1,4 +1,4 @@
--- The report comes to an end: from every state that it comes to, each step leaves fewer, and what it wants is within its limit.
+-- The report ends: from every state to which it comes, each step leaves fewer steps to take, and what it wants is within its limit.
 use Prim.Native.Nat.{ℕ, zero, suc, _+_, _≤_, _<_}
 use mathlib.Core.Path.{_≡_, refl}
 use mathlib.Core.Logic.{⊎-elim}
@@ -11,15 +11,15 @@ use Rattle.base.specs.Digits.{numberAt}
 use Rattle.base.proofs.TestLaws.{true-or-false}
 use Rattle.program.specs.Opening.{longestFile}
 use Rattle.report.specs.Steps.{wants, lengthAhead, stateAhead, stateAfter}
-use Rattle.report.specs.Promises.{mostMaps, Room, Within, Ready, mostSteps, FedAs}
+use Rattle.report.specs.Promises.{mostMaps, SumsRoom, Within, Ready, mostSteps, FedAs}
 use Rattle.report.specs.declared.State.{State}
 use Rattle.report.specs.declared.State.the-variants.{Start, File, End}
 use Rattle.report.specs.declared.Fed.{Fed}
 
 -- ---- each step leaves fewer
 
--- sums that have room for k maps say that there are no more than there may be
-few-maps : (k : ℕ) (sums : List ℕ) → Room k sums → k ≤ mostMaps
+-- if sums have room for k maps, k is at most the greatest number of maps
+few-maps : (k : ℕ) (sums : List ℕ) → SumsRoom k sums → k ≤ mostMaps
 few-maps k sums r = omega (arith, r .few 0)
 
 fewer-ahead : (left : ℕ) (tail : List ℕ) → mostSteps (stateAhead left tail) ≤ left

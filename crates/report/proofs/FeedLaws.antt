@@ -13,7 +13,7 @@ use Rattle.numbers.proofs.PlaceLaws.{put-then}
 use Rattle.program.specs.Lines.{refusedLine}
 use Rattle.program.specs.Opening.{longestFile}
 use Rattle.report.specs.Steps.{stateAfter, linesAfter, withFile, sumsAfter}
-use Rattle.report.specs.Promises.{mostMaps, none, Room, Within, Ready, RefusedAs, AheadAs, FedAs, Lined, MapWorked, Worked}
+use Rattle.report.specs.Promises.{mostMaps, none, SumsRoom, Within, Ready, RefusedAs, AheadAs, FedAs, Lined, MapWorked, Worked}
 use Rattle.report.specs.declared.State.{State}
 use Rattle.report.specs.declared.State.the-variants.{Start, File, End}
 use Rattle.report.specs.declared.Fed.{Fed}
@@ -43,7 +43,7 @@ module _ (s : State) (sums p out : List ℕ) (r : Fed) (out′ : List ℕ) where
 
 -- ---- the number of maps
 
-pub room-none : (left : ℕ) (sums : List ℕ) → sums ≡ none → left ≤ mostMaps → Room left sums
+pub room-none : (left : ℕ) (sums : List ℕ) → sums ≡ none → left ≤ mostMaps → SumsRoom left sums
 room-none left sums e h = rw e (record {
   six = length-replicate {A = ℕ} countSize 0;
   few = λ i. omega (arith, getD-replicate-all {A = ℕ} countSize i 0);
@@ -72,12 +72,12 @@ module _ (sums p out : List ℕ) (r : Fed) (out′ : List ℕ) where
 
 -- ---- the file of a map
 
--- where there is room for a map and those after it, there is room for the map
-pub room-one : (left : ℕ) (sums : List ℕ) → Room (left + 1) sums → Room 1 sums
+-- if the sums have room for a map and those after it, they have room for the map
+pub room-one : (left : ℕ) (sums : List ℕ) → SumsRoom (left + 1) sums → SumsRoom 1 sums
 room-one left sums r = record { six = r .six; few = λ i. omega (arith, r .few i) }
 
--- and with the map there is room for those
-pub room-file : (left : ℕ) (f sums out : List ℕ) (line : Line) (out₁ : List ℕ) → Lined f sums out line out₁ → Room (left + 1) sums → Room left (line .sums)
+-- once the map is added, they have room for those after it
+pub room-file : (left : ℕ) (f sums out : List ℕ) (line : Line) (out₁ : List ℕ) → Lined f sums out line out₁ → SumsRoom (left + 1) sums → SumsRoom left (line .sums)
 room-file left f sums out line out₁ x room = rw (x .total) (room-summed f left sums room)
 
 module _ (left long : ℕ) (p : List ℕ) where

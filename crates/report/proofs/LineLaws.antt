@@ -14,7 +14,7 @@ use Rattle.program.proofs.DecimalLaws.{decimal-short}
 use Rattle.program.proofs.LineLaws.{digits}
 use Rattle.program.specs.Opening.{mostSlots}
 use Rattle.report.specs.Report.{countLine}
-use Rattle.report.specs.Promises.{mostMaps, longestLine, Room, Few}
+use Rattle.report.specs.Promises.{mostMaps, longestLine, SumsRoom, Few}
 
 -- the six numbers of an array are those of its line
 module _ (c : List ℕ) (six : length c ≡ countSize) where
@@ -40,7 +40,7 @@ count-short c few =
     let eight : (i : ℕ) → digits (getD c i 0) ≤ 8 = λ i. decimal-short 7 (getD c i 0) (omega (arith, few i)) in
     omega (arith, count-length c, eight 0, eight 1, eight 2, eight 3, eight 4, eight 5)
 
-pub room-short : (k : ℕ) (sums : List ℕ) → Room k sums → length (countLine sums) ≤ longestLine
+pub room-short : (k : ℕ) (sums : List ℕ) → SumsRoom k sums → length (countLine sums) ≤ longestLine
 room-short k sums r = count-short sums (λ i. omega (arith, r .few i))
 
 pub few-short : (c : List ℕ) → Few c → length (countLine c) ≤ longestLine

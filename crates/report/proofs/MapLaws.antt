@@ -1,5 +1,5 @@
--- A map of the report: its line, the sums with it, which cannot overflow, and what it leaves in table and store.
-use Prim.Native.Nat.{ℕ, _+_, _*_, _-_, _≤_}
+-- A map of the report: its line, the sums with its counts, and what it leaves in table and store. The sums cannot overflow.
+use Prim.Native.Nat.{ℕ, _+_, _*_, _≤_}
 use mathlib.Core.Path.{_≡_, refl, ap, _∙_}
 use mathlib.Core.Logic.{⊎-elim}
 use mathlib.Core.Bool.{true, false}
@@ -29,7 +29,7 @@ use Rattle.program.proofs.LineLaws.{refused-few}
 use Rattle.program.proofs.OpeningLaws.{open-words, open-checked, open-few}
 use Rattle.report.specs.Report.{countLine, sum, accepted, fileCounts, mapLine, summed}
 use Rattle.report.specs.Steps.{storeCounted}
-use Rattle.report.specs.Promises.{longestLine, Room, Few, Lined, MapWorked}
+use Rattle.report.specs.Promises.{longestLine, SumsRoom, Few, Lined, MapWorked}
 use Rattle.report.proofs.LineLaws.{few-short}
 
 -- ---- the numbers of a map
@@ -46,7 +46,8 @@ module _ (n N : ℕ) (t u : List ℕ) (z : number (checkTable n N t) ≡ 0) (s :
       let h = holds-iff n N t .1 z in
       let fits = and-of (h .sizes) (eq-eqb (length u) (16 * N) s) in
       let whole : counts n (view N t) ++ drop (length (counts n (view N t))) out ≡ counts n (view N t) =
-      ap (λ (k : List ℕ). counts n (view N t) ++ k) (drop-of-length-le out {i = length (counts n (view N t))} (omega (arith, counts-six n (view N t), six))) ∙ append-nil _ in (
+      ap (λ (k : List ℕ). counts n (view N t) ++ k)
+      (drop-of-length-le out {i = length (counts n (view N t))} (omega (arith, counts-six n (view N t), six))) ∙ append-nil _ in (
         output-of x ∙ rw (fits, wellFormed-iff n (view N t) .1 (h .well), le-ltb (length out) countSize (omega arith)) whole,
         store-of x ∙ rw (fits, s) refl,
       )
@@ -97,7 +98,7 @@ sum-at a c i x y = ⊎-elim (λ h. rw (past a x h, past c y h, past (sum a c) (l
     past : (l : List ℕ) → length l ≡ countSize → countSize ≤ i → getD l i 0 ≡ 0
     past l e h = List·getD-eq-default l 0 (omega (arith, e, h))
 
-room-sum : (left : ℕ) (a c : List ℕ) → Room (left + 1) a → Few c → Room left (sum a c)
+room-sum : (left : ℕ) (a c : List ℕ) → SumsRoom (left + 1) a → Few c → SumsRoom left (sum a c)
 unfolding sum
 room-sum left a c r f = record {
   six = length-list countSize _;
@@ -105,7 +106,7 @@ room-sum left a c r f = record {
 }
 
 -- a map that is counted adds no more than its slots, and one that is refused adds nothing
-pub room-summed : (f : List ℕ) (left : ℕ) (sums : List ℕ) → Room (left + 1) sums → Room left (summed f sums)
+pub room-summed : (f : List ℕ) (left : ℕ) (sums : List ℕ) → SumsRoom (left + 1) sums → SumsRoom left (summed f sums)
 unfolding summed
 room-summed f left sums room = ⊎-elim
     (λ a. rw a (room-sum left sums (fileCounts f) room (few-counts f a)))

@@ -18,7 +18,7 @@ use Rattle.program.specs.Opening.{openAnswer}
 use Rattle.program.proofs.LineLaws.{refused-few}
 use Rattle.report.specs.Report.{accepted, fileCounts, mapLine, reported}
 use Rattle.report.specs.Steps.{wants, lengthAhead, stateAhead, linesAhead, stateAfter, linesAfter, withFile, sumsAfter}
-use Rattle.report.specs.Promises.{mostMaps, none, Room, Ready, mostSteps, longestLine, FedAs, Run, ended, fed}
+use Rattle.report.specs.Promises.{mostMaps, none, SumsRoom, Ready, mostSteps, longestLine, FedAs, ReportRun, ended, fed}
 use Rattle.report.specs.declared.State.{State}
 use Rattle.report.specs.declared.State.the-variants.{Start, File, End}
 use Rattle.report.proofs.LineLaws.{room-short, few-short}
@@ -28,9 +28,9 @@ use Rattle.report.proofs.FeedLaws.{room-none}
 use Rattle.report.proofs.EndLaws.{fewer}
 use Rattle.report.proofs.StepLaws.{run-report}
 
--- ---- a step from every state that the report comes to
+-- ---- a step from every state to which the report comes
 
-ready-ahead : (left : ℕ) (sums tail : List ℕ) → Room left sums → Ready (stateAhead left tail) sums
+ready-ahead : (left : ℕ) (sums tail : List ℕ) → SumsRoom left sums → Ready (stateAhead left tail) sums
 unfolding stateAhead lengthAhead
 ready-ahead zero sums tail r = tt
 ready-ahead (suc left) sums tail r = ⊎-elim
@@ -38,7 +38,7 @@ ready-ahead (suc left) sums tail r = ⊎-elim
     (λ t. rw t tt)
     (true-or-false (lengthAhead tail))
 
-short-ahead : (left : ℕ) (sums tail : List ℕ) → Room left sums → length (linesAhead left sums tail) ≤ longestLine
+short-ahead : (left : ℕ) (sums tail : List ℕ) → SumsRoom left sums → length (linesAhead left sums tail) ≤ longestLine
 unfolding linesAhead
 short-ahead zero sums tail r = ⊎-elim (λ t. rw t (room-short 0 sums r)) (λ t. rw t eleven-short) (true-or-false (eqb (length tail) 0))
 short-ahead (suc left) sums tail r = ⊎-elim (λ t. rw t (omega arith)) (λ t. rw t eleven-short) (true-or-false (lengthAhead tail))
@@ -106,10 +106,10 @@ named-few k b bytes = omega (
       (le-or-lt k i)),
 )
 
-runs : (k : ℕ) (s : State) (sums b : List ℕ) → ((i : ℕ) → getD b i 0 < 256) → Ready s sums → mostSteps s < k → (l : List ℕ) × Run s sums b l
+runs : (k : ℕ) (s : State) (sums b : List ℕ) → ((i : ℕ) → getD b i 0 < 256) → Ready s sums → mostSteps s < k → (l : List ℕ) × ReportRun s sums b l
 runs zero s sums b bytes r h = absurd (omega (arith, h))
 runs (suc k) s sums b bytes r h = ⊎-elim
-    (λ (e : s ≡ End). ([], subst (λ (z : State). Run z sums b []) (sym e) ended))
+    (λ (e : s ≡ End). ([], subst (λ (z : State). ReportRun z sums b []) (sym e) ended))
     (λ (ne : wants s ≡ 0 → ⊥).
     let p = take (wants s) b in
     let out : List ℕ = replicate (2 * longestLine) 0 in
@@ -120,7 +120,7 @@ runs (suc k) s sums b bytes r h = ⊎-elim
     (end-or-not s)
 
 -- every input of bytes has a run from the start to the end, which prints its report
-pub run-there : (b : List ℕ) → ((i : ℕ) → getD b i 0 < 256) → Run Start none b (reported b)
+pub run-there : (b : List ℕ) → ((i : ℕ) → getD b i 0 < 256) → ReportRun Start none b (reported b)
 run-there b bytes =
     let r = runs (mostSteps Start + 1) Start none b bytes refl (omega arith) in
-    subst (Run Start none b) (run-report (r .1)) (r .1)
+    subst (ReportRun Start none b) (run-report (r .1)) (r .1)

@@ -1,5 +1,5 @@
 -- The steps of the report, each with its piece of the input, print the report of the whole input.
-use Prim.Native.Nat.{ℕ, zero, suc, _+_, _*_, _-_, _≤_, _<_}
+use Prim.Native.Nat.{ℕ, zero, suc, _+_, _*_, _≤_, _<_}
 use mathlib.Core.Path.{_≡_, refl, sym, ap, ap₂, _∙_}
 use mathlib.Core.Logic.{⊎-elim}
 use mathlib.Core.Bool.{Bool, true, false, cond}
@@ -18,26 +18,26 @@ use Rattle.program.specs.Lines.{refusedLine}
 use Rattle.program.specs.Opening.{longestFile}
 use Rattle.report.specs.Report.{countLine, mapLine, summed, whole, firstFile, behindFirst, mapsFrom, reported}
 use Rattle.report.specs.Steps.{wants, lengthAhead, stateAhead, linesAhead, stateAfter, linesAfter, withFile, sumsAfter, stepsFrom}
-use Rattle.report.specs.Promises.{none, Run, ended, fed}
+use Rattle.report.specs.Promises.{none, ReportRun, ended, fed}
 use Rattle.report.specs.declared.State.{State}
 use Rattle.report.specs.declared.State.the-variants.{Start, File, End}
 
 -- ---- pieces of the input
 
--- the start of a piece of k + j bytes, and what stands behind it
+-- the first k bytes of a piece of k + j, and what follows them
 piece-start : (k j : ℕ) (b : List ℕ) → take k (take (k + j) b) ≡ take k b
 piece-start k j b = take-take k (k + j) b (omega arith)
 
 piece-rest : (k j : ℕ) (b : List ℕ) → k ≤ length b → drop k (take (k + j) b) ≡ take j (drop k b)
 piece-rest k j b h = rw (take-add k j b) (drop-at (take k b) (take j (drop k b)) k (length-take-le k b h))
 
--- a piece has its first k bytes just where the input has them
+-- a piece has its first k bytes just if the input has them
 piece-long : (k j : ℕ) (b : List ℕ) → leb k (length (take (k + j) b)) ≡ leb k (length b)
 piece-long k j b = same-test _ _
     (λ t. le-leb k (length b) (omega (arith, leb-true k _ t, length-take (k + j) b)))
     (λ t. le-leb k _ (omega (arith, leb-true k _ t, length-take (k + j) b)))
 
--- the number in its first two bytes is that of the input, also where they are missing
+-- the number in its first two bytes is that of the input, even if they are missing
 two-start : (j : ℕ) (b : List ℕ) → numberAt 2 (take (2 + j) b) 0 ≡ numberAt 2 b 0
 unfolding numberAt
 two-start j b = ap₂ (λ (l h : ℕ). l + 256 * (h + 256 * 0)) (getD-take (2 + j) b 0 0 (omega arith)) (getD-take (2 + j) b 1 0 (omega arith))
@@ -53,9 +53,9 @@ steps-end (suc k) sums b = steps-end k sums b
 last-steps : (l : List ℕ) (k : ℕ) (sums b : List ℕ) → l ++ stepsFrom k End sums b ≡ l
 last-steps l k sums b = rw (steps-end k sums b) (append-nil l)
 
--- ---- the maps that are left, where `rest` is what is left of the input
+-- ---- the maps that are left; `rest` is what is left of the input
 
--- the file of a map, where the steps after it print the maps after it
+-- the file of a map, if the steps after it print the maps after it
 file-steps : (left k : ℕ)
     → ((sums rest : List ℕ) → linesAhead left sums (take 2 rest) ++ stepsFrom k (stateAhead left (take 2 rest)) sums (drop 2 rest) ≡ mapsFrom left sums rest)
     → (long : ℕ) (sums rest : List ℕ) → let p = take (long + 2) rest in
@@ -72,7 +72,7 @@ file-steps left k after long sums rest = ⊎-elim
     rw (missing, t) (last-steps (refusedLine 11) k _ _))
     (true-or-false (leb long (length rest)))
 
--- the length of the next map stands at the end of the piece before, or what there is of it
+-- the piece before ends with the length of the next map, or with what there is of it
 length-tail : (rest : List ℕ) → lengthAhead (take 2 rest) ≡ (leb 2 (length rest) and leb (numberAt 2 rest 0) longestFile)
 unfolding lengthAhead
 length-tail rest = rw (piece-long 2 0 rest, two-start 0 rest) refl
@@ -80,7 +80,7 @@ length-tail rest = rw (piece-long 2 0 rest, two-start 0 rest) refl
 none-tail : (rest : List ℕ) → eqb (length (take 2 rest)) 0 ≡ eqb (length rest) 0
 none-tail rest = eqb-same (length (take 2 rest)) 0 (length rest) 0 (λ e. omega (arith, e, length-take 2 rest)) (λ e. omega (arith, e, length-take 2 rest))
 
--- where the length is there, the file is whole just if as many bytes come after it
+-- if the length is there, the file is whole just if that many bytes come after it
 whole-is : (rest : List ℕ) → (leb 2 (length rest) and leb (numberAt 2 rest 0) longestFile) ≡ true → whole rest ≡ leb (numberAt 2 rest 0) (length (drop 2 rest))
 unfolding whole
 whole-is rest t = same-test _ _
@@ -126,14 +126,14 @@ steps-report b (suc k) h = ⊎-elim
 
 -- ---- a run
 
--- what a step prints stands at the start of its output
+-- what a step prints is at the start of its output
 printed-start : (out lines out′ : List ℕ) (printed : ℕ) → length lines ≤ length out → Put out 0 lines out′ printed → take printed out′ ≡ lines
 printed-start out lines out′ printed h p =
     let size : printed ≡ length lines = omega (arith, p .after) in
     rw (p .bytes, size, sets-start out lines h) (take-append-seam lines (drop (length lines) out))
 
 -- a run prints what its steps do, and further steps nothing
-run-steps : {s : State} {sums b l : List ℕ} → Run s sums b l → (n : ℕ) × ((j : ℕ) → stepsFrom (n + j) s sums b ≡ l)
+run-steps : {s : State} {sums b l : List ℕ} → ReportRun s sums b l → (n : ℕ) × ((j : ℕ) → stepsFrom (n + j) s sums b ≡ l)
 unfolding stepsFrom
 run-steps {sums = sums} {b = b} ended = (0, λ j. let same : 0 + j ≡ j = omega arith in rw same (steps-end j sums b))
 run-steps {s} {sums} {b} (fed {out = out} room x rest) =
@@ -150,7 +150,7 @@ run-steps {s} {sums} {b} (fed {out = out} room x rest) =
     )
 
 -- what a run prints from the start to the end is the report of the whole input
-pub run-report : {b l : List ℕ} → Run Start none b l → l ≡ reported b
+pub run-report : {b l : List ℕ} → ReportRun Start none b l → l ≡ reported b
 run-report {b} r =
     let x = run-steps r in
     sym (x .1 (numberAt 2 b 0 + 1)) ∙ steps-report b (x .0 + (numberAt 2 b 0 + 1)) (omega arith)

@@ -16,37 +16,37 @@ use Rattle.report.specs.declared.map.Line.{Line}
 
 -- ---- totals
 
--- there are no more maps, since their number has two bytes
+-- the greatest number of maps, since two bytes name it
 abbrev pub mostMaps : ℕ
 mostMaps = 65535
 
--- no map is counted yet
+-- the sums before any map is counted
 abbrev pub none : List ℕ
 none = replicate countSize 0
 
--- six sums that have room for `left` maps more: no map adds more than its slots, so no total is above 65,535 × 1,024
-pub record Room (left : ℕ) (sums : List ℕ) : Type 0 where
+-- Six sums with room for `left` more maps. A map adds no more than its slots, so no total is above 65,535 × 1,024.
+pub record SumsRoom (left : ℕ) (sums : List ℕ) : Type 0 where
   pub six : length sums ≡ countSize
   pub few : (i : ℕ) → getD sums i 0 + mostSlots * left ≤ mostSlots * mostMaps
 
--- six numbers of a map, which are not above the slots that it may have
+-- the six counts of a map, none of them above the greatest number of slots
 pub record Few (c : List ℕ) : Type 0 where
   pub six : length c ≡ countSize
   pub few : (i : ℕ) → getD c i 0 ≤ mostSlots
 
--- a file that is wanted is within its limit
+-- if the state wants a file, the file's length is within its limit
 abbrev pub Within : State → Type 0
 Within Start = Unit
 Within (File left long) = long ≤ longestFile
 Within End = Unit
 
--- the states that a report comes to, with their sums
+-- a state to which a report comes, with its sums
 abbrev pub Ready : State → List ℕ → Type 0
 Ready Start sums = sums ≡ none
-Ready (File left long) sums = (long ≤ longestFile) × Room (left + 1) sums
+Ready (File left long) sums = (long ≤ longestFile) × SumsRoom (left + 1) sums
 Ready End sums = Unit
 
--- there are no more steps from a state on
+-- the greatest number of steps from a state on
 abbrev pub mostSteps : State → ℕ
 mostSteps Start = mostMaps + 1
 mostSteps (File left long) = left + 1
@@ -54,7 +54,7 @@ mostSteps End = 0
 
 -- ---- what each step promises
 
--- no line is longer: six numbers of eight digits
+-- the greatest length of a line: six numbers of eight digits
 abbrev pub longestLine : ℕ
 longestLine = 54
 
@@ -71,7 +71,7 @@ pub record RefusedAs (sums out : List ℕ) (at : ℕ) (r : Fed) (out′ : List �
   pub lines : Put out at (refusedLine 11) out′ (r .printed)
   pub short : r .printed ≤ at + longestLine
 
--- what comes ahead, printed from the place `at` on
+-- what comes ahead: the next state, the sums, and the lines printed from the place `at` on
 pub record AheadAs (left : ℕ) (sums tail out : List ℕ) (at : ℕ) (r : Fed) (out′ : List ℕ) : Type 0 where
   pub state : r .state ≡ stateAhead left tail
   pub total : r .sums ≡ sums
@@ -79,7 +79,7 @@ pub record AheadAs (left : ℕ) (sums tail out : List ℕ) (at : ℕ) (r : Fed) 
   pub lines : Put out at (linesAhead left sums tail) out′ (r .printed)
   pub short : r .printed ≤ at + longestLine
 
--- the state after a step, the sums, and what was printed at the start of the output
+-- the promise of a step: the next state, the sums, and the lines printed at the start of the output
 pub record FedAs (s : State) (sums p out : List ℕ) (r : Fed) (out′ : List ℕ) : Type 0 where
   pub state : r .state ≡ stateAfter s p
   pub total : r .sums ≡ sumsAfter s p sums
@@ -99,8 +99,9 @@ pub record Worked (s : State) (p t u t′ u′ : List ℕ) : Type 0 where
 
 -- ---- a run
 
--- steps from a state on to the end of the report, each with as much of the input b as it wants and there is, and what they print together
-pub data Run : State → List ℕ → List ℕ → List ℕ → Type 0 where
-  ended : {sums b : List ℕ} → Run End sums b []
+-- A run: steps from a state to the end of the report, and what they print together. Each step gets as much of the input b as it wants, or what is
+-- left of it.
+pub data ReportRun : State → List ℕ → List ℕ → List ℕ → Type 0 where
+  ended : {sums b : List ℕ} → ReportRun End sums b []
   fed : {s : State} {sums b out : List ℕ} {r : Fed} {out′ l : List ℕ} → 2 * longestLine ≤ length out → FedAs s sums (take (wants s) b) out r out′
-      → Run (r .state) (r .sums) (drop (wants s) b) l → Run s sums b (take (r .printed) out′ ++ l)
+      → ReportRun (r .state) (r .sums) (drop (wants s) b) l → ReportRun s sums b (take (r .printed) out′ ++ l)

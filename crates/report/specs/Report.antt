@@ -1,4 +1,4 @@
--- The report program: what it prints for what stands on its standard input, a two-byte number of maps and each map file after a two-byte length.
+-- The report program: what it prints for the bytes of its standard input, a two-byte number of maps and each map file after a two-byte length.
 use Prim.Native.Nat.{ℕ, zero, suc, _+_}
 use mathlib.Core.Bool.{Bool, cond}
 use mathlib.Core.List.{List, _++_}
@@ -20,14 +20,14 @@ use Rattle.program.specs.Opening.{longestFile, fileDimension, fileSlots, fileTa
 unfoldable pub countLine : List ℕ → List ℕ
 countLine c = numbersLine (list countSize (λ i. getD c i 0))
 
--- two times six numbers, added one by one
+-- six numbers added to six, one by one
 unfoldable pub sum : List ℕ → List ℕ → List ℕ
 sum a c = list countSize (λ i. getD a i 0 + getD c i 0)
 
 -- ---- a map, by the bytes of its file
 
 module _ (f : List ℕ) where
-  -- the bench would not refuse it
+  -- the bench program would not refuse the map
   unfoldable pub accepted : Bool
   accepted = eqb (number (openAnswer f)) 0
 
@@ -38,7 +38,7 @@ module _ (f : List ℕ) where
   unfoldable pub mapLine : List ℕ
   mapLine = cond accepted (countLine fileCounts) (refusedLine (number (openAnswer f)))
 
-  -- the sums of the maps before it, with its own: one that is refused adds nothing
+  -- the sums with the counts of this map; a map that is refused adds nothing
   unfoldable pub summed : List ℕ → List ℕ
   summed sums = cond accepted (sum sums fileCounts) sums
 
@@ -55,8 +55,8 @@ module _ (b : List ℕ) where
   unfoldable pub behindFirst : List ℕ
   behindFirst = drop (2 + numberAt 2 b 0) b
 
--- what is printed for k maps, after which nothing may come, where `sums` are those of the maps before; a fault ends the report, and the lines
--- before it stay
+-- What is printed for the last k maps, after which nothing may come. `sums` are those of the maps before. A fault ends the report, and the lines
+-- before it stay.
 unfoldable pub mapsFrom : ℕ → List ℕ → List ℕ → List ℕ
 mapsFrom zero sums b = cond (eqb (length b) 0) (countLine sums) (refusedLine 11)
 mapsFrom (suc k) sums b = cond (whole b) (mapLine (firstFile b) ++ mapsFrom k (summed (firstFile b) sums) (behindFirst b)) (refusedLine 11)

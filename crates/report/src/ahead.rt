@@ -7,9 +7,9 @@ use program::lines::refused_line;
 use program::opening::LONGEST_FILE;
 ghost use Prim.Native.Nat.{_+_, _≤_};
 ghost use lib.ListN.{length};
-ghost use Rattle.report.specs.Promises.{longestLine, Room, RefusedAs, AheadAs};
+ghost use Rattle.report.specs.Promises.{longestLine, SumsRoom, RefusedAs, AheadAs};
 
-// The report ends with refusal 11.
+// Ends the report with refusal 11.
 pub fn refuse(sums: [u32; 6], out: &mut [u8], at: usize) -> Fed
     requires { ⌜ at + longestLine ≤ length (now out) ⌝ }
     ensures { λ r. ⌜ RefusedAs sums (now (out .entry)) at r (now (out .exit)) ⌝ }
@@ -21,9 +21,9 @@ pub fn refuse(sums: [u32; 6], out: &mut [u8], at: usize) -> Fed
     }
 }
 
-// Where no map is left the totals are printed, unless a byte comes after the last map.
+// Ends the report after the last map: prints the totals, or refuses if a byte comes after it.
 fn last(sums: [u32; 6], tail: &[u8], out: &mut [u8], at: usize) -> Fed
-    requires { ⌜ Room 0 sums ⌝ }
+    requires { ⌜ SumsRoom 0 sums ⌝ }
     requires { ⌜ at + longestLine ≤ length (now out) ⌝ }
     ensures { λ r. ⌜ AheadAs 0 sums (now (tail .entry)) (now (out .entry)) at r (now (out .exit)) ⌝ }
 {
@@ -37,9 +37,9 @@ fn last(sums: [u32; 6], tail: &[u8], out: &mut [u8], at: usize) -> Fed
     }
 }
 
-// What comes ahead of `left` maps, where `tail` stands behind what was read.
+// Goes on with `left` maps to come. `tail` is what follows in the piece: the length of the next file, or nothing after the last map.
 pub fn ahead(left: usize, sums: [u32; 6], tail: &[u8], out: &mut [u8], at: usize) -> Fed
-    requires { ⌜ Room left sums ⌝ }
+    requires { ⌜ SumsRoom left sums ⌝ }
     requires { ⌜ at + longestLine ≤ length (now out) ⌝ }
     ensures { λ r. ⌜ AheadAs left sums (now (tail .entry)) (now (out .entry)) at r (now (out .exit)) ⌝ }
 {

@@ -1,5 +1,5 @@
-// The report program on slices, step by step: in each state it wants some bytes of the input, and what it gets of them brings it to the next
-// state, with lines to print.
+// The report program on slices, step by step. In each state it wants some bytes of the input. What it gets of them brings it to the next state, with
+// lines to print.
 mod ahead;
 mod lines;
 mod map;
@@ -14,9 +14,12 @@ ghost use lib.ListN.{length};
 ghost use Rattle.model.specs.Map.{tableSize};
 ghost use Rattle.program.specs.Opening.{mostSlots, longestFile};
 ghost use Rattle.report.specs.Steps.{wants};
-ghost use Rattle.report.specs.Promises.{none, longestLine, Room, Within, Ready, FedAs, Worked};
+ghost use Rattle.report.specs.Promises.{none, longestLine, SumsRoom, Within, Ready, FedAs, Worked};
 
-// Before the number of maps; before the file of a map, with how many maps come after it and how long its file is; or at the end of the report.
+// Where a report is:
+// - `Start`: the number of maps comes next.
+// - `File`: a map file of `long` bytes comes next, and `left` maps come after it.
+// - `End`: the report has ended.
 pub enum State {
     Start,
     File { left: usize, long: usize },
@@ -30,7 +33,7 @@ pub struct Fed {
     pub printed: usize,
 }
 
-// How many bytes of the input are wanted; none at the end of the report.
+// How many bytes of the input the next step wants; none at the end of the report.
 pub fn wanted(s: State) -> usize
     requires { ⌜ Within s ⌝ }
     ensures { λ r. ⌜ r ≡ wants s ⌝ }
@@ -42,7 +45,7 @@ pub fn wanted(s: State) -> usize
     }
 }
 
-// The number of maps, and what comes after it.
+// The first step: reads the number of maps, and what comes after it.
 fn begin(sums: [u32; 6], piece: &[u8], out: &mut [u8]) -> Fed
     requires { ⌜ sums ≡ none ⌝ }
     requires { ⌜ 2 * longestLine ≤ length (now out) ⌝ }
@@ -57,7 +60,7 @@ fn begin(sums: [u32; 6], piece: &[u8], out: &mut [u8]) -> Fed
     ahead(maps, sums, &piece[2..size], out, 0)
 }
 
-// The file of a map, and what comes after it.
+// A step over the file of a map: prints its line, and reads what comes after it.
 fn file(
     left: usize,
     long: usize,
@@ -67,7 +70,7 @@ fn file(
     store: &mut [u32],
     out: &mut [u8],
 ) -> Fed
-    requires { ⌜ Room (left + 1) sums ⌝ }
+    requires { ⌜ SumsRoom (left + 1) sums ⌝ }
     requires { ⌜ long ≤ longestFile ⌝ }
     requires { ⌜ length (now table) ≡ tableSize mostSlots ⌝ }
     requires { ⌜ length (now store) ≡ 16 * mostSlots ⌝ }
@@ -84,7 +87,8 @@ fn file(
     ahead(left, total, &piece[long..size], out, line.printed)
 }
 
-// A step, with the sums of the maps before it and the bytes that there were of those wanted. Table and store are working space.
+// Takes a step. `sums` are those of the maps before it, and `piece` is as many of the wanted bytes as the input has. Table and store are working
+// space.
 pub fn feed(
     s: State,
     sums: [u32; 6],

@@ -13,15 +13,15 @@ ghost use Rattle.model.specs.Count.{counts as countsOf};
 ghost use Rattle.model.specs.Calls.{checkTable};
 ghost use Rattle.program.specs.Opening.{mostSlots};
 ghost use Rattle.report.specs.Report.{sum as sumOf};
-ghost use Rattle.report.specs.Promises.{longestLine, Room, Few, Lined, MapWorked};
+ghost use Rattle.report.specs.Promises.{longestLine, SumsRoom, Few, Lined, MapWorked};
 
-// How many bytes were printed, and the sums with the map.
+// How many bytes were printed, and the sums with the map's counts.
 pub struct Line {
     pub printed: usize,
     pub sums: [u32; 6],
 }
 
-// The numbers of a map that is well-formed. The store is working space, and comes back zero.
+// The counts of a well-formed map. The store is working space, and is zero afterwards.
 fn counts(n: u32, slots: u32, table: &[u32], store: &mut [u32]) -> [u32; 6]
     requires { ⌜ number (checkTable n slots (now table)) ≡ 0 ⌝ }
     requires { ⌜ length (now store) ≡ 16 * slots ⌝ }
@@ -33,9 +33,9 @@ fn counts(n: u32, slots: u32, table: &[u32], store: &mut [u32]) -> [u32; 6]
     c
 }
 
-// Six numbers added to six.
+// Adds six numbers to six, one by one.
 fn sum(a: [u32; 6], c: [u32; 6]) -> [u32; 6]
-    requires { ⌜ Room 1 a ⌝ }
+    requires { ⌜ SumsRoom 1 a ⌝ }
     requires { ⌜ Few c ⌝ }
     ensures { λ r. ⌜ r ≡ sumOf a c ⌝ }
 {
@@ -48,7 +48,8 @@ fn sum(a: [u32; 6], c: [u32; 6]) -> [u32; 6]
     r
 }
 
-// Prints the counts of the file's map, or its refusal; one that is refused adds nothing to the sums. Table and store are working space.
+// Prints the counts of the file's map and adds them to the sums. If the file is refused, prints the refusal and adds nothing. Table and store are
+// working space.
 pub fn map_line(
     file: &[u8],
     sums: [u32; 6],
@@ -56,7 +57,7 @@ pub fn map_line(
     store: &mut [u32],
     out: &mut [u8],
 ) -> Line
-    requires { ⌜ Room 1 sums ⌝ }
+    requires { ⌜ SumsRoom 1 sums ⌝ }
     requires { ⌜ length (now table) ≡ tableSize mostSlots ⌝ }
     requires { ⌜ length (now store) ≡ 16 * mostSlots ⌝ }
     requires { ⌜ longestLine ≤ length (now out) ⌝ }

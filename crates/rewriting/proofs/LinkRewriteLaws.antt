@@ -19,7 +19,7 @@ use Rattle.model.specs.Conditions.{Arc, absent, explicit, implicit, arcAt}
 use Rattle.model.specs.Site.{Site, Sound}
 use Rattle.model.specs.Edit.{Pair, dartOf, pairOf, afterDeletion, edited}
 use Rattle.model.proofs.MapLaws.{state-not-link, tag-not-link}
-use Rattle.model.proofs.AcceptedLaws.{small}
+use Rattle.model.proofs.AcceptedLaws.{one-side, small}
 use Rattle.model.proofs.ArcLaws.{explicit-end, implicit-from, absent-from, off-side}
 use Rattle.model.proofs.CodeLaws.{small-arc, one-arc}
 use Rattle.model.proofs.KindLaws.{added-right, both-preserved}
@@ -101,7 +101,7 @@ module _ {slots : ℕ} {M : Map} {store : List ℕ} {size : ℕ} {lefts rights :
   legible : (v i : ℕ) → v < S .nodes → (a : Arc) → arcAt S right v i ≡ a → Legible slots store size rows (arcCode a)
   legible v i h absent e = none-legible
   legible v i h (explicit t) e =
-      let b = explicit-end S right (accepted .sides right) v i t e .0 in
+      let b = explicit-end S right (one-side accepted right) v i t e .0 in
       let few = accepted .shaped .nodesFew in
       let long = R .stored in
       record { node = λ l. let w = R .darts .inside t b .1 in omega arith; position = λ l k. absurd (omega arith) }
@@ -158,7 +158,7 @@ module _ {slots : ℕ} {M : Map} {store : List ℕ} {size : ℕ} {lefts rights :
       ⊎-elim
       (λ e. e)
       (λ e.
-      let none : arcAt S right (k / 4) (k % 4) ≡ absent = off-side S right (accepted .sides right) (k / 4) (k % 4) v (omega arith) e in
+      let none : arcAt S right (k / 4) (k % 4) ≡ absent = off-side S right (one-side accepted right) (k / 4) (k % 4) v (omega arith) e in
       let is : arcCode (arcAt S right (k / 4) (k % 4)) ≡ 255 = ap arcCode none in
       ⊎-elim (λ w. absurd (omega (arith, w .0))) (λ w. absurd (omega arith)) (code-cases (k / 4) (k % 4) v (omega arith)))
       (true-or-false (has S right (k / 4)))
@@ -220,7 +220,7 @@ module _ {slots : ℕ} {M : Map} {store : List ℕ} {size : ℕ} {lefts rights :
           ∙ sym (L.link-kept ready (P r) v (place-in (R .walked) r hr) hv k i (left-not-added S v z) a))
           (λ z. ⊎-elim
           (λ w.
-          let some-arc = accepted .allRight v i hv (leb-true i (S .n) w) z in
+          let some-arc = accepted .consistent .incidence v hv .allRight i (leb-true i (S .n) w) z in
           let no-arc = absent-from S right v i a in
           absurd (omega arith))
           (λ w.
@@ -237,7 +237,7 @@ module _ {slots : ℕ} {M : Map} {store : List ℕ} {size : ℕ} {lefts rights :
       link-stands : (i : ℕ) → i ≤ 3 → arcAt S left v i ≡ arcAt S right v i → M .link i (D (P r) v) ≡ new .link i (D (P r) v)
       link-stands i l same = ⊎-elim
           (λ z. old z (Link i) ∙ sym (L.link-same ready (P r) v (place-in (R .walked) r hr) hv k i l z same))
-          (λ z. link-absent i l (sym same ∙ off-side S left (accepted .sides left) v i hv (omega arith) (added-not-left S v z)))
+          (λ z. link-absent i l (sym same ∙ off-side S left (one-side accepted left) v i hv (omega arith) (added-not-left S v z)))
           (L.kinds ready v hv)
 
       -- a link that is not written
@@ -250,7 +250,7 @@ module _ {slots : ℕ} {M : Map} {store : List ℕ} {size : ℕ} {lefts rights :
           → linked .link i (dart v r) ≡ new .link i (D (P r) v)
       link-written i l absent a is = link-left i l is ∙ link-absent i l a
       link-written i l (explicit t) a is =
-          let b = explicit-end S right (accepted .sides right) v i t a .0 in
+          let b = explicit-end S right (one-side accepted right) v i t a .0 in
           let few = accepted .shaped .nodesFew in
           relinked-node slots store size rows codes c different named v i r (counted hv) k (omega arith) hr t is M (omega arith)
           ∙ dart-is t r b hr ∙ sym (L.link-explicit ready (P r) v (place-in (R .walked) r hr) hv k i t a)

@@ -27,7 +27,7 @@ use Rattle.orbit.specs.Store.{mark, place, next, dartAt, Kept, Assigned}
 use Rattle.orbit.specs.At.{site}
 use Rattle.orbit.proofs.StoreLaws.{among-of, among-same}
 use Rattle.orbit.proofs.PlaceLaws.{place-in, place-of, place-once, marked-in}
-use Rattle.rewriting.specs.Darts.{HoldsSlots, rowStart, Bare, Tagged}
+use Rattle.rewriting.specs.Darts.{HoldsSlots, rowStart, Bare, TagsNoted}
 use Rattle.rewriting.specs.Room.{Noted, Donating, Gathered, cleared, DeletedRows, BeforeRoom, Roomy}
 use Rattle.rewriting.proofs.LinkWriteLaws.{pairDart, Different}
 use Rattle.rewriting.proofs.ClearLaws.{cleared-leaves, cleared-sets}
@@ -191,7 +191,7 @@ module _ {before : Map} {s : List ℕ} {size : ℕ} {nodes : List ℕ} {many : �
           ∙ ap (λ (u : ℕ). image E u v) (sym (place-kept r b));
     }
 
-    tagged-of : Tagged E s′ size
+    tagged-of : TagsNoted E s′ size
     unfolding dartAt
     tagged-of = record {
       at = λ u v e h a.

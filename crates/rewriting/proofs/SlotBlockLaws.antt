@@ -23,7 +23,7 @@ use Rattle.model.specs.Site.{Site}
 use Rattle.orbit.specs.Store.{mark, place}
 use Rattle.orbit.specs.At.{At, site, ofSlots}
 use Rattle.rewriting.specs.Darts.{Grant}
-use Rattle.rewriting.specs.Slots.{Granting, Turn, early, Placed, NoDigits, digitWords, Digits, Block}
+use Rattle.rewriting.specs.Slots.{Granting, Turn, early, PlacesMarked, NoDigits, digitWords, Digits, Block}
 use Rattle.orbit.proofs.StoreLaws.{among-at, among-of}
 use Rattle.orbit.proofs.PlaceLaws.{marked-in}
 use Rattle.rewriting.proofs.SlotTurnLaws.{good}
@@ -70,7 +70,7 @@ digits-none N s l z = record {
 
 -- ---- one digit more
 
-module _ (N : ℕ) (s : List ℕ) (size : ℕ) (P : Placed N s size) (r : ℕ) (h : r < size) where
+module _ (N : ℕ) (s : List ℕ) (size : ℕ) (P : PlacesMarked N s size) (r : ℕ) (h : r < size) where
   fresh : early N s r (place N s r) ≡ false
   fresh = impossible _ (λ e. let m = early-at N s r (place N s r) e in omega (arith, P .back r h))
 

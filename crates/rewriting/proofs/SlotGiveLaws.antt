@@ -22,9 +22,9 @@ use Rattle.model.proofs.AcceptedLaws.{kind-cases}
 use Rattle.model.proofs.RankLaws.{rank-low, dart-left}
 use Rattle.orbit.specs.Store.{mark, place, next, dartAt, Kept, Assigned}
 use Rattle.orbit.specs.At.{At, site, ofSlots}
-use Rattle.rewriting.specs.Darts.{Darts, Given, rowStart, Grant, Bare, Tagged}
+use Rattle.rewriting.specs.Darts.{Darts, Given, rowStart, Grant, Bare, TagsNoted}
 use Rattle.rewriting.specs.Slots.{Apart, RowsBegin, Due, Granting}
-use Rattle.rewriting.specs.Slots.{Placed, blockCount, Behind, Digits, Block, BeforeBlocks, BeforeGiving, Granted}
+use Rattle.rewriting.specs.Slots.{PlacesMarked, blockCount, Behind, Digits, Block, BeforeBlocks, BeforeGiving, Granted}
 use Rattle.orbit.proofs.StoreLaws.{among-same}
 use Rattle.orbit.proofs.PlaceLaws.{places-few, place-in, marked-in}
 use Rattle.orbit.proofs.WalkLaws.{walked-kept}
@@ -37,12 +37,12 @@ use Rattle.rewriting.proofs.SlotBlockLaws.{early-orbit}
 module _ {m₀ : Map} {s₀ : List ℕ} {A : At m₀} {size many : ℕ} (G : Grant A s₀ size many) where
   open Site (site A) using (orbit as O)
 
-  pub granting-start : {m : Map} → Bare (site A) m → Tagged (site A) s₀ size → Granting A s₀ size (countBelow 0 O * many) 0 m s₀
+  pub granting-start : {m : Map} → Bare (site A) m → TagsNoted (site A) s₀ size → Granting A s₀ size (countBelow 0 O * many) 0 m s₀
   unfolding countBelow
   granting-start b g = let z : 0 * many ≡ 0 = omega arith in rw z (granting-none G b g)
 
   -- where no node is added, there is nothing to give
-  granting-idle : {m : Map} → Bare (site A) m → Tagged (site A) s₀ size → many ≡ 0 → Granting A s₀ size (countBelow (m₀ .slots) O * many) 0 m s₀
+  granting-idle : {m : Map} → Bare (site A) m → TagsNoted (site A) s₀ size → many ≡ 0 → Granting A s₀ size (countBelow (m₀ .slots) O * many) 0 m s₀
   granting-idle b g e = let z : countBelow (m₀ .slots) O * many ≡ 0 = rw e (omega arith) in rw z (granting-none G b g)
 
   -- the digits of a block of the orbit, from its two words in a store s that has the digits of s₀
@@ -95,7 +95,7 @@ module _ {N : ℕ} {M : Map} {s : List ℕ} {size : ℕ} {nodes : List ℕ} {man
   shaped : Shaped S
   shaped = R .at .sound .accepted .shaped
 
-  pub placed-of : Placed N s size
+  pub placed-of : PlacesMarked N s size
   placed-of = record {
     few = R .at .few;
     long = G .long;
@@ -117,7 +117,7 @@ module _ {N : ℕ} {M : Map} {s : List ℕ} {size : ℕ} {nodes : List ℕ} {man
       nexts = λ r p h l. B .kept (4 * N + 4 * r + p) (omega (arith, G .walked .fits));
     }
 
-    pub behind-tagged : Tagged E s₁ size
+    pub behind-tagged : TagsNoted E s₁ size
     unfolding dartAt mark
     behind-tagged = record {
       at = λ u v e h a.

@@ -35,8 +35,8 @@ use Rattle.table.proofs.WriteLaws.{set-same, set-other, links-leave}
 use Rattle.orbit.specs.Store.{mark, dartAt}
 use Rattle.orbit.specs.At.{At, site}
 use Rattle.orbit.proofs.PlaceLaws.{marked-in, mark-once}
-use Rattle.rewriting.specs.Darts.{newField, rowStart, Grant, Bare, Tagged}
-use Rattle.rewriting.specs.Slots.{Room, Lowest, revived, Due, Granting, Turn}
+use Rattle.rewriting.specs.Darts.{newField, rowStart, Grant, Bare, TagsNoted}
+use Rattle.rewriting.specs.Slots.{SlotLeft, Lowest, revived, Due, Granting, Turn}
 
 -- ---- the scan for an unused slot
 
@@ -50,7 +50,7 @@ scan-start state from = record { late = omega arith; none = λ z g h. absurd (om
 
 module _ {state : ℕ → ℕ} {from y : ℕ} (p : Scanned state from y) where
   -- the scan does not pass the unused slot that there is
-  pub scan-inside : {N : ℕ} → Room N state from → y < N
+  pub scan-inside : {N : ℕ} → SlotLeft N state from → y < N
   scan-inside R = by-cases (decLt (R .slot) y) (λ h. absurd (p .none (R .slot) (R .late) h (R .is))) (λ h. omega (arith, R .fits))
 
   pub scan-more : (k y′ : ℕ) → k ≡ state y → (k ≡ 0 → ⊥) → y′ ≡ y + 1 → Scanned state from y′
@@ -59,7 +59,7 @@ module _ {state : ℕ → ℕ} {from y : ℕ} (p : Scanned state from y) where
     none = λ z g h f. by-cases (ℕ-discrete z y) (λ w. n (e ∙ ap state (sym w) ∙ f)) (λ w. p .none z g (omega arith) f);
   }
 
-  pub scan-found : {N : ℕ} (k : ℕ) → Room N state from → k ≡ state y → k ≡ 0 → Lowest N state from y
+  pub scan-found : {N : ℕ} (k : ℕ) → SlotLeft N state from → k ≡ state y → k ≡ 0 → Lowest N state from y
   scan-found k R e z = record { fits = scan-inside R; late = p .late; is = sym e ∙ z; first = p .none }
 
 -- ---- one slot
@@ -109,7 +109,7 @@ module _ {m₀ : Map} {s₀ : List ℕ} {A : At m₀} {size many : ℕ} (G : Gra
   abbrev bare : Map
   bare = afterDeletion E
 
-  pub granting-none : {m′ : Map} → Bare E m′ → Tagged E s₀ size → Granting A s₀ size 0 0 m′ s₀
+  pub granting-none : {m′ : Map} → Bare E m′ → TagsNoted E s₀ size → Granting A s₀ size 0 0 m′ s₀
   unfolding countBelow
   granting-none b g = record {
     storeLong = refl;
@@ -169,7 +169,7 @@ module _ {m₀ : Map} {s₀ : List ℕ} {A : At m₀} {size many : ℕ} (G : Gra
     ahead y h = g .other y State (λ u v d e. omega (arith, g .low u v d))
 
     -- while there is room, a slot from `free` on is unused
-    pub room-ahead : done < countBelow N can → Room N (m′ .state) free
+    pub room-ahead : done < countBelow N can → SlotLeft N (m′ .state) free
     room-ahead h =
         let r = count-reaches can N done h in
         let late : free ≤ r .0 = by-cases (decLt (r .0) free)
@@ -308,7 +308,7 @@ module _ {N₁ : ℕ} {M : Map} {s : List ℕ} {size many r free : ℕ} (T : Tur
 
     module _ {from : ℕ} {m′ : Map} {s′ : List ℕ}
         (g : Granting (T .at) (T .store) size (countBelow u O * many + a) from m′ s′) where
-      pub turn-room : Room N₁ (m′ .state) from
+      pub turn-room : SlotLeft N₁ (m′ .state) from
       turn-room =
           let n = node in
           let b = rank-low (site (T .at)) (good (T .grant) .slot) u (n .0) (T .inOrbit) (n .1) (n .2) in

@@ -46,7 +46,7 @@ module _ (E : Site) where
     pub at : (f : Field) (y : ℕ) → fieldOf m′ f y ≡ fieldOf (afterDeletion E) f y
 
   -- where the darts of the added pairs will stand, the store has the tags for them
-  pub record Tagged (s : List ℕ) (size : ℕ) : Type 0 where
+  pub record TagsNoted (s : List ℕ) (size : ℕ) : Type 0 where
     pub at : (u v : ℕ) → O u ≡ true → v < S .nodes → added S v ≡ true
         → dartAt s (rowStart (m .slots) size (countBelow v (added S))) (mark s u - 1) ≡ m .tag (image E u (donor S v))
 

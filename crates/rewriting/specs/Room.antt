@@ -14,7 +14,7 @@ use Rattle.model.specs.Scheme.{added}
 use Rattle.table.specs.Writes.{zeroed}
 use Rattle.orbit.specs.Store.{dartAt, Kept, Assigned}
 use Rattle.orbit.specs.At.{At, site}
-use Rattle.rewriting.specs.Darts.{HoldsSlots, rowStart, Bare, Tagged, Grant}
+use Rattle.rewriting.specs.Darts.{HoldsSlots, rowStart, Bare, TagsNoted, Grant}
 
 -- ---- the tags
 
@@ -75,6 +75,6 @@ pub record BeforeRoom (m : Map) (s : List ℕ) (size : ℕ) (nodes : List ℕ) (
 
 pub record Roomy {m : Map} (A : At m) (s : List ℕ) (size : ℕ) (rows : List ℕ) (m′ : Map) (s′ : List ℕ) : Type 0 where
   pub bare : Bare (site A) m′
-  pub tagged : Tagged (site A) s′ size
+  pub tagged : TagsNoted (site A) s′ size
   pub kept : Kept (m .slots) s s′ size
   pub assigned : Assigned (site A) s′ rows size

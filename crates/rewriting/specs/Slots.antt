@@ -19,12 +19,12 @@ use Rattle.model.specs.Edit.{isFree, rank, dartOf, afterDeletion}
 use Rattle.table.specs.Writes.{setAt, withField}
 use Rattle.orbit.specs.Store.{mark, place, dartAt, among, Kept, Assigned}
 use Rattle.orbit.specs.At.{At, site, ofSlots}
-use Rattle.rewriting.specs.Darts.{Darts, newField, Given, rowStart, Grant, Bare, Tagged}
+use Rattle.rewriting.specs.Darts.{Darts, newField, Given, rowStart, Grant, Bare, TagsNoted}
 
 -- ---- one slot
 
 -- some slot from `from` on is unused
-pub record Room (N : ℕ) (state : ℕ → ℕ) (from : ℕ) : Type 0 where
+pub record SlotLeft (N : ℕ) (state : ℕ → ℕ) (from : ℕ) : Type 0 where
   pub slot : ℕ
   pub fits : slot < N
   pub late : from ≤ slot
@@ -104,7 +104,7 @@ unfoldable pub early : ℕ → List ℕ → ℕ → ℕ → Bool
 early N s r x = ltb x N and among s r x
 
 -- the first `size` places hold different slots, each marked with its place
-pub record Placed (N : ℕ) (s : List ℕ) (size : ℕ) : Type 0 where
+pub record PlacesMarked (N : ℕ) (s : List ℕ) (size : ℕ) : Type 0 where
   pub few : N ≤ maxSlots
   pub long : length s ≡ 16 * N
   pub fits : size ≤ N
@@ -152,7 +152,7 @@ pub record BeforeBlocks (N : ℕ) (m : Map) (s : List ℕ) (size many : ℕ) : T
   pub at : At (ofSlots N before)
   pub grant : Grant at s size many
   pub bare : Bare (site at) m
-  pub tagged : Tagged (site at) s size
+  pub tagged : TagsNoted (site at) s size
   pub digits : Digits N s size s
 
 -- what the giving of slots is handed by the phases before it: `nodes` lists the added nodes of the scheme, ascending
@@ -161,7 +161,7 @@ pub record BeforeGiving (N : ℕ) (m : Map) (s : List ℕ) (size : ℕ) (nodes :
   pub at : At (ofSlots N before)
   pub grant : Grant at s size many
   pub bare : Bare (site at) m
-  pub tagged : Tagged (site at) s size
+  pub tagged : TagsNoted (site at) s size
   pub node : (a : ℕ) → a < many → nthLowest (at .scheme .nodes) (added (at .scheme)) a ≡ some (getD nodes a 0)
   pub assigned : Assigned (site at) s rows size
   pub wide : length rows ≡ 16

@@ -13,13 +13,13 @@ ghost use Rattle.base.specs.Below.{countBelow};
 ghost use Rattle.model.specs.Map.{view, maxSlots};
 ghost use Rattle.table.specs.Words.{Sized};
 ghost use Rattle.orbit.specs.At.{site};
-ghost use Rattle.rewriting.specs.Slots.{Room, Lowest, revived, Apart, RowsBegin, Turn, Granting};
-ghost use Rattle.rewriting.specs.Slots.{Placed, blockCount, digitWords, NoDigits, Digits, Block, BeforeBlocks, BeforeGiving, Granted};
+ghost use Rattle.rewriting.specs.Slots.{SlotLeft, Lowest, revived, Apart, RowsBegin, Turn, Granting};
+ghost use Rattle.rewriting.specs.Slots.{PlacesMarked, blockCount, digitWords, NoDigits, Digits, Block, BeforeBlocks, BeforeGiving, Granted};
 
 // The lowest unused slot from `from` on. Four slots a turn: in a full table this scan is most of what an added dart costs.
 fn lowest(slots: usize, table: &[u32], from: usize) -> usize
     requires { ⌜ Sized slots (now table) ⌝ }
-    requires { ⌜ Room slots (view slots (now table) .state) from ⌝ }
+    requires { ⌜ SlotLeft slots (view slots (now table) .state) from ⌝ }
     ensures { λ r. ⌜ Lowest slots (view slots (now (table .entry)) .state) from r ⌝ }
 {
     let mut y = from;
@@ -119,7 +119,7 @@ fn clear_bits(slots: usize, store: &mut [u32])
 
 // The darts at the first `size` places as binary digits, 32 slots a word, so that they can be taken ascending.
 fn mark_bits(slots: usize, store: &mut [u32], size: usize)
-    requires { ⌜ Placed slots (now store) size ⌝ }
+    requires { ⌜ PlacesMarked slots (now store) size ⌝ }
     requires { ⌜ NoDigits slots (now store) (digitWords slots) (now store) ⌝ }
     ensures { λ _. ⌜ Digits slots (now (store .entry)) size (now (store .exit)) ⌝ }
 {

@@ -23,7 +23,7 @@ use Rattle.model.specs.Scheme.{Side, before, arcForm, arcsForm, arcsOf}
 use Rattle.frame.specs.Place.{ArcAt}
 use Rattle.scheme.specs.Words.{sideOf}
 use Rattle.scheme.specs.Arcs.{ArcsPlaced, ArcsRead, keyOf, arcTest}
-use Rattle.scheme.specs.Targets.{Linked, twiceTo}
+use Rattle.scheme.specs.Targets.{ArcLinked, twiceTo}
 use Rattle.frame.specs.declared.cursor.Arc.{Arc}
 use Rattle.frame.specs.declared.Layout.{Layout}
 use Rattle.model.proofs.FormLaws.{arc-parts}
@@ -194,9 +194,9 @@ module _ (b : List ℕ) (l : Layout) (kinds : List ℕ) (other from : ℕ) (plac
   joined-form-at {r} {a} {at} {low} {n} {nodes} j q nIs nodesIs e =
       e ∙ rw (q .dIs, q .sIs, q .tIs) (arc-same a low n nodes (j .formed) (j .next) nIs nodesIs)
 
-  -- an arc more
+  -- one more arc
   pub joined-more : {a at low d s t k next : ℕ} {targets targets′ : List ℕ} {twice twice′ : List Bool} → Joined b other a at low targets twice
-      → Read a d s t → arcForm b side a ≡ true → next ≡ at + 3 → k ≡ keyOf d s t → Linked d s t targets twice targets′ twice′
+      → Read a d s t → arcForm b side a ≡ true → next ≡ at + 3 → k ≡ keyOf d s t → ArcLinked d s t targets twice targets′ twice′
       → Joined b other (a + 1) next (k + 1) targets′ twice′
   joined-more {a} j r q p keyIs e =
       let n = ends a q in
@@ -216,7 +216,7 @@ module _ (b : List ℕ) (l : Layout) (kinds : List ℕ) (other from : ℕ) (plac
 
   -- ---- all arcs
 
-  -- the arcs as they stand
+  -- the arcs are stored as the value has them
   arcs-value : {arcs blank : List ℕ} {at count : ℕ} → blank ≡ replicate 192 0 → at ≡ from + 1 → count ≡ arcCount b side
       → arcs ≡ stored blank 0 b at (3 * count) → arcs ≡ arcsOf b side
   unfolding arcsOf

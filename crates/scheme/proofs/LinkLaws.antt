@@ -1,4 +1,4 @@
--- The targets of a side, and its nodes with two arcs of a dimension, as its arcs are read.
+-- The targets of a side, and its nodes with two arcs of one dimension, as its arcs are read.
 use Prim.Native.Nat.{ℕ, _+_, _*_, _/_, _%_, _≤_, _<_}
 use mathlib.Core.Path.{_≡_, refl, sym, ap, ap₂, _∙_}
 use mathlib.Core.Logic.{by-cases, ⊎-elim}
@@ -24,17 +24,17 @@ use Rattle.model.specs.Bytes.{placesOf, nodesOf, wordAt}
 use Rattle.model.specs.Arc.{touching, farEnd}
 use Rattle.model.specs.Codes.{placeCode, placed, placedAt}
 use Rattle.model.specs.Scheme.{Side}
-use Rattle.scheme.specs.Targets.{aimed, crowded, Linked, loop, ends}
+use Rattle.scheme.specs.Targets.{aimed, crowded, ArcLinked, loop, ends}
 use Rattle.scheme.proofs.TargetLaws.{aim-taken, aim-left, hits, more, ends-at, ends-set, ends-kept}
 
 -- ---- one aim
 
--- an arc stands there: its node has two
+-- an arc is there: the node now has two
 pub crowded-taken : (targets : List ℕ) (twice : List Bool) (s at : ℕ) → (getD targets at 0 ≡ 255 → ⊥) → set twice s true ≡ crowded targets twice s at
 unfolding crowded
 crowded-taken targets twice s at e = rw (ne-eqb _ _ e) refl
 
--- nothing stands there: no node has two by this arc
+-- no arc is there: this one gives no node two
 pub crowded-free : (targets : List ℕ) (twice : List Bool) (s at : ℕ) → getD targets at 0 ≡ 255 → twice ≡ crowded targets twice s at
 unfolding crowded
 crowded-free targets twice s at e = rw (eq-eqb _ _ e) refl
@@ -45,7 +45,7 @@ Aimed s d to targets twice targets′ twice′ = (targets′ ≡ aimed targets (
 
 -- a loop is one aim
 pub loop-is : {d s t i x : ℕ} {targets targets′ : List ℕ} {twice twice′ : List Bool} → i ≡ d → x ≡ s → s ≡ t
-    → Aimed x i t targets twice targets′ twice′ → Linked d s t targets twice targets′ twice′
+    → Aimed x i t targets twice targets′ twice′ → ArcLinked d s t targets twice targets′ twice′
 loop-is {t = t} {targets = targets} {twice = twice} e f g (p, r) = loop g
     (p ∙ ap₂ (λ (y j : ℕ). aimed targets (4 * y + j) t) f e)
     (r ∙ ap₂ (λ (y j : ℕ). crowded targets twice y (4 * y + j)) f e)
@@ -53,7 +53,7 @@ loop-is {t = t} {targets = targets} {twice = twice} e f g (p, r) = loop g
 -- another arc is two aims
 pub ends-are : {d s t i x y : ℕ} {targets targets₁ targets′ : List ℕ} {twice twice₁ twice′ : List Bool} → i ≡ d → x ≡ s → y ≡ t
     → (s ≡ t → ⊥) → Aimed x i t targets twice targets₁ twice₁ → Aimed y i s targets₁ twice₁ targets′ twice′
-    → Linked d s t targets twice targets′ twice′
+    → ArcLinked d s t targets twice targets′ twice′
 ends-are e f g ne (p, r) (u, w) = ends ne (u ∙ rw (p, e, f, g) refl) (w ∙ rw (p, r, e, f, g) refl)
 
 -- ---- flags
@@ -77,11 +77,11 @@ module _ (place : ℕ → ℕ) where
   abbrev over : (ℕ → ℕ → ℕ) → ℕ → ℕ → Bool
   over N u i = leb 2 (N u i + bit (ltb (place (4 * u + i)) 255))
 
-  -- what stands for an implicit arc, or for none, is a byte that is no node
+  -- the code of an implicit arc, or of none, is no node
   abbrev pub Places : Type 0
   Places = (k : ℕ) → (16 ≤ place k) × (place k ≤ 255)
 
-  -- the targets show ends E, of which there are N: there is an end just where there are some
+  -- What the targets show. Node u has N u i explicit arcs of dimension i, and E u i is the far end of the first, if there is one.
   pub record Shown (E : ℕ → ℕ → Option ℕ) (N : ℕ → ℕ → ℕ) (targets : List ℕ) (twice : List Bool) : Type 0 where
     pub targetsAre : targets ≡ list 64 (λ k. Option·getD (E (k / 4) (k % 4)) (place k))
     pub twiceAre : twice ≡ list 16 (λ u. anyBelow 4 (λ i. leb 2 (N u i + bit (ltb (place (4 * u + i)) 255))))
@@ -100,7 +100,7 @@ module _ (place : ℕ → ℕ) where
     counted = λ u i x q. let l = w .counted u i x (e u i ∙ q) in omega (arith, n u i);
   }
 
-  -- the count with an arc of dimension d at node s more
+  -- the counts with one more arc, of dimension d at node s
   abbrev plus : (ℕ → ℕ → ℕ) → ℕ → ℕ → ℕ → ℕ → ℕ
   plus N d s u i = N u i + bit (hits d s u i)
 
@@ -111,13 +111,13 @@ module _ (place : ℕ → ℕ) where
         let q : hits d s u i ≡ false = and-no-right _ (ne-eqb s u (λ w. ne (sym w))) in
         ap (λ (m : ℕ). leb 2 (m + bit (ltb (place (4 * u + i)) 255))) (sym (ap (λ (t : Bool). N u i + bit t) q ∙ omega arith)))
 
-    -- an arc more where there was one, explicit or implicit, makes two
+    -- one more arc makes two if there was one, explicit or implicit
     made : 1 ≤ N s d + bit (ltb (place (4 * s + d)) 255) → anyBelow 4 (over (plus N d s) s) ≡ true
     made h = any-of 4 _ d hd
         (ap (λ (t : Bool). leb 2 (N s d + bit t + bit (ltb (place (4 * s + d)) 255))) (and-of (eq-eqb d d refl) (eq-eqb s s refl))
         ∙ le-leb 2 (N s d + 1 + bit (ltb (place (4 * s + d)) 255)) (omega arith))
 
-    -- an arc more where there was none makes no two
+    -- one more arc does not make two if there was none
     alone : N s d ≡ 0 → ltb (place (4 * s + d)) 255 ≡ false → (u : ℕ) → anyBelow 4 (over N u) ≡ anyBelow 4 (over (plus N d s) u)
     alone n0 free u = any-same 4 _ _ (λ i h. go u i (hits d s u i) refl)
       where
@@ -131,7 +131,7 @@ module _ (place : ℕ → ℕ) where
             ap₂ (λ (m : ℕ) (t : Bool). leb 2 (m + bit t)) n p
             ∙ sym (ap₂ (λ (m : ℕ) (t : Bool). leb 2 (m + bit t)) (ap₂ (λ (m : ℕ) (t : Bool). m + bit t) n q) p)
 
-    -- what stays true of ends and counts with an arc of dimension d from node s to `to` more
+    -- what stays true of ends and counts with one more arc, of dimension d from node s to `to`
     grown : {targets targets′ : List ℕ} {twice twice′ : List Bool} → to < 16 → Shown E N targets twice
         → targets′ ≡ list 64 (λ k. Option·getD (more E d s to (k / 4) (k % 4)) (place k))
         → twice′ ≡ list 16 (λ u. anyBelow 4 (over (plus N d s) u)) → Shown (more E d s to) (plus N d s) targets′ twice′
@@ -151,7 +151,7 @@ module _ (place : ℕ → ℕ) where
           (or-else-cases (E u i) (someIf (hits d s u i) to) x q);
     }
 
-    -- an arc of dimension d from node s to `to` more
+    -- one more arc, of dimension d from node s to `to`
     pub shown-more : {targets : List ℕ} {twice : List Bool} → to < 16 → Places → Shown E N targets twice
         → Shown (more E d s to) (plus N d s) (aimed targets (4 * s + d) to) (crowded targets twice s (4 * s + d))
     shown-more {targets} {twice} ht fits w = go (E s d) refl
@@ -192,7 +192,7 @@ module _ (place : ℕ → ℕ) where
     abbrev pub touches : ℕ → ℕ → ℕ → ℕ
     touches a u i = countBelow a (touching part u i)
 
-    -- without arcs the targets are the implicit ones, of which a node and dimension has at most one
+    -- without explicit arcs the targets are the implicit arcs, at most one for a node and a dimension
     pub shown-none : {targets : List ℕ} {twice : List Bool} → targets ≡ list 64 place → twice ≡ replicate 16 false
         → Shown (farEnd part 0) (touches 0) targets twice
     unfolding farEnd first countBelow
@@ -219,7 +219,7 @@ module _ (place : ℕ → ℕ) where
       abbrev t : ℕ
       t = part a 2
 
-      -- Seen from a node and dimension, D is that the dimension is the arc's, X and Y that the node is its smaller, its larger.
+      -- Below, a node and a dimension are fixed. D says that the dimension is the arc's, X that the node is its smaller end, Y that it is its larger.
 
       -- the one aim of a loop gives its end
       end-loop : (D X Y : Bool) (o : Option ℕ) → X ≡ Y → o orElse someIf (D and X) t ≡ o orElse someIf (D and (X or Y)) (cond X t s)
@@ -229,7 +229,7 @@ module _ (place : ℕ → ℕ) where
       end-loop true true Y none e = refl
       end-loop true false Y none e = rw (← e)
 
-      -- the two aims of another arc give the end that is far from the node
+      -- the two aims of another arc give, at each end, the far end
       end-ends : (D X Y : Bool) (o : Option ℕ)
           → (o orElse someIf (D and X) t) orElse someIf (D and Y) s ≡ o orElse someIf (D and (X or Y)) (cond X t s)
       unfolding _and_ _or_ someIf _orElse_
@@ -254,9 +254,9 @@ module _ (place : ℕ → ℕ) where
       count-ends true true false n e = omega arith
       count-ends true false Y n e = omega arith
 
-      -- arc a more
+      -- one more arc, which is arc a
       pub linked-more : {targets targets′ : List ℕ} {twice twice′ : List Bool} → d < 4 → s < 16 → t < 16 → Places
-          → Shown (farEnd part a) (touches a) targets twice → Linked d s t targets twice targets′ twice′
+          → Shown (farEnd part a) (touches a) targets twice → ArcLinked d s t targets twice targets′ twice′
           → Shown (farEnd part (a + 1)) (touches (a + 1)) targets′ twice′
       unfolding farEnd
       linked-more hd hs ht fits w (loop e p r) = rw (p, r) (shown-same

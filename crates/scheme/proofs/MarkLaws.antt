@@ -1,4 +1,4 @@
--- The dimensions of a word as they are marked in a row of the targets: a dimension is fresh where its target is 255.
+-- The dimensions of a word as they are marked in a row of the targets. A dimension is fresh if its target is 255.
 use Prim.Native.Nat.{ℕ, zero, suc, _+_, _≤_, _<_}
 use mathlib.Core.Path.{_≡_, refl, sym, ap, _∙_}
 use mathlib.Core.Logic.{_⊎_, inl, inr, ⊎-elim, by-cases}
@@ -50,7 +50,7 @@ module _ (targets : List ℕ) (base n d p : ℕ) where
 
 -- ---- the first p bytes of a word
 
--- where the test fails at p, one number more finds nothing more
+-- if the test fails at p, a search up to p finds no more than one below p
 least-pass : (p : ℕ) (f : ℕ → Bool) → f p ≡ false → least (suc p) f ≡ least p f
 unfolding least first someIf
 least-pass p f e = rw e (or-else-last _)
@@ -60,12 +60,12 @@ module _ (b : List ℕ) (at : ℕ) where
   abbrev pub stands : ℕ → ℕ → Bool
   stands d o = eqb (byte b (at + o)) d
 
-  -- a dimension that is fresh among the first p bytes stands at none of them
+  -- a dimension that is fresh among the first p bytes is none of them
   fresh-least : (p d : ℕ) → allBelow p (freshAt b at d) ≡ true → least p (stands d) ≡ none
   unfolding freshAt
   fresh-least p d q = least-none-of p (stands d) (λ o h. impossible _ (λ e. true≢false (sym (if-so _ (all-at p _ q o h) e))))
 
-  -- a dimension is fresh where its code is 255
+  -- a dimension is fresh just if its code is 255
   fresh-code : (p d : ℕ) → p ≤ 4 → eqb (placeCode (least p (stands d))) 255 ≡ allBelow p (freshAt b at d)
   unfolding freshAt
   fresh-code p d few = same-test _ _
@@ -94,7 +94,7 @@ module _ (b : List ℕ) (at : ℕ) where
     unfolding rowed
     rowed-none = refl
 
-    -- one byte more
+    -- one more byte
     pub rowed-more : {l : List ℕ} {v : ℕ} (p : ℕ) → l ≡ rowed targets base b at p → v ≡ byte b (at + p) → marked l base v p ≡ rowed targets base b at (p + 1)
     unfolding rowed
     rowed-more p e q = rw (add-one p, e, q) refl
@@ -141,7 +141,7 @@ module _ (b : List ℕ) (at : ℕ) where
           apart-high k l e u = omega arith
 
       module _ (room : base + 4 ≤ length targets) (clear : (i : ℕ) → i < 4 → getD targets (base + i) 0 ≡ 255) where
-        -- a row that was clear has for each dimension the first position at which it stands
+        -- if the row was clear, the code of each dimension is the first position at which the word has it
         pub rowed-at : (p : ℕ) → allBelow p (fitsAt b n at) ≡ true → (i : ℕ) → i < 4
             → getD (rowed targets base b at p) (base + i) 0 ≡ placeCode (least p (stands i))
         unfolding rowed allBelow

@@ -115,7 +115,7 @@ module _ (b : List ℕ) {kinds : List ℕ} (few : nodesOf b ≤ 16) (same : kind
   unfolding schemeOf
   kind-at s h = ap (λ (m : List ℕ). getD m s 0) same ∙ getD-list 16 s _ 0 (omega arith) ∙ ap (λ (t : Bool). cond t (kindAt b s) 0) (lt-ltb _ _ h)
 
-  -- a node in the form is on a side where it has not the kind that the side lacks
+  -- a node in the form is on a side unless it is of the kind that may not occur there
   pub held-side : allBelow (nodesOf b) (nodeForm b) ≡ true → {other : ℕ} → (other ≡ 3) ⊎ (other ≡ 1) → (s : ℕ) → s < nodesOf b
       → onSide (sideOf other) (kindAt b s) ≡ (eqb (getD kinds s 0) other ⇒ false)
   unfolding nodeForm
@@ -123,7 +123,7 @@ module _ (b : List ℕ) {kinds : List ℕ} (few : nodesOf b ≤ 16) (same : kind
       let q = and-left _ _ (and-left _ _ (and-left _ _ (and-left _ _ (all-at _ _ nodes s h)))) in
       on-side o (leb-true 1 _ (and-left _ _ q)) (leb-true _ 3 (and-right _ _ q)) ∙ ap (λ (k : ℕ). eqb k other ⇒ false) (sym (kind-at s h))
 
-  -- a node in the form is on the left where it is not added
+  -- a node in the form is on the left unless it is added
   pub held-left : allBelow (nodesOf b) (nodeForm b) ≡ true → {at : ℕ} (s : ℕ) → at ≡ s → s < nodesOf b
       → not (eqb (getD kinds at 0) 3) ≡ onSide left (kindAt b s)
   held-left nodes s e h =

@@ -26,7 +26,7 @@ use Rattle.scheme.specs.declared.Reading.{Reading}
 use Rattle.model.proofs.FormLaws.{parts, whole}
 use Rattle.scheme.proofs.TwiceLaws.{twice-same}
 
--- the kind that is not on a side, by a test that computes
+-- a kind that may not occur on a side is 3 or 1, shown by a test that computes
 pub side-kind : (other : ℕ) → cond (eqb other 3) true (eqb other 1) ≡ true → (other ≡ 3) ⊎ (other ≡ 1)
 side-kind other e = ⊎-elim (λ t. inl (eqb-true other 3 t))
     (λ t. inr (eqb-true other 1 (sym (ap (λ (c : Bool). cond c true (eqb other 1)) t) ∙ e))) (true-or-false (eqb other 3))
@@ -47,7 +47,7 @@ module _ (b : List ℕ) where
   pub no-arcs : (side : Side) → arcsForm b side ≡ false → inForm b ≡ false
   no-arcs side e = refuted (λ q. parts b q .arcs side) e
 
--- ---- what is known where the arcs are read, and once they are
+-- ---- what is known before the arcs are read, and after it
 
 module _ (b : List ℕ) (l : Layout) (laid : LaidOut b l) (nodes : allBelow (nodesOf b) (nodeForm b) ≡ true) where
   -- the arcs of a side are few and lie within the bytes

@@ -48,7 +48,7 @@ module _ (b : List ℕ) (l : Layout) (laid : LaidOut b l) {from : ℕ} (place : 
           omega (arith, t .nextIs),
         )
 
-    -- a form that says what is not so
+    -- a second hook that breaks a part of the form is not in the form
     wrong : (SecondParts b → ⊥) → false ≡ secondForm b
     wrong f = sym (impossible (secondForm b) (λ q. f (second-parts b q named)))
 
@@ -60,7 +60,7 @@ module _ (b : List ℕ) (l : Layout) (laid : LaidOut b l) {from : ℕ} (place : 
     pub no-node : l .nodes ≤ r .value → false ≡ secondForm b
     no-node h = let s = some-read .0 in let n = laid .headed .nodesIs in wrong (λ p. omega arith)
 
-    -- a node but the first is named: its kind decides
+    -- a node other than node 0 is named: its kind decides
     pub some-formed : {kinds : List ℕ} {at : ℕ} → allBelow (nodesOf b) (nodeForm b) ≡ true → kinds ≡ schemeOf b .kinds → at ≡ r .value
         → (r .value ≡ 0 → ⊥) → r .value < l .nodes → not (eqb (getD kinds at 0) 3) ≡ secondForm b
     some-formed nodes k e h n =

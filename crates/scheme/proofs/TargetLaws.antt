@@ -1,4 +1,4 @@
--- One aim at a table of ends: the first arc of a node and dimension gives the entry, and later ones leave it.
+-- One aim at the targets: the first arc of a node at a dimension gives the entry, and later arcs leave it as it is.
 use Prim.Native.Nat.{ℕ, _+_, _*_, _/_, _%_, _≤_, _<_}
 use mathlib.Core.Path.{_≡_, refl, sym, ap, ap₂, _∙_}
 use mathlib.Core.Logic.{by-cases}
@@ -34,7 +34,7 @@ aim-left l at to h = rw (lt-leb 16 (getD l at 0) h) refl
 
 -- ---- one entry of a table
 
--- an arc of dimension d at node s is at node u and dimension i
+-- an arc of dimension d at node s hits the entry of node u and dimension i
 abbrev pub hits : ℕ → ℕ → ℕ → ℕ → Bool
 hits d s u i = eqb d i and eqb s u
 
@@ -58,7 +58,7 @@ module _ (E : ℕ → ℕ → Option ℕ) (D : ℕ → ℕ) where
   abbrev pub endsOr : List ℕ
   endsOr = list 64 (λ k. Option·getD (E (k / 4) (k % 4)) (D k))
 
-  -- what stands at the entry of node s and dimension d
+  -- what the entry of node s and dimension d holds
   pub ends-at : {l : List ℕ} (d s : ℕ) → l ≡ endsOr → s < 16 → d < 4 → getD l (4 * s + d) 0 ≡ Option·getD (E s d) (D (4 * s + d))
   ends-at d s e hs hd =
       let same : (4 * s + d) / 4 ≡ s = omega arith in
@@ -73,7 +73,7 @@ module _ (E : ℕ → ℕ → Option ℕ) (D : ℕ → ℕ) where
       let dim : d ≡ k % 4 = omega arith in
       ap₂ (λ (u i : ℕ). E u i) same dim
 
-  -- where there was no end, the arc's end is set
+  -- if there was no end, the arc's end is set
   pub ends-set : {l : List ℕ} (d s to : ℕ) → l ≡ endsOr → s < 16 → d < 4 → E s d ≡ none
       → set l (4 * s + d) to ≡ list 64 (λ k. Option·getD (more E d s to (k / 4) (k % 4)) (D k))
   unfolding someIf _orElse_
@@ -98,7 +98,7 @@ module _ (E : ℕ → ℕ → Option ℕ) (D : ℕ → ℕ) where
           ∙ sym (getD-list 64 k _ 0 h ∙ ap (λ (t : Bool). Option·getD (E (k / 4) (k % 4) orElse someIf t to) (D k)) (hits-else d s k ne)
           ∙ ap (λ (o : Option ℕ). Option·getD o (D k)) (or-else-last (E (k / 4) (k % 4))))
 
-  -- where there was an end, nothing changes
+  -- if there was an end, nothing changes
   pub ends-kept : {l : List ℕ} (d s to x : ℕ) → l ≡ endsOr → d < 4 → E s d ≡ some x
       → l ≡ list 64 (λ k. Option·getD (more E d s to (k / 4) (k % 4)) (D k))
   unfolding someIf _orElse_

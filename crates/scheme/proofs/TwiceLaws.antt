@@ -1,4 +1,4 @@
--- The nodes with two arcs of a dimension by the bytes are those by the value.
+-- The bytes and the value of a scheme agree on which nodes have two arcs of one dimension.
 use Prim.Native.Nat.{ℕ, _+_, _*_, _≤_, _<_}
 use mathlib.Core.Path.{_≡_, refl, sym, ap, ap₂, _∙_}
 use mathlib.Core.Logic.{⊎-elim}

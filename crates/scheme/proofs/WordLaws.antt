@@ -115,7 +115,7 @@ module _ (m : ℕ) (f : ℕ → ℕ) (z j : ℕ) {l : List ℕ} (e : l ≡ fille
 one-of-three : (kind : ℕ) → 1 ≤ kind → kind ≤ 3 → (kind ≡ 1) ⊎ ((kind ≡ 2) ⊎ (kind ≡ 3))
 one-of-three kind h k = ⊎-elim (λ e. inl (sym e)) (λ l. inr (⊎-elim (λ e. inl (sym e)) (λ m. inr (omega arith)) (eq-or-lt-of-le l))) (eq-or-lt-of-le h)
 
--- a side has the kinds but the one it lacks
+-- a node is on a side unless it is of the kind that may not occur there
 pub on-side : {other kind : ℕ} → (other ≡ 3) ⊎ (other ≡ 1) → 1 ≤ kind → kind ≤ 3 → onSide (sideOf other) kind ≡ (eqb kind other ⇒ false)
 unfolding _or_ _⇒_
 on-side {other} {kind} w h k = ⊎-elim (both 1 refl refl) (λ v. ⊎-elim (both 2 refl refl) (both 3 refl refl) v) (one-of-three kind h k)
@@ -141,7 +141,7 @@ module _ (b : List ℕ) (s other kind n places at : ℕ) (w : Placed b s other k
   there : allBelow places (emptyAt b at) ≡ allBelow (placesOf b) (emptyAt b place)
   there = rw (w .placesIs, w .atIs) refl
 
-  -- the word of a node that the side has
+  -- the word of a node on the side
   pub on-form : {r : Bool} → (kind ≡ other → ⊥) → r ≡ allBelow places (fitsAt b n at) → r ≡ (wordForm b side s and wordEmpty b side s)
   unfolding _⇒_
   on-form ne e =
@@ -157,7 +157,7 @@ module _ (b : List ℕ) (s other kind n places at : ℕ) (w : Placed b s other k
       (stored-filled 64 (row b side) 255 (4 * s) b place (placesOf b) e (omega arith) (λ p h. row-word b side s p h few))
       (omega arith) (λ k h u. row-rest b side s k h u)
 
-  -- the word of a node that the side has not
+  -- the word of a node that is not on the side
   pub off-form : {r : Bool} → kind ≡ other → r ≡ allBelow places (emptyAt b at) → r ≡ (wordForm b side s and wordEmpty b side s)
   unfolding _⇒_
   off-form eq e =
@@ -178,13 +178,13 @@ module _ (b : List ℕ) (s other kind n places at : ℕ) (w : Placed b s other k
       (λ t. let p : placesOf b ≤ k - 4 * s = ltb-false _ _ t in row-rest b side s k (omega arith) u)
       (true-or-false (ltb (k - 4 * s) (placesOf b))))
 
-  -- before the word is read the row of node s in the table is clear
+  -- before the word is read, the row of node s is clear
   pub targets-clear : {l : List ℕ} → l ≡ filled 64 (4 * s) (placed b side) 255 → (length l ≡ 64) × ((i : ℕ) → i < 4 → getD l (4 * s + i) 0 ≡ 255)
   targets-clear e =
       let small = w .small in
       (filled-length 64 _ 255 _ e, λ i h. filled-high 64 _ 255 _ e (4 * s + i) (omega arith) (omega arith))
 
-  -- the table with the word of a node that the side has
+  -- the targets with the word of a node on the side
   pub on-targets : {l : List ℕ} → n ≤ 3 → l ≡ filled 64 (4 * s) (placed b side) 255 → allBelow places (fitsAt b n at) ≡ true
       → rowed l (4 * s) b at places ≡ filled 64 (4 * (s + 1)) (placed b side) 255
   on-targets {l} few e q =
@@ -213,7 +213,7 @@ module _ (b : List ℕ) (s other kind n places at : ℕ) (w : Placed b s other k
       (true-or-false (ltb k (4 * (s + 1)))))
       (true-or-false (ltb k (4 * s))))
 
-  -- an empty word leaves the table as it is
+  -- an empty word leaves the targets as they are
   pub off-targets : {l : List ℕ} → l ≡ filled 64 (4 * s) (placed b side) 255 → allBelow places (emptyAt b at) ≡ true
       → l ≡ filled 64 (4 * (s + 1)) (placed b side) 255
   unfolding emptyAt

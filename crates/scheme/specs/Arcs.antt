@@ -1,4 +1,4 @@
--- The arcs of a side: what is known where they are read and once they are, and the test of an arc.
+-- The arcs of a side: what is known before they are read, what is known after it, and the test of an arc.
 use Prim.Native.Nat.{ℕ, _+_, _*_, _≤_}
 use mathlib.Core.Path.{_≡_}
 use mathlib.Core.Logic.{_⊎_}
@@ -16,7 +16,8 @@ use Rattle.scheme.specs.Words.{sideOf}
 use Rattle.scheme.specs.Targets.{twiceTo}
 use Rattle.frame.specs.declared.Layout.{Layout}
 
--- the count and the arcs of the side that has not the nodes of the kind `other`, after nodes that are in the form
+-- What is known before the arcs of a side are read: the nodes are in the form, and the arcs lie within the bytes. `other` is the kind that may not
+-- occur on the side: 3 (added) on the left, 1 (deleted) on the right.
 pub record ArcsPlaced (b : List ℕ) (l : Layout) (kinds : List ℕ) (other from : ℕ) : Type 0 where
   pub laid : LaidOut b l
   pub nodes : allBelow (nodesOf b) (nodeForm b) ≡ true
@@ -26,14 +27,14 @@ pub record ArcsPlaced (b : List ℕ) (l : Layout) (kinds : List ℕ) (other from
   pub few : arcCount b (sideOf other) ≤ 64
   pub inside : arcsAt b (sideOf other) + 1 + 3 * arcCount b (sideOf other) ≤ length b
 
--- the arcs of a side as they stand, what they give, and the place after them
+-- what is known once the arcs of a side are read: their bytes, the targets and the nodes with two arcs that they give, and the place after them
 pub record ArcsRead (b : List ℕ) (side : Side) (at : ℕ) (arcs targets : List ℕ) (twice : List Bool) : Type 0 where
   pub placeIs : at ≡ arcsAt b side + 1 + 3 * arcCount b side
   pub arcsIs : arcs ≡ arcsOf b side
   pub targetsIs : targets ≡ targetsOf b side
   pub twiceIs : twice ≡ twiceTo (placedAt b side) (arcByte b side) (arcCount b side)
 
--- arcs of bytes below 256 are in the order of their keys
+-- the key of an arc: arcs are in the order of their keys, since all bytes are below 256
 abbrev pub keyOf : ℕ → ℕ → ℕ → ℕ
 keyOf d s t = d * 65536 + s * 256 + t
 

@@ -11,7 +11,7 @@ use Rattle.model.specs.Codes.{placed, placedAt}
 use Rattle.model.specs.Scheme.{left, right, nodeForm, schemeOf}
 use Rattle.scheme.specs.Words.{row}
 
--- the first s nodes are in the form and are held, and `at` is the place after them
+-- the first s nodes are in the form, the arrays hold them, and `at` is the place after them
 pub record Passed (b : List ℕ) (s at : ℕ) (kinds lwords rwords ltargets rtargets : List ℕ) : Type 0 where
   pub formed : allBelow s (nodeForm b) ≡ true
   pub placeIs : at ≡ nodeAt b s
@@ -21,7 +21,7 @@ pub record Passed (b : List ℕ) (s at : ℕ) (kinds lwords rwords ltargets rtar
   pub ltargetsIs : ltargets ≡ filled 64 (4 * s) (placed b left) 255
   pub rtargetsIs : rtargets ≡ filled 64 (4 * s) (placed b right) 255
 
--- the arrays are those of all nodes, and `at` is the place after them
+-- the arrays hold all nodes, and `at` is the place after them
 pub record Noded (b : List ℕ) (at : ℕ) (kinds lwords rwords ltargets rtargets : List ℕ) : Type 0 where
   pub placeIs : at ≡ nodeAt b (nodesOf b)
   pub kindsIs : kinds ≡ schemeOf b .kinds

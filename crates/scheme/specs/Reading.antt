@@ -8,7 +8,7 @@ use Rattle.model.specs.Twice.{twiceOf}
 use Rattle.model.specs.declared.Scheme.{Scheme}
 use Rattle.scheme.specs.declared.Reading.{Reading}
 
--- the scheme that stands beside a refusal: zeros
+-- the blank scheme, all zeros, which a refused reading gives
 unfoldable pub blank : Scheme
 blank = record {
   n = 0;
@@ -28,7 +28,7 @@ blank = record {
   rarcs = replicate 192 0;
 }
 
--- a scheme, and beside it its nodes with two arcs of a dimension
+-- the reading of a scheme: the scheme, and its nodes with two arcs of one dimension
 abbrev pub readAs : Bool → Scheme → Reading
 readAs ok S = record {
   ok = ok;

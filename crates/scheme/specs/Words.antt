@@ -11,20 +11,20 @@ use Rattle.base.specs.Below.{allBelow}
 use Rattle.model.specs.Bytes.{byte, dimensionOf, placesOf, nodeAt, kindAt, wordAt, upTo}
 use Rattle.model.specs.Scheme.{Side, left, right}
 
--- the side that has not the nodes of this kind
+-- the side on which nodes of this kind may not occur: the left for 3 (added), the right for 1 (deleted)
 abbrev pub sideOf : ℕ → Side
 sideOf other = cond (eqb other 3) left right
 
--- where a word of node s starts
+-- where the word of node s on a side begins
 abbrev pub wordPlace : List ℕ → Side → ℕ → ℕ
 wordPlace b left s = nodeAt b s + 1
 wordPlace b right s = nodeAt b s + 1 + placesOf b
 
--- what stands at k among a side's words, where k is that of a node
+-- entry k of a side's words: byte k % 4 of the word of node k / 4, and 255 past the end of the word
 unfoldable pub row : List ℕ → Side → ℕ → ℕ
 row b side k = upTo (placesOf b) (k % 4) (wordAt b side (k / 4) (k % 4)) 255
 
--- what `wordForm` and `wordEmpty` test of a word that starts at `at`
+-- what `wordForm` and `wordEmpty` test of a word that begins at `at`
 module _ (b : List ℕ) where
   unfoldable pub freshAt : ℕ → ℕ → ℕ → Bool
   freshAt at d o = eqb (byte b (at + o)) d ⇒ false
@@ -35,7 +35,7 @@ module _ (b : List ℕ) where
   unfoldable pub fitsAt : ℕ → ℕ → ℕ → Bool
   fitsAt n at p = eqb (byte b (at + p)) 255 or leb (byte b (at + p)) n and allBelow p (freshAt at (byte b (at + p)))
 
--- what is known where the word of node s on a side is read
+-- What is known before the word of node s on a side is read. `other` is the kind that may not occur on the side.
 pub record Placed (b : List ℕ) (s other kind n places at : ℕ) : Type 0 where
   pub sideIs : (other ≡ 3) ⊎ (other ≡ 1)
   pub kindIs : kind ≡ kindAt b s

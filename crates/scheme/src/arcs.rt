@@ -1,4 +1,5 @@
-// The arcs of one side: they are stored, and each is tested and becomes the target of its ends where no earlier one is.
+// The arcs of one side. They are stored; each is tested, and becomes the target of its ends unless an earlier arc is.
+// `other` is the kind that may not occur on the side: 3 (added) on the left, 1 (deleted) on the right.
 use base::byte::wide;
 use frame::Layout;
 use frame::cursor::Cursor;
@@ -13,7 +14,7 @@ ghost use Rattle.model.specs.Codes.{placedAt};
 ghost use Rattle.model.specs.Scheme.{arcsForm};
 ghost use Rattle.scheme.specs.Words.{sideOf};
 ghost use Rattle.scheme.specs.Arcs.{ArcsPlaced, ArcsRead, keyOf, arcTest};
-ghost use Rattle.scheme.specs.Targets.{aimed, crowded, Linked};
+ghost use Rattle.scheme.specs.Targets.{aimed, crowded, ArcLinked};
 
 fn number(b: u8) -> u32
     ensures { λ r. ⌜ (r ≡ b) × (r ≤ 255) ⌝ }
@@ -21,14 +22,15 @@ fn number(b: u8) -> u32
     b as u32
 }
 
-// Arcs ascend as their keys do.
+// Arcs are in the order of their keys.
 fn key(d: u8, s: u8, t: u8) -> u32
     ensures { λ r. ⌜ (r ≡ keyOf d s t) × (r ≤ 16777215) ⌝ }
 {
     number(d) * 65536 + number(s) * 256 + number(t)
 }
 
-// The key of the arc is at least `low`, and it joins nodes of kinds but `other`, the smaller first.
+// Whether the arc may come next: its key is at least `low`, its dimension is at most n, its ends are nodes with the smaller first, and neither is of
+// the kind `other`.
 fn arc_fits(n: u8, nodes: u8, kinds: &[u8; 16], other: u8, low: u32, d: u8, s: u8, t: u8) -> bool
     requires { ⌜ nodes ≤ 16 ⌝ }
     ensures { λ r. ⌜ r ≡ arcTest n nodes (now (kinds .entry)) other low d s t ⌝ }
@@ -53,8 +55,8 @@ fn arc_fits(n: u8, nodes: u8, kinds: &[u8; 16], other: u8, low: u32, d: u8, s: u
     kinds[far] != other
 }
 
-// An arc of dimension d from node s to `to`: the first explicit one of a node and dimension is the target; where there was an arc,
-// explicit or implicit, the node has two.
+// Enters an arc of dimension d from node s to `to`. It becomes the target unless an explicit arc is there. If any arc is there, explicit or implicit,
+// the node now has two.
 fn aim(targets: &mut [u8; 64], twice: &mut [bool; 16], s: usize, d: usize, to: u8)
     requires { ⌜ (s < 16) × (d < 4) ⌝ }
     ensures { λ _. ⌜ now (targets .exit) ≡ aimed (now (targets .entry)) (4 * s + d) to ⌝ }
@@ -70,10 +72,10 @@ fn aim(targets: &mut [u8; 64], twice: &mut [bool; 16], s: usize, d: usize, to: u
     }
 }
 
-// Both ends of an arc; a loop has one.
+// Enters an arc at both ends; a loop has one end.
 fn link(targets: &mut [u8; 64], twice: &mut [bool; 16], d: u8, s: u8, t: u8)
     requires { ⌜ (d < 4) × (s < 16) × (t < 16) ⌝ }
-    ensures { λ _. ⌜ Linked d s t (now (targets .entry)) (now (twice .entry)) (now (targets .exit)) (now (twice .exit)) ⌝ }
+    ensures { λ _. ⌜ ArcLinked d s t (now (targets .entry)) (now (twice .entry)) (now (targets .exit)) (now (twice .exit)) ⌝ }
 {
     let i = wide(d);
     aim(targets, twice, wide(s), i, t);
@@ -82,7 +84,7 @@ fn link(targets: &mut [u8; 64], twice: &mut [bool; 16], d: u8, s: u8, t: u8)
     }
 }
 
-// The bytes from the cursor on.
+// Copies `size` bytes from the cursor on.
 fn copy(bytes: &[u8], from: Cursor, size: usize, arcs: &mut [u8; 192])
     requires { ⌜ (from .at + size ≤ length (now bytes)) × (size ≤ 192) ⌝ }
     ensures { λ _. ⌜ now (arcs .exit) ≡ stored (now (arcs .entry)) 0 (now (bytes .entry)) (from .at) size ⌝ }
@@ -97,8 +99,7 @@ fn copy(bytes: &[u8], from: Cursor, size: usize, arcs: &mut [u8; 192])
     }
 }
 
-// The arcs of the side that has not the nodes of the kind `other`, from their count on. They ascend strictly, so that it is enough
-// to compare each with the one before it.
+// Reads the arcs of one side, beginning at their count. They must ascend strictly, so it is enough to compare each with the one before it.
 pub(crate) fn read_arcs(
     bytes: &[u8],
     l: Layout,
@@ -112,7 +113,8 @@ pub(crate) fn read_arcs(
     requires { ⌜ ArcsPlaced (now bytes) l (now kinds) other (from .at) ⌝ }
     requires { ⌜ (now arcs ≡ replicate 192 0) × (now targets ≡ list 64 (placedAt (now bytes) (sideOf other))) × (now twice ≡ replicate 16 false) ⌝ }
     ensures { λ r. ⌜ r .ok ≡ arcsForm (now (bytes .entry)) (sideOf other) ⌝ }
-    ensures { λ r. ⌜ (r .ok ≡ true → ArcsRead (now (bytes .entry)) (sideOf other) (r .next .at) (now (arcs .exit)) (now (targets .exit)) (now (twice .exit))) ⌝ }
+    ensures { λ r. ⌜ (r .ok ≡ true
+        → ArcsRead (now (bytes .entry)) (sideOf other) (r .next .at) (now (arcs .exit)) (now (targets .exit)) (now (twice .exit))) ⌝ }
 {
     let head = from.take(bytes);
     let count = wide(head.value);

@@ -1,5 +1,5 @@
-// The donors: each is the byte after the words of its node, where the first byte says that they are named. A donor may be a later node, so
-// they are read once all kinds are known.
+// The donors, if the first byte says that they are named: the donor of an added node is the byte after its words. A donor may be a later node, so
+// donors are read once all kinds are known.
 use base::byte::wide;
 use frame::Layout;
 use frame::cursor::Cursor;
@@ -13,7 +13,7 @@ ghost use Rattle.model.specs.Bytes.{namesDonors, placesOf, nodesOf};
 ghost use Rattle.model.specs.Scheme.{donorForm, schemeOf};
 ghost use Rattle.scheme.specs.Donors.{DonorsPlaced, Donated};
 
-// The donor of the node s at the cursor, where it has one, and the place after the node.
+// Steps over node s, which is at the cursor, and reads its donor if it is added.
 fn read_donor(
     bytes: &[u8],
     l: Layout,
@@ -54,7 +54,7 @@ fn read_donor(
     }
 }
 
-// The donors of all nodes, from the count of the nodes on.
+// Reads the donors of all nodes, beginning at the count of the nodes.
 pub(crate) fn read_donors(
     bytes: &[u8],
     l: Layout,

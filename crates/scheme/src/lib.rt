@@ -16,8 +16,8 @@ ghost use mathlib.Core.Path.{_≡_};
 ghost use mathlib.Core.Bool.{false};
 ghost use Rattle.scheme.specs.Reading.{blank, readAs, reading};
 
-// What reading a scheme's bytes gives: the scheme, or a blank one beside the refusal, and the nodes that have two arcs of a dimension,
-// on the left and on the right.
+// What reading a scheme's bytes gives: the scheme, and which of its nodes have two arcs of one dimension, on the left and on the right. If the bytes
+// are not in the form, `ok` is false and the scheme is blank.
 pub struct Reading {
     pub ok: bool,
     pub scheme: Scheme,
@@ -25,7 +25,7 @@ pub struct Reading {
     pub rtwice: [bool; 16],
 }
 
-// What stands beside the refusal.
+// The reading of bytes that are not in the form.
 fn refused() -> Reading
     ensures { λ r. ⌜ r ≡ readAs false blank ⌝ }
 {
@@ -53,7 +53,7 @@ fn refused() -> Reading
     }
 }
 
-// Reads a scheme's bytes, of any number: one section after the other into arrays that are blank at first.
+// Reads a scheme from any bytes, one section after the other, into arrays that are blank at first.
 pub fn read(bytes: &[u8]) -> Reading
     ensures { λ r. ⌜ r ≡ reading (now (bytes .entry)) ⌝ }
 {

@@ -19,7 +19,7 @@ ghost use Rattle.scheme.specs.Nodes.{Passed, Noded};
 ghost use Rattle.scheme.specs.Words.{sideOf, row, emptyAt, fitsAt, Placed};
 ghost use Rattle.scheme.specs.Targets.{markable, marked, rowed};
 
-// The orbit type, from its count on. It ascends strictly, so that it is enough to compare each dimension with the one before it.
+// Reads the orbit type, beginning at its count. It must ascend strictly, so it is enough to compare each dimension with the one before it.
 pub(crate) fn read_orbit(bytes: &[u8], l: Layout, from: Cursor, orbit: &mut [u8; 4]) -> Verdict
     requires { ⌜ LaidOut (now bytes) l ⌝ }
     requires { ⌜ (from .at ≡ 1) × (now orbit ≡ replicate 4 0) ⌝ }
@@ -58,7 +58,7 @@ pub(crate) fn read_orbit(bytes: &[u8], l: Layout, from: Cursor, orbit: &mut [u8;
     }
 }
 
-// Every byte of the word at the cursor is 255.
+// Steps over the word at the cursor, and fails unless every byte is 255.
 fn empty(bytes: &[u8], from: Cursor, places: usize) -> Verdict
     requires { ⌜ from .at + places ≤ length (now bytes) ⌝ }
     ensures { λ r. ⌜ r .ok ≡ allBelow places (emptyAt (now (bytes .entry)) (from .at)) ⌝ }
@@ -83,7 +83,8 @@ fn empty(bytes: &[u8], from: Cursor, places: usize) -> Verdict
     }
 }
 
-// d is 255, or a dimension that the row at `base` has not yet and now has at position p.
+// Enters byte d of a word, at position p, into the node's row of targets, which begins at `base`. Returns false if d is neither 255 nor a dimension
+// up to n, or if the word has d already.
 fn mark(targets: &mut [u8; 64], base: usize, n: u8, d: u8, p: usize) -> bool
     requires { ⌜ (n ≤ 3) × (base + 4 ≤ 64) × (p < 4) ⌝ }
     ensures { λ r. ⌜ r ≡ markable (now (targets .entry)) base n d ⌝ }
@@ -103,7 +104,7 @@ fn mark(targets: &mut [u8; 64], base: usize, n: u8, d: u8, p: usize) -> bool
     true
 }
 
-// The word at the cursor, into the rows at `base`.
+// Reads the word at the cursor into the node's rows of words and of targets, which begin at `base`.
 fn read_word(
     bytes: &[u8],
     n: u8,
@@ -140,7 +141,8 @@ fn read_word(
     }
 }
 
-// The word of node s at the cursor, on the side that has not the kind `other`.
+// Reads the word of node s on one side. `other` is the kind that may not occur there: 3 (added) on the left, 1 (deleted) on the right. The word of a
+// node of that kind must be empty.
 fn read_side(
     bytes: &[u8],
     n: u8,
@@ -166,7 +168,7 @@ fn read_side(
     read_word(bytes, n, places, from, words, targets, 4 * s)
 }
 
-// Node s, whose kind is at the cursor, with both words. Its donor, where it has one, is passed over.
+// Reads node s, beginning at its kind, with both words, and steps over its donor if it has one.
 fn read_node(
     bytes: &[u8],
     l: Layout,
@@ -182,7 +184,9 @@ fn read_node(
     requires { ⌜ s < nodesOf (now bytes) ⌝ }
     requires { ⌜ Passed (now bytes) s (from .at) (now kinds) (now lwords) (now rwords) (now ltargets) (now rtargets) ⌝ }
     ensures { λ r. ⌜ r .ok ≡ nodeForm (now (bytes .entry)) s ⌝ }
-    ensures { λ r. ⌜ (r .ok ≡ true → Passed (now (bytes .entry)) (s + 1) (r .next .at) (now (kinds .exit)) (now (lwords .exit)) (now (rwords .exit)) (now (ltargets .exit)) (now (rtargets .exit))) ⌝ }
+    ensures { λ r. ⌜ (r .ok ≡ true
+        → Passed (now (bytes .entry)) (s + 1) (r .next .at) (now (kinds .exit)) (now (lwords .exit)) (now (rwords .exit))
+        (now (ltargets .exit)) (now (rtargets .exit))) ⌝ }
 {
     let head = from.take(bytes);
     let kind = head.value;
@@ -219,7 +223,7 @@ fn read_node(
     }
 }
 
-// The nodes, from their count on.
+// Reads the nodes, beginning at their count.
 pub(crate) fn read_nodes(
     bytes: &[u8],
     l: Layout,
@@ -235,7 +239,9 @@ pub(crate) fn read_nodes(
     requires { ⌜ (now kinds ≡ replicate 16 0) × (now lwords ≡ replicate 64 255) × (now rwords ≡ replicate 64 255) ⌝ }
     requires { ⌜ (now ltargets ≡ replicate 64 255) × (now rtargets ≡ replicate 64 255) ⌝ }
     ensures { λ r. ⌜ r .ok ≡ allBelow (nodesOf (now (bytes .entry))) (nodeForm (now (bytes .entry))) ⌝ }
-    ensures { λ r. ⌜ (r .ok ≡ true → Noded (now (bytes .entry)) (r .next .at) (now (kinds .exit)) (now (lwords .exit)) (now (rwords .exit)) (now (ltargets .exit)) (now (rtargets .exit))) ⌝ }
+    ensures { λ r. ⌜ (r .ok ≡ true
+        → Noded (now (bytes .entry)) (r .next .at) (now (kinds .exit)) (now (lwords .exit)) (now (rwords .exit))
+        (now (ltargets .exit)) (now (rtargets .exit))) ⌝ }
 {
     let count = from.take(bytes);
     let nodes = wide(count.value);

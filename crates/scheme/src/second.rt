@@ -1,4 +1,4 @@
-// The second hook: the byte after the nodes, where the first byte says that one is named.
+// The second hook: the byte after the nodes, if the first byte says that one is named.
 use base::byte::wide;
 use frame::Layout;
 use frame::cursor::Cursor;
@@ -9,14 +9,14 @@ ghost use Rattle.model.specs.Bytes.{nodeAt, nodesOf, secondOf, arcsAt};
 ghost use Rattle.model.specs.Scheme.{left, nodeForm, secondForm, schemeOf};
 ghost use Rattle.frame.specs.Frame.{LaidOut};
 
-// Whether the second hook is in the form; if so, its node number, 0 where none is named, and the place after it.
+// Whether the second hook is in the form. If so, `node` is its number, or 0 if none is named, and `next` is the place after it.
 pub struct Second {
     pub ok: bool,
     pub node: u8,
     pub next: Cursor,
 }
 
-// The second hook, at the cursor after the nodes.
+// Reads the second hook, if one is named. The cursor is after the nodes.
 pub(crate) fn read_second(bytes: &[u8], l: Layout, from: Cursor, kinds: &[u8; 16]) -> Second
     requires { ⌜ LaidOut (now bytes) l ⌝ }
     requires { ⌜ allBelow (nodesOf (now bytes)) (nodeForm (now bytes)) ≡ true ⌝ }

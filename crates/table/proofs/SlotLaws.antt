@@ -1,4 +1,4 @@
--- `slotOk` at every slot is `wellFormed`: where links lead back, αi, αj, αi, αj end at x just if αi and αj commute at x.
+-- `slotOk` at every slot is `wellFormed`: if links lead back, αi, αj, αi, αj end at x just if αi and αj commute at x.
 use Prim.Native.Nat.{ℕ, suc, _+_, _*_, _≤_, _<_}
 use mathlib.Core.Path.{_≡_, refl, sym, ap, _∙_}
 use mathlib.Core.Logic.{_⊎_, inl, inr, ⊎-elim}
@@ -63,13 +63,13 @@ module _ (m : Map) (x : ℕ) where
   inside-out i y l e h =
       sym (refuted (λ w. all-at 3 (λ j. ltb (m .link j x) (m .slots)) w i l) (rw (← e) (le-ltb _ _ h)))
 
-  -- where the links 0 and 1 lead to slots, the test is that of the 2-link
+  -- if the links 0 and 1 lead to slots, the test is that of the 2-link
   pub inside-last : (y z v : ℕ) → y ≡ m .link 0 x → z ≡ m .link 1 x → v ≡ m .link 2 x → y < m .slots → z < m .slots
       → ltb v (m .slots) ≡ insideOk m x
   unfolding insideOk allBelow _and_
   inside-last y z v e f g h k = rw (← e, ← f, ← g, lt-ltb _ _ h, lt-ltb _ _ k)
 
-  -- a link to a slot is right where it leads to a live dart, and back
+  -- a link to a slot is right if it leads to a live dart, and back
   link-is : (i : ℕ) → m .link i x < m .slots → (live m (m .link i x) and eqb (m .link i (m .link i x)) x) ≡ linkOk m x i
   unfolding linkOk _and_
   link-is i h = rw (lt-ltb _ _ h)
@@ -94,7 +94,7 @@ module _ (m : Map) (x : ℕ) where
             sym sym,
       ) (and-swap _ _ _)
 
-  -- two links commute where the words that both ways end at are the same
+  -- two links commute if both ways end at the same word
   pub corner-is : (i j y z u v : ℕ) → y ≡ m .link i x → z ≡ m .link j x → u ≡ m .link j y → v ≡ m .link i z → eqb u v ≡ cornerOk m x i j
   unfolding cornerOk
   corner-is i j y z u v e f g h = rw (g, h, e, f)
@@ -162,13 +162,13 @@ module _ (n : ℕ) (m : Map) (x : ℕ) where
     corners-of i j ij jn = if-so (leb (i + 2) j)
         (all-at (suc n) _ (all-at (suc n) _ (and-right _ _ w) i (omega arith)) j (omega arith)) (le-leb (i + 2) j ij)
 
-  -- where one of the links 0, 1 and 2 leads to no slot, the dart is wrong
+  -- if one of the links 0, 1 and 2 leads to no slot, the dart is wrong
   pub no-inside : (r : Bool) → 2 ≤ n → r ≡ insideOk m x → not r ≡ true → false ≡ cornersOk n m x
   unfolding insideOk
   no-inside r l e h = sym
       (refuted (λ w. all-of 3 (λ i. ltb (m .link i x) (m .slots)) (λ i k. lt-ltb _ _ (link-below m x i (links-of w i (omega arith))))) (sym e ∙ not-true r h))
 
-  -- where the i-link leads to no slot, the dart is wrong
+  -- if the i-link leads to no slot, the dart is wrong
   pub no-link : (i y : ℕ) → i ≤ n → y ≡ m .link i x → m .slots ≤ y → false ≡ cornersOk n m x
   no-link i y l e h = sym (impossible (cornersOk n m x) (λ w. let k = link-below m x i (links-of w i l) in absurd (omega arith)))
 
@@ -249,7 +249,7 @@ module _ (n : ℕ) (m : Map) (s : (x : ℕ) → x < m .slots → slotOk n m x �
 
 -- ---- the pass
 
--- the slots below x are right, and k darts of them are live
+-- the slots below x are right, and k of them are live
 pub record Passed (n : ℕ) (m : Map) (x k : ℕ) : Type 0 where
   pub fits : x ≤ m .slots
   pub right : allBelow x (slotOk n m) ≡ true
@@ -290,7 +290,7 @@ module _ (n : ℕ) (m : Map) (x s : ℕ) (e : s ≡ m .state x) where
       counted = rw (count-step x (live m), ← e, h, ← p .counted) refl;
     }
 
--- it may stop where a slot is wrong
+-- the pass may stop at a wrong slot: the table is broken
 pub stops : (n : ℕ) (m : Map) (x : ℕ) → x < m .slots → slotOk n m x ≡ false → Broken ≡ surveyed n m
 unfolding surveyed
 stops n m x h e = ⊎-elim

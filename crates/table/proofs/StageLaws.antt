@@ -1,4 +1,5 @@
--- A loop over a table, step by step: what it has done is what its steps so far make of what is seen in the table, be it the words or the map.
+-- A loop over a table, step by step. `see` is what is seen in the table, its words or its map. After i steps it is what these steps make of what was
+-- seen at first.
 use Prim.Native.Nat.{ℕ, _+_, _≤_, _<_}
 use mathlib.Core.Path.{_≡_, refl, sym, ap, _∙_}
 use mathlib.Core.List.{List}

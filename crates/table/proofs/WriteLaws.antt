@@ -1,4 +1,4 @@
--- Laws of writing in a map, and that a table's words are written as its map is: what a phase that writes needs to know of the table.
+-- Laws of writing in a map, and that a table is written as its map is. A phase that writes needs to know no more of the table.
 use Prim.Native.Nat.{ℕ, zero, suc, _≤_, _<_}
 use mathlib.Core.Path.{_≡_, refl, sym, ap, _∙_}
 use mathlib.Core.Logic.{by-cases}
@@ -25,17 +25,17 @@ module _ (l : ℕ → ℕ) (x v : ℕ) where
   unfolding setAt
   set-other y ne = rw (ne-eqb y x ne) refl
 
-  -- words that have v at x, and are those of l elsewhere
+  -- words that are v at x, and those of l elsewhere
   set-is : (w : ℕ → ℕ) → w x ≡ v → ((y : ℕ) → (y ≡ x → ⊥) → w y ≡ l y) → (y : ℕ) → w y ≡ setAt l x v y
   set-is w here other y = by-cases (ℕ-discrete y x) (λ e. rw e (here ∙ sym set-same)) (λ ne. other y ne ∙ sym (set-other y ne))
 
 module _ (m : Map) (i : ℕ) (l : ℕ → ℕ) where
-  -- the i-links of m with l for them
+  -- the i-links of m, once l replaces them
   pub links-same : withField m (Link i) l .link i ≡ l
   unfolding withField
   links-same = rw (eq-eqb i i refl) refl
 
-  -- a word is as it was, where l has the same for it if it is such a link
+  -- a word stays as it was if it is no i-link, or if l agrees with m there
   pub links-leave : (f : Field) (y : ℕ) → (f ≡ Link i → l y ≡ m .link i y) → fieldOf (withField m (Link i) l) f y ≡ fieldOf m f y
   unfolding withField
   links-leave State y same = refl
@@ -52,7 +52,7 @@ module _ (m : Map) (i : ℕ) (l : ℕ → ℕ) where
       last true n = refl
       last false n = refl
 
--- m with its own i-links
+-- m with its own i-links is m
 pub links-own : (m : Map) (i : ℕ) → withField m (Link i) (m .link i) ≡ m
 unfolding withField
 links-own m i = λ o. record { slots = m .slots; state = m .state; link = λ j. own j o; tag = m .tag }
@@ -60,7 +60,7 @@ links-own m i = λ o. record { slots = m .slots; state = m .state; link = λ j. 
     own : (j : ℕ) → cond (eqb j i) (m .link i) (m .link j) ≡ m .link j
     own j = by-cases (ℕ-discrete j i) (λ e. rw e (rw (eq-eqb i i refl) refl)) (λ ne. rw (ne-eqb j i ne) refl)
 
--- steps that write i-links alone, as steps over these links
+-- steps that write only i-links, as steps over these links
 pub links-steps : (i : ℕ) (g : ℕ → (ℕ → ℕ) → ℕ → ℕ) (n : ℕ) (m : Map)
     → steps n (λ r a. withField a (Link i) (g r (a .link i))) m ≡ withField m (Link i) (steps n g (m .link i))
 unfolding steps

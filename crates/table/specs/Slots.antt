@@ -1,5 +1,5 @@
--- What the table check tests at a slot. It stands for `wellFormed` (proofs/SlotLaws.antt), and looks at no record but that of the slot
--- and those of its neighbours.
+-- What the table check tests at a slot. All slots pass just if the map is `wellFormed` (proofs/SlotLaws.antt). The test of a slot looks only at its
+-- own record and those of its neighbours.
 use Prim.Native.Nat.{ℕ, suc}
 use mathlib.Core.Bool.{Bool, cond}
 use lib.Dec.{eqb, ltb}

@@ -1,4 +1,4 @@
--- A table of a size that the kernel takes, and a record of it that became zeros.
+-- A table of a size that the kernel takes, and a table in which a record became zeros.
 use Prim.Native.Nat.{ℕ, _+_, _*_, _≤_}
 use mathlib.Core.Path.{_≡_}
 use mathlib.Core.List.{List}
@@ -6,7 +6,7 @@ use lib.ListN.{length, set}
 use Rattle.base.specs.Steps.{steps}
 use Rattle.model.specs.Map.{recordSize, tableSize, maxSlots}
 
--- t is a table of a number of slots that the kernel takes
+-- t has the size of a table for `slots` slots, and the kernel takes that number
 pub record Sized (slots : ℕ) (t : List ℕ) : Type 0 where
   pub few : slots ≤ maxSlots
   pub long : length t ≡ tableSize slots

@@ -1,4 +1,4 @@
--- Writing in a map: what it is once the words of a field, or those of a slot, are others. Nothing here knows how a table holds them.
+-- Writing in a map: the map once the words of one field, or of one slot, are replaced. Nothing here knows how a table holds them.
 use Prim.Native.Nat.{ℕ}
 use mathlib.Core.Bool.{cond}
 use lib.Dec.{eqb}

@@ -6,7 +6,7 @@ ghost use lib.ListN.{getD, set};
 ghost use Rattle.model.specs.Map.{State, Link, Tag, recordSize, tableSize, put, view};
 ghost use Rattle.table.specs.Words.{Sized, blanked};
 
-// How many words a record has, and which of them are the state, the link of dimension 0 with the others behind it, and the tag.
+// How many words a record has, and which of them are the state, the first of the links, and the tag.
 pub const RECORD: usize = 6;
 
 const STATE: usize = 0;
@@ -22,7 +22,7 @@ pub fn size(slots: u32) -> usize
     RECORD * wide(slots)
 }
 
-// The word of slot x in column c.
+// Word c of the record of slot x.
 fn at(slots: usize, table: &[u32], c: usize, x: usize) -> u32
     requires { ⌜ Sized slots (now table) ⌝ }
     requires { ⌜ (x < slots) × (c < recordSize) ⌝ }
@@ -31,7 +31,7 @@ fn at(slots: usize, table: &[u32], c: usize, x: usize) -> u32
     table[RECORD * x + c]
 }
 
-// The word of slot x in column c becomes v.
+// Sets word c of the record of slot x to v.
 fn put_at(slots: usize, table: &mut [u32], c: usize, x: usize, v: u32)
     requires { ⌜ Sized slots (now table) ⌝ }
     requires { ⌜ (x < slots) × (c < recordSize) ⌝ }
@@ -48,7 +48,7 @@ pub fn state(slots: usize, table: &[u32], x: usize) -> u32
     at(slots, table, STATE, x)
 }
 
-// The word of αi(x).
+// αi(x), as the table's word.
 pub fn word(slots: usize, table: &[u32], i: usize, x: usize) -> u32
     requires { ⌜ Sized slots (now table) ⌝ }
     requires { ⌜ (x < slots) × (i ≤ 3) ⌝ }
@@ -57,7 +57,7 @@ pub fn word(slots: usize, table: &[u32], i: usize, x: usize) -> u32
     at(slots, table, LINKS + i, x)
 }
 
-// αi(x)
+// αi(x), as a slot.
 pub fn link(slots: usize, table: &[u32], i: usize, x: usize) -> usize
     requires { ⌜ Sized slots (now table) ⌝ }
     requires { ⌜ (x < slots) × (i ≤ 3) ⌝ }
@@ -82,7 +82,7 @@ pub fn put_state(slots: usize, table: &mut [u32], x: usize, v: u32)
     put_at(slots, table, STATE, x, v);
 }
 
-// αi(x) becomes v.
+// Sets αi(x) to v.
 pub fn put_link(slots: usize, table: &mut [u32], i: usize, x: usize, v: u32)
     requires { ⌜ Sized slots (now table) ⌝ }
     requires { ⌜ (x < slots) × (i ≤ 3) ⌝ }
@@ -99,7 +99,7 @@ pub fn put_tag(slots: usize, table: &mut [u32], x: usize, v: u32)
     put_at(slots, table, TAG, x, v);
 }
 
-// The record of slot x becomes zeros.
+// Sets the record of slot x to zeros.
 pub fn blank(slots: usize, table: &mut [u32], x: usize)
     requires { ⌜ Sized slots (now table) ⌝ }
     requires { ⌜ x < slots ⌝ }

@@ -89,7 +89,7 @@ cast-places c = search needs
 mul-places : tie.Need-mul-places
 mul-places c = search needs
 
--- the words for the map's slots are in the table
+-- the table is long enough for the map's slots
 within : (c : tie.After-size) → c .size .result ≤ length (c .before .before .before .before .before .«open» .last .1 .0)
 within c = omega (arith, c .size .ensures, opened (c .before .before) .few, c .before .before .before .before .before .«open» .kept .1 .0)
 

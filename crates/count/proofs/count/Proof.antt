@@ -4,8 +4,8 @@ use borrow.Author.Needs.{needs}
 use denote.Ref.{now}
 use Rattle.base.proofs.BelowLaws.{count-le}
 use Rattle.model.specs.Map.{view, live}
-use Rattle.count.proofs.ColumnLaws.{vertexLinks, edgeLinks, faceLinks, vertices-listed, edges-listed, faces-listed}
-use Rattle.count.proofs.ColumnLaws.{kind-ready, pieces-ready, counts-are}
+use Rattle.count.proofs.CellKindLaws.{vertexLinks, edgeLinks, faceLinks, vertices-listed, edges-listed, faces-listed}
+use Rattle.count.proofs.CellKindLaws.{kind-ready, pieces-ready, counts-are}
 use Rattle.count.proofs.count.Statement.{statement}
 use Rattle.count.proofs.count.Tie as tie
 

@@ -3,7 +3,7 @@ use mathlib.Core.Path.{_≡_}
 use mathlib.Core.Logic.{⊎-elim}
 use native.Mathlib.Omega.{arith}
 use borrow.Author.Needs.{needs}
-use Rattle.count.proofs.ColumnLaws.{allLinks, volumes-listed, kind-ready, kind-cells, volumes-none, volumes-some}
+use Rattle.count.proofs.CellKindLaws.{allLinks, volumes-listed, kind-ready, kind-cells, volumes-none, volumes-some}
 use Rattle.count.proofs.volumes.Statement.{statement}
 use Rattle.count.proofs.volumes.Tie as tie
 

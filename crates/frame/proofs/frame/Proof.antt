@@ -24,7 +24,7 @@ head-told : (c : tie.After-known-told) → let b = now (c .before .before .befor
     × (g .1 .1 .1 .1 .1 .1 .0 .at ≡ arcsAt b left)
 head-told c = rw (c .before .n .given .1) at (c .before .before .before .head .ensures)
 
--- what the left arcs' count is, and where the right arcs' count stands
+-- what the left arcs' count is, and where the right arcs' count is
 lefts-told : (c : tie.After-known-told2)
     → let b = now (before-lefts c .before .before .before .before .before .args .bytes) in let g = c .before .lcount .given .0 in
     (g .0 ≡ arcCount b left) × (g .1 .0 .at ≡ arcsAt b right) × Fitted b (arcsAt b left) 0 64 3

@@ -31,7 +31,7 @@ before-places c = c .before .before .before .before .before .before
 abbrev bytes-of : tie.After-known-told2 → List ℕ
 bytes-of c = now (before-places c .before .before .before .before .before .before .args .bytes)
 
--- what the count of places is, and where the count of nodes stands
+-- what the count of places is, and where the count of nodes is
 places-told : (c : tie.After-known-told2) → let b = bytes-of c in let g = c .before .places .given .0 in
     (g .0 ≡ placesOf b) × (g .1 .0 .at ≡ 2 + placesOf b) × Fitted b 1 0 (dimensionOf b + 1) 1
 unfolding after

@@ -40,4 +40,5 @@ returns-2 c =
 
 pub edit-at-spec : {M : Type 1} → statement M
 edit-at-spec =
-    tie.close (tie.spec fit-requires (λ c. search needs) (λ c. search needs) returns staged-requires clear-requires (λ c. search needs) (λ c. search needs) returns-2)
+    tie.close (tie.spec fit-requires (λ c. search needs) (λ c. search needs) returns staged-requires clear-requires
+    (λ c. search needs) (λ c. search needs) returns-2)

@@ -15,7 +15,7 @@ use Rattle.program.specs.Opening.{mostSlots}
 use Rattle.report_main.proofs.main.Statement.{statement}
 use Rattle.report_main.proofs.main.Tie as tie
 
--- the buffers have their lengths, and the state is one that a report comes to
+-- the buffers have their lengths, and the state is one to which a report comes
 record Going (input out table store : List ℕ) (state : State) (sums : List ℕ) (want : ℕ) : Type 0 where
   bytes : length input ≡ 65536
   lines : length out ≡ 4096

@@ -1,4 +1,4 @@
--- `bench::writer::dart_line` meets its contract: the numbers that it asks for are those of the line.
+-- `bench::writer::dart_line` meets its contract: the numbers that it gets are those of the line.
 use native.Mathlib.Omega.{arith}
 use borrow.Author.Needs.{needs}
 use Rattle.bench.proofs.LineLaws.{dart-room, dart-put}

@@ -2,14 +2,14 @@
 use Prim.Native.Nat.{_≤_, _-_}
 use mathlib.Core.Path.{_≡_}
 use native.Mathlib.Omega.{arith}
-use Rattle.conditions.specs.Tree.{Grown}
+use Rattle.conditions.specs.Tree.{TreeGrown}
 use Rattle.conditions.proofs.TreeLaws.{grown-none, grown-more}
 use Rattle.conditions.proofs.tree.grow.Statement.{statement}
 use Rattle.conditions.proofs.tree.grow.Tie as tie
 
 abbrev Inv-loop : tie.InvT-loop
 Inv-loop second count arcs node₀ parent₀ dim₀ reached₀ size k₀ a₀ node parent dim reached k a =
-    (a ≤ count) × Grown arcs count a second node parent dim reached size k
+    (a ≤ count) × TreeGrown arcs count a second node parent dim reached size k
 
 abbrev μ-loop : tie.MeasureT-loop
 μ-loop second count arcs node₀ parent₀ dim₀ reached₀ size k₀ a₀ node parent dim reached k a = count - a

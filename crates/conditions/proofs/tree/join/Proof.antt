@@ -1,4 +1,4 @@
--- `conditions::tree::join` meets its contract: a push where just one end is reached, else nothing.
+-- `conditions::tree::join` meets its contract: a push if just one end is reached, else nothing.
 use Prim.Native.Nat.{_<_}
 use mathlib.Core.Path.{sym, _∙_}
 use mathlib.Core.Logic.{inl, inr}

@@ -1,15 +1,15 @@
--- `conditions::tree::pass` meets its contract. The loop's invariant is what the last pass left: where it added nothing, no arc leads out.
+-- `conditions::tree::pass` meets its contract. The loop's invariant: if the last pass added nothing, no arc leads out of the trees.
 use Prim.Native.Nat.{_-_}
 use mathlib.Core.Path.{_≡_}
 use native.Mathlib.Omega.{arith}
-use Rattle.conditions.specs.Tree.{Grown}
+use Rattle.conditions.specs.Tree.{TreeGrown}
 use Rattle.conditions.proofs.TreeLaws.{some-entry, few, grown-start}
 use Rattle.conditions.proofs.tree.pass.Statement.{statement}
 use Rattle.conditions.proofs.tree.pass.Tie as tie
 
 abbrev Inv-loop : tie.InvT-loop
 Inv-loop second count arcs node₀ parent₀ dim₀ reached₀ size k₀ last₀ node parent dim reached k last =
-    Grown arcs count count second node parent dim reached last k
+    TreeGrown arcs count count second node parent dim reached last k
 
 abbrev μ-loop : tie.MeasureT-loop
 μ-loop second count arcs node₀ parent₀ dim₀ reached₀ size k₀ last₀ node parent dim reached k last = 16 - last

@@ -1,4 +1,4 @@
--- `conditions::tree::reach_of` meets its contract: where the walk leaves no left node out, no arc leads out of its trees.
+-- `conditions::tree::reach_of` meets its contract: if the walk leaves no left node out, no arc leads out of its trees.
 use mathlib.Core.Path.{sym, _∙_}
 use Rattle.conditions.proofs.TreeLaws.{tree-start, tree-aimed, closed-walk}
 use borrow.Author.Needs.{needs}

@@ -31,7 +31,7 @@ returns c =
     no-nodes _ (uncounted _ _ 1 _ _ (p .1) refl (ap (λ (n : ℕ). 1 + 2 * n) (p .0 .placesIs)) (c .before .before .count .ensures) (c .enum-told .given .1))
     (omega arith)
 
--- what the count is, and the place after as many nodes without donors, which lie within the bytes
+-- what the count is, and the place after that many nodes without donors: they lie within the bytes
 told : (c : tie.After-known-told) → let b = now (c .before .before .before .before .before .args .bytes) in let g = c .before .nodes .given .0 in
     NodeCount b (g .0) × (g .1 .0 .at ≡ 3 + placesOf b + nodesOf b * (1 + 2 * placesOf b)) × (g .1 .0 .at ≤ length b)
 unfolding after
@@ -57,8 +57,10 @@ past-nodes-requires c κs =
     let s = c .before .before .before .before .before .before in
     let t = told (c .before) in
     let z = s .pre .0 in
-    let named : namesDonors (now (s .args .bytes)) ≡ true = has-mark _ (z .donorsIs) (c .if1 .left) in
-    (record { placesIs = z .placesIs; placesFew = z .placesFew; donorsIs = sym (ap bit named) }, (t .0, record { placeIs = omega (arith, node-first (now (s .args .bytes))); inside = omega arith }))
+    let named : namesDonors (now (s .args .bytes)) ≡ true = has-mark _ (z .donorsIs) (c .if1 .left) in (
+      record { placesIs = z .placesIs; placesFew = z .placesFew; donorsIs = sym (ap bit named) },
+      (t .0, record { placeIs = omega (arith, node-first (now (s .args .bytes))); inside = omega arith }),
+    )
 
 returns-3 : tie.Need-returns-3
 returns-3 c = search needs

@@ -36,7 +36,8 @@ returns : tie.Need-returns Inv-loop μ-loop
 returns c =
     let k = c .before .before in
     let l = k .before .before in
-    node-cut (l .before .before .before .pre .0) (l .before .wide .ensures .0) (l .loop .inv .1) (k .past-node .ensures) (omega arith) (not-true _ (c .if1 .taken))
+    node-cut (l .before .before .before .pre .0) (l .before .wide .ensures .0) (l .loop .inv .1) (k .past-node .ensures) (omega arith)
+    (not-true _ (c .if1 .taken))
 
 add-s : tie.Need-add-s Inv-loop μ-loop
 add-s c = search needs

@@ -7,7 +7,7 @@ use denote.Ref.{now}
 use borrow.Author.Needs.{needs}
 use borrow.Author.Tests.{not-true, not-false}
 use Rattle.model.specs.Map.{view}
-use Rattle.matching.specs.Images.{Grown}
+use Rattle.matching.specs.Images.{RowsGrown}
 use Rattle.matching.proofs.RowTreeLaws.{hooks-some, hooks-few, grown-hooks, node-below, node-fits, parent-fits, row-asks, rows-more}
 use Rattle.matching.proofs.RowTreeLaws.{rows-clash, rows-done}
 use Rattle.matching.proofs.images.rows.Statement.{statement}
@@ -15,7 +15,7 @@ use Rattle.matching.proofs.images.rows.Tie as tie
 
 abbrev Inv-loop : tie.InvT-loop
 Inv-loop slots table store₀ size nodes parents dims roots count rows₀ end₀ k₀ store rows end k =
-    (roots ≤ k) × (k ≤ count) × (end ≡ k * size) × Grown (view slots table) nodes parents dims roots store₀ store rows size k
+    (roots ≤ k) × (k ≤ count) × (end ≡ k * size) × RowsGrown (view slots table) nodes parents dims roots store₀ store rows size k
 
 abbrev μ-loop : tie.MeasureT-loop
 μ-loop slots table store₀ size nodes parents dims roots count rows₀ end₀ k₀ store rows end k = count - k

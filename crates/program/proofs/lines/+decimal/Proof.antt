@@ -1,4 +1,4 @@
--- `program::lines::decimal` meets its contract. The measure is the number itself, of which each call drops the last digit.
+-- `program::lines::decimal` meets its contract. The measure is the number itself: each call drops its last digit.
 use Prim.Native.Nat.{ℕ, _+_, _≤_, _<_}
 use native.Mathlib.Omega.{arith}
 use lib.ListN.{length, length-set}

@@ -1,4 +1,4 @@
--- `report::ahead::ahead` meets its contract: the totals where no map is left, else the length of the next map, or a fault.
+-- `report::ahead::ahead` meets its contract: the totals if no map is left, else the length of the next map, or a fault.
 use Prim.Native.Nat.{_≤_, _<_}
 use mathlib.Core.Path.{_≡_}
 use native.Mathlib.Omega.{arith}

@@ -1,4 +1,4 @@
--- The laws of `volumes` and `count`: the dimensions that are listed for each kind of cell are those of its definition.
+-- The laws of `volumes` and `count`: the code lists for each kind of cell the dimensions of its definition.
 use Prim.Native.Nat.{ℕ, _+_, _≤_, _<_}
 use mathlib.Core.Path.{_≡_, refl, ap, _∙_}
 use mathlib.Core.Logic.{_⊎_, ⊎-elim}
@@ -65,7 +65,7 @@ module _ (m : Map) (n : ℕ) (d : (n ≡ 2) ⊎ (n ≡ 3)) (w : WellFormed n m) 
   small : n ≤ 3
   small = ⊎-elim (λ e. omega arith) (λ e. omega arith) d
 
-  -- a list that has the dimensions of an orbit type can be walked by, and makes its cells
+  -- a list of the dimensions of an orbit type can be walked by, and gives its cells
   module _ (l : List ℕ) (k : ℕ) (dim : ℕ → ℕ) (few : k ≤ 4) (low : (p : ℕ) → p < k → dim p ≤ n) (is : (p : ℕ) → p < k → getD l p 0 ≡ dim p) where
     ready : BeforeWalking m l k
     ready = record { n = n; small = small; well = w; few = few; dim = λ p h. rw (is p h) (low p h) }
