@@ -50,7 +50,7 @@ enum {
 };
 
 /* The words of a slot's record. A state is 1 (live) or 0 (unused); the other
- * words of an unused record may hold anything and are never consulted. */
+ * words of an unused record may hold anything, and nothing depends on them. */
 enum {
     GMAP_STATE = 0,
     GMAP_LINK = 1,           /* the links a0, a1, a2, a3 are words 1, 2, 3, 4 */

@@ -122,7 +122,12 @@ static void shuffle(void)              /* slots in no order */
     static u32 t[6 * N];
     u64 s = 12345;
     for (u32 x = 0; x < N; x++) moved[x] = x;
-    for (u32 x = N; x > 1; x--) { s = s * 6364136223846793005u + 1442695040888963407u; u32 y = (u32)((s >> 33) % x), z = moved[x - 1]; moved[x - 1] = moved[y]; moved[y] = z; }
+    for (u32 x = N; x > 1; x--) {
+        s = s * 6364136223846793005u + 1442695040888963407u;
+        u32 y = (u32)((s >> 33) % x), z = moved[x - 1];
+        moved[x - 1] = moved[y];
+        moved[y] = z;
+    }
     for (u32 x = 0; x < N; x++) {
         u32 *r = t + 6 * moved[x];
         memcpy(r, table0 + 6 * x, 24);
@@ -316,7 +321,8 @@ static void summarize(void)
 {
     printf("%-50s %10s %10s\n", "ratio by call", "mean", "worst");
     for (u32 e = 0; e <= CALLS; e++)
-        printf("%-50s %10.3f %10.3f  (%s)\n", e < CALLS ? call_names[e] : "all", geometric_mean(summary[e].product, summary[e].rows), summary[e].worst, summary[e].name);
+        printf("%-50s %10.3f %10.3f  (%s)\n", e < CALLS ? call_names[e] : "all",
+                   geometric_mean(summary[e].product, summary[e].rows), summary[e].worst, summary[e].name);
 }
 static PIN void floor_memset(void) { memset(store, 0, 64 * N); __asm__ volatile("" : : "r"(store) : "memory"); }
 static PIN void floor_memcpy(void) { memcpy(table, table0, 24 * N); __asm__ volatile("" : : "r"(table) : "memory"); }

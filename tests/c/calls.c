@@ -944,11 +944,13 @@ static void refusals_of_counts(void)
         uncounted("count, a word too few", gmap_count(2, N, table, GMAP_RECORD * N - 1, store, GMAP_STORE * N, counts, length), 1, N);
         uncounted("count, a slot too few", gmap_count(2, N - 1, table, GMAP_RECORD * N, store, GMAP_STORE * (N - 1), counts, length), 1, N);
         uncounted("count, a word of the store too few", gmap_count(2, N, table, GMAP_RECORD * N, store, GMAP_STORE * N - 1, counts, length), 1, N);
-        uncounted("count, a word of the store too many", gmap_count(2, N - 1, table, GMAP_RECORD * (N - 1), store, GMAP_STORE * (N - 1) + 1, counts, length), 1, N);
+        uncounted("count, a word of the store too many",
+                  gmap_count(2, N - 1, table, GMAP_RECORD * (N - 1), store, GMAP_STORE * (N - 1) + 1, counts, length), 1, N);
         uncounted("count, no store", gmap_count(2, N, table, GMAP_RECORD * N, store, 0, counts, length), 1, N);
     }
     memset(more, JUNK, sizeof more);
-    expect("count, N = 1025", gmap_count(2, GMAP_MAX_SLOTS + 1, large, GMAP_RECORD * (GMAP_MAX_SLOTS + 1), more, GMAP_STORE * (GMAP_MAX_SLOTS + 1), counts, GMAP_COUNTS),
+    expect("count, N = 1025",
+           gmap_count(2, GMAP_MAX_SLOTS + 1, large, GMAP_RECORD * (GMAP_MAX_SLOTS + 1), more, GMAP_STORE * (GMAP_MAX_SLOTS + 1), counts, GMAP_COUNTS),
            refusal(1));
     expect("count, N = 1025, store", all(more, sizeof more, JUNK), 1);
     expect("count, N = 1025, output", all(counts, sizeof counts, JUNK), 1);
@@ -1018,7 +1020,8 @@ static void counted(const char *what, uint32_t n, const uint32_t wanted[GMAP_COU
             map[w] = w % GMAP_RECORD == GMAP_STATE || held == 0 ? 0 : held == 1 ? UINT32_MAX : held == 2 ? w % slots : 1;
         for (uint32_t x = 0; x < darts; x++) {
             uint32_t at[5] = { x, links[x][0], links[x][1], links[x][2], links[x][3] };
-            for (uint32_t e = 0; e < 5; e++) at[e] = order == 0 ? at[e] : order == 1 ? slots - 1 - at[e] : slots == ROOM ? 7 * at[e] % ROOM : (at[e] + 1) % darts;
+            for (uint32_t e = 0; e < 5; e++)
+                    at[e] = order == 0 ? at[e] : order == 1 ? slots - 1 - at[e] : slots == ROOM ? 7 * at[e] % ROOM : (at[e] + 1) % darts;
             uint32_t record[GMAP_RECORD] = { 1, at[1], at[2], at[3], at[4], x };
             memcpy(map + GMAP_RECORD * at[0], record, sizeof record);
         }

@@ -23,7 +23,8 @@ static void words(void)
     }
     expect("words: no answer", strcmp(gmap_words(UINT32_MAX), none), 0);
     expect("words: done", strcmp(gmap_words(GMAP_DONE), "done"), 0);
-    expect("words: of an answer", strcmp(gmap_words(gmap_number(gmap_check_scheme(V, 3))), "the scheme's bytes are damaged, or it is for another number of darts"), 0);
+    expect("words: of an answer",
+           strcmp(gmap_words(gmap_number(gmap_check_scheme(V, 3))), "the scheme's bytes are damaged, or it is for another number of darts"), 0);
 }
 
 /* The beginning of a file says which table it is for, of any size, and a file too short says nothing. */

@@ -76,7 +76,8 @@ class Applied(Case):
                  "the scheme is for n = 3, the map has n = 2"),
                 (("pan", "sew-edges", "40", "16"), "pan.map: sew-edges at darts 40 and 16: refused 8: there is no such dart: slot 40 is unused"),
                 (("pan", "sew-edges", "11", "40"), "pan.map: sew-edges at darts 11 and 40: refused 8: there is no such dart: slot 40 is unused"),
-                (("pan", "sew-edges", "63", "64"), "pan.map: sew-edges at darts 63 and 64: refused 8: there is no such dart: slot 63 is unused; there are 64 slots"),
+                (("pan", "sew-edges", "63", "64"),
+                 "pan.map: sew-edges at darts 63 and 64: refused 8: there is no such dart: slot 63 is unused; there are 64 slots"),
                 (("pan", "sew-edges", "64", "65"), "pan.map: sew-edges at darts 64 and 65: refused 8: there is no such dart: there are 64 slots"),
                 (("pan", "sew-edges", "11", "11"), "pan.map: sew-edges at darts 11 and 11: refused 9: the scheme does not fit here: "
                  "dart 11 was given for both hooks, and each node has a dart of its own"),
@@ -232,7 +233,8 @@ class Applied(Case):
         m.live = {x: (links[:3] + [x if x >= 16 else links[3]], tag) for x, (links, tag) in m.live.items() if x < 24}
         for darts, sizes in ((("2", "23"), (2, 4, 23, 2)), (("23", "2"), (23, 2, 2, 4))):
             done = run("tools/apply", self.file("a.map", m.text()), "sew-edges-in-space", *darts)
-            said = "refused 9: the scheme does not fit here: the orbit of dart {} has {} darts, that of dart {} has {}, and they must be of one shape\n".format(*sizes)
+            said = ("refused 9: the scheme does not fit here: the orbit of dart {} has {} darts, that of dart {} has {}, "
+                    "and they must be of one shape\n").format(*sizes)
             self.assertEqual((done.returncode, done.stderr), (1, f"{self.path('a.map')}: sew-edges-in-space at darts {darts[0]} and {darts[1]}: {said}"))
 
     def test_undone(self):
@@ -251,11 +253,14 @@ class Applied(Case):
             "b.scheme", "n 2\norbit 0\nnode 0 preserved 0 -> _\n")
         hooked = self.file("c.scheme", "n 2\norbit 0\nnode 0 preserved 0 -> 0\nnode 1 preserved _ -> _\nhook 1\n")
         bend = "schemes/maps/bend.map"
-        for words, said in (((bad_map, "split-edge", "0"), f"{bad_map}: refused 7: the map is not well-formed\n{bad_map}:3: slot 0: α1 leads to 3, which is unused\n"),
+        for words, said in (((bad_map, "split-edge", "0"),
+                             f"{bad_map}: refused 7: the map is not well-formed\n{bad_map}:3: slot 0: α1 leads to 3, which is unused\n"),
                             ((bend, bad_scheme, "0"), f"{bad_scheme}:2:7: found '3', expected a dimension 0, 1 or 2\n"),
                             ((bend, refused, "0"), f"{refused}:3: node 0: refused 4: it is preserved, has 0 on the left side and lacks it on the right\n"),
-                            ((bend, hooked, "0", "1"), f"{hooked}:4: node 1: refused 3: the left word of the second hook is '_', and must be the orbit type, '0'\n"),
-                            ((bend, hooked, "0"), f"{bend}: {hooked} at dart 0: refused 2: the scheme is for another number of darts: it has two hooks, nodes 0 and 1, and one dart was given\n"),
+                            ((bend, hooked, "0", "1"),
+                             f"{hooked}:4: node 1: refused 3: the left word of the second hook is '_', and must be the orbit type, '0'\n"),
+                            ((bend, hooked, "0"), f"{bend}: {hooked} at dart 0: refused 2: the scheme is for another number of darts: "
+                             "it has two hooks, nodes 0 and 1, and one dart was given\n"),
                             ((bend, "no-such", "0"), "no-such: no such file, and no operation of the catalogue has this name\n"),
                             ((bend, "no/such", "0"), "no/such: No such file or directory\n"),
                             (("no/such", "split-edge", "0"), "no/such: No such file or directory\n"),
@@ -270,7 +275,8 @@ class Applied(Case):
         bend = "schemes/maps/bend.map"
         for words in ((), (bend,), (bend, "split-edge"), (bend, "split-edge", "x"), (bend, "split-edge", "4294967296"), (bend, "sew-edges", "2", "x"),
                       (bend, "sew-edges", "2", "4294967296"), (bend, "sew-edges", "2", "3", "4"),
-                      (bend, "split-edge", "2", "-o"), (bend, "split-edge", "2", "-o", self.path("out")), (bend, "split-edge", "2", "--text"), (bend, "split-edge", "2", "-x")):
+                      (bend, "split-edge", "2", "-o"), (bend, "split-edge", "2", "-o", self.path("out")), (bend, "split-edge", "2", "--text"),
+                      (bend, "split-edge", "2", "-x")):
             done = run("tools/apply", *words)
             self.assertEqual((done.returncode, done.stdout), (2, ""), words)
             self.assertIn("tools/apply MAP SCHEME DART", done.stderr)

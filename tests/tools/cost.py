@@ -37,7 +37,8 @@ NOW = {
                                      "  unfoldable pub fault : ℕ\n  fault = n\n\nmodule _ (n : ℕ) where\n  abbrev pub laid : ℕ → ℕ\n  laid x = f (x, n)\n\n"
                                      "pub stays : ℕ\nstays = 1\n\npub data Side : Type 0 where\n  left : Side\n\npub comes : ℕ\ncomes = 2\n",
     "crates/kernel/src/lib.rt": "pub fn same(\n    a: u32, // a number\n) -> u32\n    ensures {\n        λ r. ⌜ r ≡ a ⌝\n    }\n{\n    a + 0\n}\n\n"
-                                "pub fn other(a: u64) -> u32\n    requires { ⌜ a < 5 ⌝ }\n    ensures { λ r. ⌜ r ≡ a ⌝ }\n{\n    a\n}\n\npub(crate) fn inner(a: u32) {}\n",
+                                "pub fn other(a: u64) -> u32\n    requires { ⌜ a < 5 ⌝ }\n    ensures { λ r. ⌜ r ≡ a ⌝ }\n{\n    a\n}\n\n"
+                                "pub(crate) fn inner(a: u32) {}\n",
     "crates/kernel/src/place.rt": 'impl Place {\n    pub extern "C" fn step(self) -> Place requires { ⌜ A ⌝ } ensures { ⌜ D ⌝ } { self }\n}\n',
     "crates/kernel/must-fail/two.edit": "file: src/lib.rt\n",
     "crates/fresh/src/lib.rt": "pub fn carried(a: [u8; 4]) -> [u8; 4] ensures { ⌜ C ⌝ } { a }",

@@ -317,7 +317,8 @@ class Maps(Case):
         pair = [map_at("schemes/maps/two-pieces.map"), map_at("schemes/maps/bend.map")]
         for darts in ([2, 15], [15, 2]):
             root = ElementTree.fromstring(draw_map.drawn(pair, darts))
-            rings = [int(group.find(SVG + "text").text) for group in root.iter(SVG + "g") for circle in group.findall(SVG + "circle") if circle.get("class") == "pointed"]
+            rings = [int(group.find(SVG + "text").text) for group in root.iter(SVG + "g")
+                     for circle in group.findall(SVG + "circle") if circle.get("class") == "pointed"]
             self.assertEqual(rings, [2, 15])
             self.assertEqual(sum(circle.get("class") == "pointed" for circle in root.iter(SVG + "circle")), 3)  # and the legend
             self.assertIn(f"the darts pointed at: {darts[0]}, then {darts[1]}", [text.text for text in root.iter(SVG + "text")])
@@ -411,7 +412,8 @@ class Schemes(Case):
                 self.assertEqual(sum(text == "takes the lot that the dart of node v had" for _, text in texts), bool(lots))
                 rings = [element for element in root.iter() if element.get("class") == "ring"]
                 self.assertEqual(len(rings), 2 * len(s.hooks()))  # on the left and in the legend
-                hooks = ["hook: the dart pointed at"] if s.second is None else ["hook 0: the first dart pointed at", f"hook {s.second}: the second dart pointed at"]
+                two = ["hook 0: the first dart pointed at", f"hook {s.second}: the second dart pointed at"]
+                hooks = ["hook: the dart pointed at"] if s.second is None else two
                 self.assertEqual([text for _, text in texts if text.startswith("hook")], hooks)
                 for i in range(4):
                     arcs = sum(arc[0] == i for side in s.arcs.values() for arc in side)
@@ -508,7 +510,8 @@ class Catalogue(Case):
         ("an arc of another dimension", "schemes/merge-faces.scheme", "right 1: 1-3", "right 2: 1-3", "merge-faces.svg: its arcs are not the scheme's"),
         ("a node more", "schemes/split-edge.scheme", "right 0", "node 2 added -> 1 2\nright 0", "split-edge.svg: its nodes are not the scheme's"),
         ("the orbit type", "schemes/look-at-edge.scheme", "n 2\norbit", "n 3\norbit", "look-at-edge.svg: it is not what is drawn now"),
-        ("a link of the sample", "schemes/look-at-edge.outcome", "   0  1  7  0 4711", "   0  1  7  1 4711", "look-at-edge-sample.svg: it is not what is drawn now"),
+        ("a link of the sample", "schemes/look-at-edge.outcome", "   0  1  7  0 4711", "   0  1  7  1 4711",
+         "look-at-edge-sample.svg: it is not what is drawn now"),
         ("a tag of the sample", "schemes/split-edge.outcome", "  16  2 17 19 4711", "  16  2 17 19 4712", "split-edge-sample.svg: it is not what is drawn now"),
         ("the dart", "schemes/split-edge.outcome", "dart 2", "dart 3", "split-edge-sample.svg: it is not what is drawn now"),
         ("the second hook", "schemes/sew-edges.scheme", "hook 1\n", "", "sew-edges.svg: it is not what is drawn now"),
@@ -517,23 +520,29 @@ class Catalogue(Case):
         ("no donors", "schemes/join-flanges-by-strip.scheme", "donors 2:0 3:0 4:1 5:1\n", "", "join-flanges-by-strip.svg: it is not what is drawn now"),
         ("donors that were not there", "schemes/add-flange.scheme", "left 2", "donors 1:0 2:0 3:0 4:0\nleft 2", "add-flange.svg: it is not what is drawn now"),
         ("a donor's number in a picture", "schemes/pictures/trim-flange.svg", ">lot of 1<", ">lot of 0<", "trim-flange.svg: it is not what is drawn now"),
-        ("a lot of the strip", "schemes/join-flanges-by-strip.outcome", "  18 17 19 18 4712", "  18 17 19 18 4711", "join-flanges-by-strip-sample.svg: it is not what is drawn now"),
+        ("a lot of the strip", "schemes/join-flanges-by-strip.outcome", "  18 17 19 18 4712", "  18 17 19 18 4711",
+         "join-flanges-by-strip-sample.svg: it is not what is drawn now"),
         ("the second dart", "schemes/sew-edges.outcome", "dart 11 16", "dart 11 17", "sew-edges-sample.svg: it is not what is drawn now"),
         ("the order of the darts", "schemes/sew-edges.outcome", "dart 11 16", "dart 16 11", "sew-edges-sample.svg: it is not what is drawn now"),
         ("one dart more", "schemes/sew-edges.outcome", "dart 11 16", "dart 11 16 17", "schemes/sew-edges.outcome:1: expected lines 'map ..' and 'dart ..'"),
         ("the map", "schemes/maps/bend.map", "15 14  8  2  4712", "15 14  8  2  4711", "merge-faces-sample.svg: it is not what is drawn now"),
         ("a text in a picture", "schemes/pictures/split-edge.svg", ">⟨1,2⟩<", ">⟨1,_⟩<", "split-edge.svg: it is not what is drawn now"),
-        ("a line in a picture", "schemes/pictures/split-edge-sample.svg", '<path class="a1"', '<path class="a0"', "split-edge-sample.svg: it is not what is drawn now"),
+        ("a line in a picture", "schemes/pictures/split-edge-sample.svg", '<path class="a1"', '<path class="a0"',
+         "split-edge-sample.svg: it is not what is drawn now"),
         ("nodes on each other", "schemes/pictures/split-edge.svg", None, r"node 1 \S+ \S+|node 1 50 40", "split-edge.svg: nodes 0 and 1 lie on each other"),
-        ("an arc that ends elsewhere", "schemes/pictures/split-edge.svg", None, r"(arc 0 0 1 .*) \S+ \S+\n|\1 300 300\n", "split-edge.svg: arc 0: 0-1 does not end at its nodes"),
+        ("an arc that ends elsewhere", "schemes/pictures/split-edge.svg", None, r"(arc 0 0 1 .*) \S+ \S+\n|\1 300 300\n",
+         "split-edge.svg: arc 0: 0-1 does not end at its nodes"),
         ("no layout", "schemes/pictures/split-edge.svg", "<metadata>", "<desc>", "split-edge.svg: found no layout in the picture"),
         ("no numbers", "schemes/pictures/split-edge.svg", "node 1 ", "node one ", "split-edge.svg: found 'node one"),
         ("no picture", "schemes/pictures/drop-piece.svg", None, None, "drop-piece.svg: there is no picture"),
         ("no sample", "schemes/pictures/drop-piece-sample.svg", None, None, "drop-piece-sample.svg: it is not what is drawn now"),
         ("an operation without pictures", "schemes/pictures/fold-edge.svg", "", "x", "fold-edge.svg: there is no operation of this name"),
-        ("the page", "schemes/README.md", "](pictures/drop-piece.svg)", "](pictures/split-edge.svg)", "schemes/README.md: it lacks these lines:\n### drop-piece\n"),
-        ("words of the page", "schemes/README.md", "at dart 2: The bend line", "at dart 3: The bend line", "schemes/README.md: it lacks these lines:\nOn [bend](maps/bend.map) at dart 2"),
-        ("darts of the page", "schemes/README.md", "at darts 11 and 16: ", "at dart 11: ", "schemes/README.md: it lacks these lines:\nOn [pan](maps/pan.map) at darts 11 and 16"),
+        ("the page", "schemes/README.md", "](pictures/drop-piece.svg)", "](pictures/split-edge.svg)",
+         "schemes/README.md: it lacks these lines:\n### drop-piece\n"),
+        ("words of the page", "schemes/README.md", "at dart 2: The bend line", "at dart 3: The bend line",
+         "schemes/README.md: it lacks these lines:\nOn [bend](maps/bend.map) at dart 2"),
+        ("darts of the page", "schemes/README.md", "at darts 11 and 16: ", "at dart 11: ",
+         "schemes/README.md: it lacks these lines:\nOn [pan](maps/pan.map) at darts 11 and 16"),
         ("what the sample deletes", "schemes/trim-flange.scheme", "node 4 deleted   0 ->", "node 4 preserved 0 -> 0",
          "trim-flange-sample.svg: it is not what is drawn now"),
         ("a scheme out of its form", "schemes/drop-piece.scheme", "deleted 0 1 2", "deleted 0 1",
@@ -548,10 +557,13 @@ class Catalogue(Case):
         ("an outcome", "schemes/drop-piece.outcome", "\nslot ", "\nslots ", "schemes/drop-piece.outcome:1: expected a line 'slot ..'"),
         ("a record", "schemes/drop-piece.outcome", "   8  9", "   x  9", "schemes/drop-piece.outcome:8: found 'x 9 15 8 4712', expected 5 numbers"),
         ("a link of a map", "docs/pictures/broken.map", "2   3  1 99", "2   3  1 15", "docs/pictures/broken.svg: it is not what is drawn now"),
-        ("a record of a map", "docs/pictures/broken.map", "2   3  1 99", "2   x  1 99", "docs/pictures/broken.map:13: found '2 x 1 99 4711', expected 5 numbers"),
-        ("a mark in a map's picture", "docs/pictures/broken.svg", '<circle class="wrong"', '<circle class="dart"', "docs/pictures/broken.svg: it is not what is drawn now"),
+        ("a record of a map", "docs/pictures/broken.map", "2   3  1 99", "2   x  1 99",
+         "docs/pictures/broken.map:13: found '2 x 1 99 4711', expected 5 numbers"),
+        ("a mark in a map's picture", "docs/pictures/broken.svg", '<circle class="wrong"', '<circle class="dart"',
+         "docs/pictures/broken.svg: it is not what is drawn now"),
         ("no picture of a map", "docs/pictures/broken.svg", None, None, "docs/pictures/broken.svg: it is not what is drawn now"),
-        ("the introduction", "docs/INTRODUCTION.md", "](pictures/broken.svg)", "](pictures/split.svg)", "docs/INTRODUCTION.md: it lacks these lines:\n](pictures/broken.svg)"),
+        ("the introduction", "docs/INTRODUCTION.md", "](pictures/broken.svg)", "](pictures/split.svg)",
+         "docs/INTRODUCTION.md: it lacks these lines:\n](pictures/broken.svg)"),
     ]
 
     def setUp(self):

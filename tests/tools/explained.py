@@ -30,7 +30,8 @@ SCHEMES = [
      "3: node 0: refused 3: the left word of the hook is '_', and must be the orbit type, '0'", ""),
     ("the second hook before a node not reached", "n 2\norbit 0\nnode 0 preserved 0 -> 0\nnode 1 preserved 0 -> 0\nnode 2 preserved _ -> _\nhook 2\n",
      "5: node 2: refused 3: the left word of the second hook is '_', and must be the orbit type, '0'", "hook at line 6"),
-    ("a node reached from neither hook", "n 2\norbit\nnode 0 preserved ->\nnode 1 preserved ->\nnode 2 preserved ->\nnode 3 preserved ->\nhook 2\nleft 1: 0-3\n",
+    ("a node reached from neither hook",
+     "n 2\norbit\nnode 0 preserved ->\nnode 1 preserved ->\nnode 2 preserved ->\nnode 3 preserved ->\nhook 2\nleft 1: 0-3\n",
      "4: node 1: refused 3: no left arcs lead to it from a hook", "nodes 0 and 2, the hooks, reach 0, 2 and 3; on the left node 1 has nothing"),
     ("P5", "n 2\norbit 0 2\nnode 0 preserved 0 2 -> _ 2\nnode 1 added -> 1 2\n",
      "3: node 0: refused 4: it is preserved, has 0 on the left side and lacks it on the right",
@@ -40,7 +41,8 @@ SCHEMES = [
     ("two arcs of a dimension", "n 2\norbit 0\nnode 0 preserved 0 -> 0\nleft 0: 0-0\n",
      "3: node 0: refused 4: it has 2 arcs of dimension 0 on the left side, and may have one", "0 to itself (line 4) and 0 in its word under orbit 0"),
     ("a deleted node lacks", "n 2\norbit 0\nnode 0 deleted 0 ->\nleft 2: 0-0\n",
-     "3: node 0: refused 4: it is deleted, must have each dimension on the left side and lacks 1", "on the left node 0 has 0 in its word under orbit 0 and 2 to itself (line 4)"),
+     "3: node 0: refused 4: it is deleted, must have each dimension on the left side and lacks 1",
+     "on the left node 0 has 0 in its word under orbit 0 and 2 to itself (line 4)"),
     ("an added node lacks", "n 3\norbit 0\nnode 0 preserved 0 -> 0\nnode 1 added -> 0\n",
      "4: node 1: refused 4: it is added, must have each dimension on the right side and lacks 1, 2 and 3", ""),
     ("P6", "n 2\norbit 0 2\nnode 0 preserved 0 2 -> _ 2\nnode 1 added -> 1 _\nright 0: 0-1\nright 2: 1-1\n",
@@ -220,7 +222,8 @@ class Schemes(Case):
         self.assertEqual(done.stderr.split("\n")[0], f"{path}:byte 6: node 0: refused 4: it is preserved, has 0 on the left side and lacks it on the right")
         path = self.file("a.bytes", bytes([2, 4]))
         done = run("tools/scheme", "explain", path)
-        self.assertEqual((done.returncode, done.stderr), (1, f"{path}:byte 2: refused 2: found 4, expected the number of dimensions in the orbit type, 0 to 3\n"))
+        self.assertEqual((done.returncode, done.stderr),
+                         (1, f"{path}:byte 2: refused 2: found 4, expected the number of dimensions in the orbit type, 0 to 3\n"))
         for second, said in ((0, "found 0"), (3, "found 3"), (2, "found 2")):  # the first hook, no node, an added one
             path = self.file("a.bytes", bytes([34, 0, 3, 2, 2, 3, second, 0, 0]))
             done = run("tools/scheme", "explain", path)
@@ -249,7 +252,8 @@ class Schemes(Case):
         bytes_ = self.path("a.bytes")
         run("tools/scheme", "assemble", without, "-o", bytes_)
         done = run("tools/scheme", "explain", "schemes/split-edge.scheme", without, bytes_)
-        self.assertEqual((done.returncode, done.stdout, done.stderr), (0, f"schemes/split-edge.scheme: accepted\n{without}: accepted\n{bytes_}: accepted\n", ""))
+        self.assertEqual((done.returncode, done.stdout, done.stderr),
+                         (0, f"schemes/split-edge.scheme: accepted\n{without}: accepted\n{bytes_}: accepted\n", ""))
         alone = self.file("b.scheme", "n 2\norbit\nnode 0 preserved ->\ndonors\n")  # the mark, and no node that has a donor
         later = self.file("c.scheme", "n 2\norbit 0\nnode 0 preserved 0 -> 0\nnode 1 added -> 0\nnode 2 deleted 0 ->\ndonors 1:2\n"
                           "left 1: 2-2\nleft 2: 0-2\nright 1: 1-1\nright 2: 0-1\n")  # a later node, which goes
@@ -262,14 +266,16 @@ class Schemes(Case):
         self.assertEqual((done.returncode, done.stderr), (1, f"{path}:4:17: found 1 as byte 6 of the scheme, expected 0\n"))
         path = self.file("a.scheme", "n 2\norbit 0 3\n")
         done = run("tools/scheme", "explain", path, "no/such/file")
-        self.assertEqual((done.returncode, done.stderr), (1, f"{path}:2:9: found '3', expected a dimension 0, 1 or 2\nno/such/file: No such file or directory\n"))
+        self.assertEqual((done.returncode, done.stderr),
+                         (1, f"{path}:2:9: found '3', expected a dimension 0, 1 or 2\nno/such/file: No such file or directory\n"))
 
     def test_no_reason_is_said(self):
         """A kernel that refuses everything with 5, node 1, (0, 2): the tool says that it finds no reason, and does not make one up."""
         archive = wrong_kernel(self.folder, 1 << 63 | 5 | 1 << 8 | 0 << 16 | 2 << 24)
         done = run("env", f"GMAP_ARCHIVE={archive}", "tools/scheme", "explain", "schemes/split-edge.scheme")
         self.assertEqual((done.returncode, done.stderr), (
-            1, "schemes/split-edge.scheme: node 1: refused 5: the scheme would tear the map at a node (dimensions 0 and 2); this tool finds no reason for it\n"))
+            1,
+            "schemes/split-edge.scheme: node 1: refused 5: the scheme would tear the map at a node (dimensions 0 and 2); this tool finds no reason for it\n"))
 
     def test_reasons_are_the_kernels(self):
         kernel, source, said = Kernel.loaded(), random.Random(4711), ""
@@ -546,8 +552,10 @@ class Maps(Case):
         more = self.file("more", b"\2" * 553)
         for words, said in (((small, small, "1", "70000"), "the darts: found dart 70000, expected at most 65535, as a dart has two bytes"),
                             ((large, small), f"{large}: found 14346 bytes, expected at most 14345"),
-                            (("schemes/maps/bend.map", small), "schemes/maps/bend.map: found a text, expected a map file, which tools/map assemble makes of it"),
-                            ((small, "schemes/split-edge.scheme"), "schemes/split-edge.scheme: found a text, expected a scheme's bytes, which tools/scheme assemble makes of it"),
+                            (("schemes/maps/bend.map", small),
+                             "schemes/maps/bend.map: found a text, expected a map file, which tools/map assemble makes of it"),
+                            ((small, "schemes/split-edge.scheme"),
+                             "schemes/split-edge.scheme: found a text, expected a scheme's bytes, which tools/scheme assemble makes of it"),
                             ((small, large), f"{large}: found 14346 bytes, expected at most 552"),
                             ((small, more), f"{more}: found 553 bytes, expected at most 552"),
                             ((small, small, *["0"] * 1025), "the darts: found 1025 darts, expected at most 1024")):

@@ -12,7 +12,7 @@ from common import Case, run
 from gmap import files
 
 COMMANDS = ["tools/archive", "tools/bench", "tools/program", "tools/scheme", "tools/map", "tools/apply", "tools/report", "tools/promises",
-            "tools/cost", "tests/run", "tests/reports/beside", "perf/run", "perf/report", "perf/maps"]
+            "tools/cost", "tools/try-edit", "tests/run", "tests/reports/beside", "perf/run", "perf/report", "perf/maps"]
 
 
 class Manners(Case):

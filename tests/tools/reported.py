@@ -116,7 +116,8 @@ class Reported(Case):
             done = subprocess.run([REPORT, *paths, "-o", out], stdin=subprocess.DEVNULL, capture_output=True)
             self.assertEqual((done.returncode, done.stderr), (0, b""))
             written = done.stdout if out == "/dev/stdout" else data_of(out)
-            self.assertEqual(written, struct.pack("<H", 3) + b"".join(struct.pack("<H", len(file)) + file for file in (E, BROKEN, maps.map_in(data_of(paths[2])).file())))
+            self.assertEqual(written, struct.pack("<H", 3) + b"".join(struct.pack("<H", len(file)) + file for file in (E, BROKEN,
+                                                                                                                       maps.map_in(data_of(paths[2])).file())))
         with open(self.path("input"), "rb") as given:
             done = subprocess.run(["tools/program", "report_main"], stdin=given, capture_output=True, text=True)
         self.assertEqual((done.returncode, done.stdout, done.stderr), (0, "2 2 1 1 1 0\nrefused 7\n16 6 7 2 1 0\n18 8 8 3 2 0\n", ""))

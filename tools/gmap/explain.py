@@ -139,11 +139,13 @@ def incidence_refusals(s, left, right):
         if kind == PRESERVED:
             for have, other, a, b in ((here, there, "left", "right"), (there, here, "right", "left")):
                 if have - other:
-                    reasons.append(f"it is preserved, has {listed(sorted(have - other))} on the {a} side and lacks {'it' if len(have - other) == 1 else 'them'} on the {b}")
+                    them = "it" if len(have - other) == 1 else "them"
+                    reasons.append(f"it is preserved, has {listed(sorted(have - other))} on the {a} side and lacks {them} on the {b}")
         else:
             lacking = every - (here if kind == DELETED else there)
             if lacking:
-                reasons.append(f"it is {NAMES[kind]}, must have each dimension on the {'left' if kind == DELETED else 'right'} side and lacks {listed(sorted(lacking))}")
+                where = "left" if kind == DELETED else "right"
+                reasons.append(f"it is {NAMES[kind]}, must have each dimension on the {where} side and lacks {listed(sorted(lacking))}")
         if reasons:
             sides = {PRESERVED: (left, right), DELETED: (left,), ADDED: (right,)}[kind]
             yield Refusal(4, v, reasons[0], reasons[1:] + [side.has(v) for side in sides])

@@ -53,7 +53,8 @@ def map_rules(fills):
     return [f".edge{{stroke:{FAINT};stroke-width:1;fill:none}}", f".open{{stroke:{FAINT};stroke-width:1;stroke-dasharray:2 4;fill:none}}",
             f".dart{{stroke:{INK};stroke-width:1}}", f".new{{stroke:{INK};stroke-width:3}}",
             f".gone{{stroke:{INK};stroke-width:1.2;stroke-dasharray:3 2}}", f".strike{{stroke:{INK};stroke-width:1.6;fill:none}}",
-            f".pointed{{stroke:{POINTED};stroke-width:3;fill:none}}", ".slot{text-anchor:middle;font-size:10px}", ".d3{font-size:8.5px}", ".d4{font-size:7px}", *tags]
+            f".pointed{{stroke:{POINTED};stroke-width:3;fill:none}}", ".slot{text-anchor:middle;font-size:10px}", ".d3{font-size:8.5px}", ".d4{font-size:7px}",
+            *tags]
 
 
 def scheme_rules():

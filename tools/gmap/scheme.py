@@ -326,7 +326,8 @@ class Bytes:
         free = s.there("left")
         for v, donor in (s.donors or {}).items():
             if donor not in free:
-                raise Fault(places[v], f"found {donor}, expected the donor of node {v}: a node that is there on the left, " + (plain(free) if free else "and there is none"))
+                which = plain(free) if free else "and there is none"
+                raise Fault(places[v], f"found {donor}, expected the donor of node {v}: a node that is there on the left, {which}")
 
     def arc(self, s, side, arcs):
         ends, start = s.there(side), self.place()

@@ -90,10 +90,10 @@ pub(crate) fn staged(
     let found = v.fault;
     let s = r.scheme;
     let tree = v.tree;
-    match found {
-        Fault::Clean => apply_at(n, slots, table, store, s, tree, first(darts), second(darts)),
-        Fault::Given(f) => Answer::Refused(f),
+    if let Fault::Given(f) = found {
+        return Answer::Refused(f);
     }
+    apply_at(n, slots, table, store, s, tree, first(darts), second(darts))
 }
 
 // Six numbers at the start of `out`.

@@ -24,7 +24,7 @@ returns : tie.Need-returns
 returns c = staged-7 _ _ _ (survey-broken _ _ _ (c .before .before .survey .ensures) (c .enum-told .given .1))
 
 returns-2 : tie.Need-returns-2
-returns-2 c = staged-12 _ _ _ (surveyed (c .before) .0) (c .if1 .taken)
+returns-2 c = staged-12 _ _ _ (surveyed (c .before) .0) (omega (arith, c .if1 .taken))
 
 count-requires : tie.Need-count-requires
 count-requires c κs =
@@ -34,14 +34,14 @@ count-requires c κs =
     (p .0, (p .1 .0, (wellFormed-iff _ _ .0 (f .0), (f .1, p .1 .1))))
 
 six-requires : tie.Need-six-requires
-six-requires c κs = search needs
+six-requires c κs = let e = c .before .before .before .before .before in omega (arith, e .if1 .left)
 
 returns-3 : tie.Need-returns-3
 returns-3 c =
     let s = c .before .before in
     let r = s .before .before .before .before in
     let e = r .before .before in
-    staged-0 _ _ _ (surveyed (e .before) .0) (e .if1 .left) _ _ (r .count .ensures) (s .six .ensures)
+    staged-0 _ _ _ (surveyed (e .before) .0) (omega (arith, e .if1 .left)) _ _ (r .count .ensures) (s .six .ensures)
 
 pub counted-spec : {M : Type 1} → statement M
 counted-spec =

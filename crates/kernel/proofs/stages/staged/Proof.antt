@@ -72,6 +72,11 @@ apply-at-requires c κs =
 
 returns-2 : tie.Need-returns-2
 returns-2 c =
+    let j = c .before .before .before .before .before in
+    stage-refused _ _ _ _ (start (read-done j) .args .darts) (found-some _ _ (sym (c .before .found .given .1) ∙ fault-is j))
+
+returns-3 : tie.Need-returns-3
+returns-3 c =
     let a = c .before .before .before .before in
     let s = a .before in
     let f = s .before in
@@ -80,12 +85,7 @@ returns-2 c =
     stage-on _ _ _ _ (start (read-done j) .args .darts) (found-none _ (sym (o .enum-told .given .1) ∙ fault-is j)) (scheme-is (read-done j))
     (f .first .ensures) (s .second .ensures) (a .apply-at .ensures)
 
-returns-3 : tie.Need-returns-3
-returns-3 c =
-    let j = c .before .before .before .before .before in
-    stage-refused _ _ _ _ (start (read-done j) .args .darts) (found-some _ _ (sym (c .before .found .given .1) ∙ fault-is j))
-
 pub staged-spec : {M : Type 1} → statement M
 staged-spec =
-    tie.close (tie.spec (λ c κs. search needs) (λ c κs. search needs) returns judge-requires (λ c. search needs) (λ c κs. search needs)
-    (λ c κs. search needs) apply-at-requires (λ c. search needs) (λ c. search needs) (λ c. search needs) returns-2 returns-3)
+    tie.close (tie.spec (λ c κs. search needs) (λ c κs. search needs) returns judge-requires (λ c. search needs) returns-2 (λ c. search needs)
+    (λ c κs. search needs) (λ c κs. search needs) apply-at-requires (λ c. search needs) (λ c. search needs) returns-3)
