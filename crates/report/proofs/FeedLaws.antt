@@ -77,7 +77,8 @@ pub room-one : (left : ℕ) (sums : List ℕ) → SumsRoom (left + 1) sums → S
 room-one left sums r = record { six = r .six; few = λ i. omega (arith, r .few i) }
 
 -- once the map is added, they have room for those after it
-pub room-file : (left : ℕ) (f sums out : List ℕ) (line : Line) (out₁ : List ℕ) → Lined f sums out line out₁ → SumsRoom (left + 1) sums → SumsRoom left (line .sums)
+pub room-file : (left : ℕ) (f sums out : List ℕ) (line : Line) (out₁ : List ℕ) → Lined f sums out line out₁ → SumsRoom (left + 1) sums
+    → SumsRoom left (line .sums)
 room-file left f sums out line out₁ x room = rw (x .total) (room-summed f left sums room)
 
 module _ (left long : ℕ) (p : List ℕ) where
