@@ -1,5 +1,7 @@
 // Numbers below a bound and the lists made of them, as definitions (specs/) and laws (proofs/), and a buffer's words. This crate knows
 // nothing of maps.
+#![tactic(auto)]
+
 pub mod byte;
 pub mod words;
 

@@ -5,7 +5,7 @@ ghost use Rattle.bench.specs.Bench.{shown as shown_of};
 use model::Answer;
 
 // The values of an edit that is done; all are 0 on refusal.
-#[derive(Drop)]
+#[derive(Clone, Copy)]
 pub struct Values {
     pub orbit: u32,
     pub added: u32,

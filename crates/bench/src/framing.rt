@@ -11,14 +11,14 @@ const LONGEST_SCHEME: usize = 552;
 const MOST_DARTS: usize = 1024;
 
 // How many bytes the map file and the scheme have, and how many darts are listed.
-#[derive(Drop)]
+#[derive(Clone, Copy)]
 pub struct Layout {
     pub map: usize,
     pub scheme: usize,
     pub darts: usize,
 }
 
-#[derive(Drop)]
+#[derive(Clone, Copy)]
 pub enum Framing {
     Framed(Layout),
     Fault,

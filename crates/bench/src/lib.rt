@@ -1,4 +1,6 @@
 // The bench program on slices: from the bytes of its standard input to those that it prints.
+#![tactic(auto)]
+
 mod answer;
 mod framing;
 mod session;

@@ -1,4 +1,6 @@
 // The tests of a scheme that has been read: hook, incidence, cycles, in this order.
+#![tactic(auto)]
+
 pub mod arcs;
 pub mod hook;
 pub mod tree;
@@ -66,7 +68,7 @@ fn fault<'a>(
 }
 
 // What is known of a scheme: the first of refusals 3, 4 and 5 that applies, if one does, and the trees of its left arcs.
-#[derive(Drop)]
+#[derive(Clone, Copy)]
 pub struct Verdict {
     pub fault: Fault,
     pub tree: Tree,

@@ -13,7 +13,7 @@ use incidence::Found;
 // A spanning forest of the left nodes that the hooks reach, one tree for each hook. It has `size` entries, and entry k is the node `node[k]`. Entries
 // 0 to `roots - 1` are the hooks (node 0, then the second hook if there is one) and have no parent: their `dim` is 255. Every other entry was reached
 // from the node `parent[k]`, which comes earlier, by a left arc of dimension `dim[k]`. `reached[s]` says whether node s is an entry.
-#[derive(Drop)]
+#[derive(Clone, Copy)]
 pub struct Tree {
     pub size: usize,
     pub roots: usize,
@@ -214,7 +214,7 @@ fn pass<'a>(
 }
 
 // What is reached from the hooks: the trees, and the least left node that no hook reaches, if there is one.
-#[derive(Drop)]
+#[derive(Clone, Copy)]
 pub struct Reach {
     pub tree: Tree,
     pub out: Found,

@@ -1,4 +1,6 @@
 // Counting the cells of a map: one walk over the map for each kind of cell.
+#![tactic(auto)]
+
 ghost use Rattle.std.specs.Prelude.{◌≡◌, ◌⊎◌, cond, ◌*◌, ◌<◌, length, get_or, eqb};
 ghost use Rattle.base.specs.Below.{count_below};
 ghost use Rattle.model.specs.Map.{view, live};

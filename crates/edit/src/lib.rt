@@ -1,4 +1,6 @@
 // Applying an accepted scheme at a dart or two: refusals 9 and 10, and the published rewriting; 6 to 8 before them are in `site`.
+#![tactic(auto)]
+
 pub mod nodes;
 pub mod site;
 

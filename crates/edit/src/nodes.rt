@@ -3,7 +3,7 @@ ghost use Rattle.std.specs.Prelude.{◌≤◌};
 ghost use Rattle.edit.specs.Nodes.{NodesOf};
 
 // The nodes of a kind in ascending order: the first `size` of `node`.
-#[derive(Drop)]
+#[derive(Clone, Copy)]
 pub struct Nodes {
     pub size: usize,
     pub node: [u8; 16],

@@ -1,4 +1,6 @@
 // What a program in C links: each call of the kernel, with its answer as one word (include/gmap.h).
+#![tactic(auto)]
+
 ghost use Rattle.std.specs.Prelude.{[]};
 ghost use Rattle.model.specs.Sequence.{table_check, scheme_check, edit, count as counting, load as loading, write as writing};
 ghost use Rattle.demands.specs.Promises.{lending, nothing};

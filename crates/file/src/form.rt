@@ -8,7 +8,7 @@ use crate::places::{links_from, size_in, tags_from};
 use numbers::Cursor;
 
 // How many darts the frame has room for, or that it is none.
-#[derive(Drop)]
+#[derive(Clone, Copy)]
 pub enum Framing {
     Darts(usize),
     Broken,

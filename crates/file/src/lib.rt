@@ -1,4 +1,6 @@
 // The map file: writing a map, and loading a file into a table. Whether the loaded map is well-formed is not asked here.
+#![tactic(auto)]
+
 mod form;
 mod places;
 mod records;

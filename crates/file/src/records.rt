@@ -11,7 +11,7 @@ use numbers::Cursor;
 use table::words::{put_link, put_state, put_tag};
 
 // The links of a dart, by dimension.
-#[derive(Drop)]
+#[derive(Clone, Copy)]
 struct Links {
     a0: u32,
     a1: u32,

@@ -11,7 +11,7 @@ ghost use Rattle.file.specs.Sections.{link_bytes, part_bytes, part_size, section
 use numbers::Cursor;
 use table::words::{state, tag, word};
 
-#[derive(Drop)]
+#[derive(Clone, Copy)]
 pub enum Part {
     Slots,
     Tags,

@@ -5,20 +5,20 @@ ghost use Rattle.frame.specs.Place.{TakenAt, ArcAt, step_at, section_at};
 
 use base::byte::wide;
 
-#[derive(Drop)]
+#[derive(Clone, Copy)]
 pub struct Cursor {
     pub at: usize,
 }
 
 // A byte that was read, and the place after it.
-#[derive(Drop)]
+#[derive(Clone, Copy)]
 pub struct Taken {
     pub value: u8,
     pub next: Cursor,
 }
 
 // An arc that was read: its dimension, its smaller and its larger node, and the place after it.
-#[derive(Drop)]
+#[derive(Clone, Copy)]
 pub struct Arc {
     pub dim: u8,
     pub near: u8,
@@ -27,21 +27,21 @@ pub struct Arc {
 }
 
 // Whether what was read is in the form; if so, `next` is the place after it.
-#[derive(Drop)]
+#[derive(Clone, Copy)]
 pub struct Verdict {
     pub ok: bool,
     pub next: Cursor,
 }
 
 // What reading a byte finds: the byte and the place after it, or the end of the bytes.
-#[derive(Drop)]
+#[derive(Clone, Copy)]
 pub enum Step {
     Byte(u8, Cursor),
     End,
 }
 
 // What reading a count finds: the count, and the place after the section's last item.
-#[derive(Drop)]
+#[derive(Clone, Copy)]
 pub enum Section {
     Count { count: u8, next: Cursor },
     Bad,

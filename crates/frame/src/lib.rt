@@ -1,4 +1,6 @@
 // The frame of a scheme's bytes: n, the marks of a second hook and of donors, and the counts. It settles that every section lies within the bytes.
+#![tactic(auto)]
+
 pub mod cursor;
 pub mod nodes;
 
@@ -10,7 +12,7 @@ use cursor::{Cursor, Section, Step};
 use nodes::count_nodes;
 
 // What a first byte says: n, how many bytes name a second hook (1 or 0), and whether donors are named (1 or 0).
-#[derive(Drop)]
+#[derive(Clone, Copy)]
 pub struct Marks {
     pub n: u8,
     pub hook: u8,
@@ -18,7 +20,7 @@ pub struct Marks {
 }
 
 // The frame up to the nodes: what the first byte says, the counts of places and nodes, where the first section begins, and where the left arcs do.
-#[derive(Drop)]
+#[derive(Clone, Copy)]
 pub enum Opening {
     Counts {
         n: u8,
@@ -33,7 +35,7 @@ pub enum Opening {
 }
 
 // The whole frame: what the first byte says, the four counts, and where the first section begins.
-#[derive(Drop)]
+#[derive(Clone, Copy)]
 pub struct Layout {
     pub n: u8,
     pub hook: u8,
@@ -45,7 +47,7 @@ pub struct Layout {
     pub first: Cursor,
 }
 
-#[derive(Drop)]
+#[derive(Clone, Copy)]
 pub enum Form {
     Laid(Layout),
     Broken,

@@ -1,4 +1,6 @@
 // Incidence, and after it the cycles, from the codes of arcs. `ltwice` and `rtwice` say which nodes have two arcs of one dimension on a side.
+#![tactic(auto)]
+
 pub mod cycles;
 
 ghost use Rattle.std.specs.Prelude.{◌≡◌, ◌<◌, ◌≤◌};
@@ -11,7 +13,7 @@ use cycles::cycle_fault;
 use model::{Fault, Refusal};
 
 // What a search for an offending node finds: the least one, if there is one.
-#[derive(Drop)]
+#[derive(Clone, Copy)]
 pub enum Found {
     Node(u32),
     Nothing,

@@ -1,4 +1,6 @@
 // The match: the darts of the left nodes, row by row along the trees of left arcs, then the other arcs over the whole orbit.
+#![tactic(auto)]
+
 mod arcs;
 mod images;
 mod retrace;

@@ -1,18 +1,20 @@
 // A place in bytes, passed and returned by value, and the numbers that are read and put there. Callers know that these lie within the bytes. The
 // reader of a scheme does not know it, so it has a cursor of its own (`frame::cursor`), which finds where the bytes end.
+#![tactic(auto)]
+
 ghost use Rattle.std.specs.Prelude.{◌+◌, ◌≤◌, length};
 ghost use Rattle.base.specs.Digits.{bytes_of};
 ghost use Rattle.numbers.specs.Places.{Width, NumberRead, Put};
 
 use base::byte::number;
 
-#[derive(Drop)]
+#[derive(Clone, Copy)]
 pub struct Cursor {
     pub at: usize,
 }
 
 // A number that was read, and the place after it.
-#[derive(Drop)]
+#[derive(Clone, Copy)]
 pub struct Number {
     pub value: u32,
     pub next: Cursor,

@@ -1,5 +1,7 @@
 // Walking the orbit of a dart. The darts that are reached take places in turn, and the dart at each place is asked for its links
 // in turn, until none is left that was not asked.
+#![tactic(auto)]
+
 pub mod store;
 
 ghost use Rattle.std.specs.Prelude.{◌≡◌, ◌*◌, ◌<◌, ◌≤◌, get_or};

@@ -22,7 +22,7 @@ pub const TABLE: usize = RECORD * MOST_SLOTS as usize;
 pub const STORE: usize = 16 * MOST_SLOTS as usize;
 
 // What opening a file finds: its map, or the number of the refusal.
-#[derive(Drop)]
+#[derive(Clone, Copy)]
 pub enum Opened {
     Map { n: u32, slots: u32 },
     Refused(u32),

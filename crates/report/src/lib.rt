@@ -1,5 +1,7 @@
 // The report program on slices, step by step. In each state it wants some bytes of the input. What it gets of them brings it to the next state, with
 // lines to print.
+#![tactic(auto)]
+
 mod ahead;
 mod lines;
 mod map;
@@ -18,7 +20,7 @@ use numbers::Cursor;
 // - `Start`: the number of maps comes next.
 // - `File`: a map file of `long` bytes comes next, and `left` maps come after it.
 // - `End`: the report has ended.
-#[derive(Drop)]
+#[derive(Clone, Copy)]
 pub enum State {
     Start,
     File { left: usize, long: usize },
@@ -26,7 +28,7 @@ pub enum State {
 }
 
 // The state after a step, the sums of the maps that were counted, and how many bytes were printed.
-#[derive(Drop)]
+#[derive(Clone, Copy)]
 pub struct Fed {
     pub state: State,
     pub sums: [u32; 6],

@@ -14,7 +14,7 @@ use program::opening::{Opened, open};
 use table::words::size;
 
 // How many bytes were printed, and the sums with the map's counts.
-#[derive(Drop)]
+#[derive(Clone, Copy)]
 pub struct Line {
     pub printed: usize,
     pub sums: [u32; 6],

@@ -1,4 +1,6 @@
 // The report program: pieces of standard input go to `report::feed` as it wants them, and what it prints goes to standard output.
+#![tactic(auto)]
+
 use program::opening::{STORE, TABLE};
 use report::State;
 

@@ -1,4 +1,6 @@
 // Reading a scheme's bytes into one value of fixed size.
+#![tactic(auto)]
+
 mod arcs;
 mod donors;
 mod nodes;
@@ -16,7 +18,7 @@ use second::read_second;
 
 // What reading a scheme's bytes gives: the scheme, and which of its nodes have two arcs of one dimension, on the left and on the right. If the bytes
 // are not in the form, `ok` is false and the scheme is blank.
-#[derive(Drop)]
+#[derive(Clone, Copy)]
 pub struct Reading {
     pub ok: bool,
     pub scheme: Scheme,

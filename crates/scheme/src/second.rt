@@ -10,7 +10,7 @@ use frame::Layout;
 use frame::cursor::Cursor;
 
 // Whether the second hook is in the form. If so, `node` is its number, or 0 if none is named, and `next` is the place after it.
-#[derive(Drop)]
+#[derive(Clone, Copy)]
 pub struct Second {
     pub ok: bool,
     pub node: u8,

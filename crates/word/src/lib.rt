@@ -1,11 +1,13 @@
 // An answer as one word, for callers in C: include/gmap.h takes it apart.
+#![tactic(auto)]
+
 ghost use Rattle.std.specs.Prelude.{◌≡◌, ◌<◌};
 ghost use Rattle.word.specs.Word.{refused as refusal, packed, Small, NamedBy};
 
 use model::{Answer, Refusal};
 
 // A refusal in numbers: its own, and those of the node and of the pair of dimensions that it names, 0 where it names none.
-#[derive(Drop)]
+#[derive(Clone, Copy)]
 pub struct Named {
     pub number: u32,
     pub node: u32,
