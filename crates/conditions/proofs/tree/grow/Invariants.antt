@@ -1,0 +1,13 @@
+-- The loop's invariant is the contract at the arcs passed.
+use Prim.Native.Nat.{◌≤◌, ◌-◌}
+use mathlib.Core.Path.{◌≡◌}
+use native.Mathlib.Omega.{arith}
+use Rattle.conditions.specs.Tree.{TreeGrown}
+use Rattle.conditions.proofs.TreeLaws.{grown-none, grown-more}
+use Rattle.conditions.proofs.tree.grow.Given as goal
+
+abbrev pub invariant-loop-a : goal.invariant-loop-a
+invariant-loop-a l = (l.a ≤ l.count) × TreeGrown l.arcs l.count l.a l.second l.node l.parent l.dim l.reached l.size l.k
+
+abbrev pub decreases-loop-a : goal.decreases-loop-a
+decreases-loop-a l = l.count - l.a

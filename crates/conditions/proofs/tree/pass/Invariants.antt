@@ -1,0 +1,13 @@
+-- The loop's invariant: if the last pass added nothing, no arc leads out of the trees.
+use Prim.Native.Nat.{◌-◌}
+use mathlib.Core.Path.{◌≡◌}
+use native.Mathlib.Omega.{arith}
+use Rattle.conditions.specs.Tree.{TreeGrown}
+use Rattle.conditions.proofs.TreeLaws.{some-entry, few, grown-start}
+use Rattle.conditions.proofs.tree.pass.Given as goal
+
+abbrev pub invariant-loop-last : goal.invariant-loop-last
+invariant-loop-last l = TreeGrown l.arcs l.count l.count l.second l.node l.parent l.dim l.reached l.last l.k
+
+abbrev pub decreases-loop-last : goal.decreases-loop-last
+decreases-loop-last l = 16 - l.last

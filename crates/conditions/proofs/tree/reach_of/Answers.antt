@@ -1,0 +1,18 @@
+-- `conditions::tree::reach_of` meets its contract: if the walk leaves no left node out, no arc leads out of its trees.
+use mathlib.Core.Path.{sym, ◌∙◌}
+use Rattle.conditions.proofs.TreeLaws.{tree-start, tree-aimed, closed-walk}
+use borrow.Author.Rules.{rules}
+use Rattle.conditions.proofs.tree.reach_of.Goals as goal
+
+pub walk-size-requires : goal.walk-size-requires
+walk-size-requires c = tree-start _ _ _ c.requires.nodes_bound.1 c.roots_of-roots.ensures.0
+
+pub pass-size-requires : goal.pass-size-requires
+pass-size-requires c =
+    let p = (c.requires.nodes_bound, (c.requires.joining, (c.requires.aimed, c.requires.lefts))) in record { joining = p.1.0; spans = tree-aimed _ _ _ p.1.1.0 _ _ _ _ _ _ c.walk-size.ensures }
+
+pub returns-in_default : goal.returns-in_default
+returns-in_default c =
+    let p = (c.requires.nodes_bound, (c.requires.joining, (c.requires.aimed, c.requires.lefts))) in
+    let spans = tree-aimed _ _ _ p.1.1.0 _ _ _ _ _ _ c.walk-size.ensures in
+    let closed = closed-walk _ _ _ _ _ _ _ _ _ _ spans p.1.1.1 (sym c.in_default.is ∙ c.unreached-out.ensures) in record { spanning = closed; roots_value = c.roots_of-roots.ensures.0; out_value = c.unreached-out.ensures }

@@ -1,0 +1,13 @@
+-- The loop's invariant: the entries are trees over targets.
+use Prim.Native.Nat.{◌-◌}
+use native.Mathlib.Omega.{arith}
+use Rattle.conditions.specs.Tree.{ByTarget, TreeBy}
+use Rattle.conditions.proofs.TreeLaws.{few, reach-entry}
+use borrow.Author.Rules.{rules}
+use Rattle.conditions.proofs.tree.walk.Given as goal
+
+abbrev pub invariant-loop-k : goal.invariant-loop-k
+invariant-loop-k l = TreeBy (ByTarget l.targets) l.second l.node l.parent l.dim l.reached l.size
+
+abbrev pub decreases-loop-k : goal.decreases-loop-k
+decreases-loop-k l = 16 - l.k

@@ -1,0 +1,20 @@
+-- `count::volumes` meets its contract.
+use mathlib.Core.Path.{◌≡◌}
+use mathlib.Core.Logic.{⊎_elim}
+use native.Mathlib.Omega.{arith}
+use borrow.Author.Rules.{rules}
+use Rattle.count.proofs.CellKindLaws.{all_links, volumes-listed, kind-ready, kind-cells, volumes-none, volumes-some}
+use Rattle.count.proofs.volumes.Goals as goal
+
+pub returns-then-n-eq2 : goal.returns-then-n-eq2
+returns-then-n-eq2 c = volumes-none _ _ c.if-n-eq2.true
+
+pub orbits-requires : goal.orbits-requires
+orbits-requires c =
+    let p = (c.requires.fact, (c.requires.sized, (c.requires.well_formed, c.requires.store_len))) in record { sized = p.1.0; before_walking = kind-ready _ _ p.0 p.1.1.0 all_links 3 volumes-listed c.wide.ensures; store_len = p.1.1.1 }
+
+pub returns : goal.returns
+returns c =
+    let three : c.args.n ≡ 3 = ⊎_elim (λ e. absurd (omega (arith, c.if-n-eq2.false, e))) (λ e. e) c.requires.fact in
+    let p = (c.requires.fact, (c.requires.sized, (c.requires.well_formed, c.requires.store_len))) in
+        volumes-some _ _ (three) (kind-cells _ _ p.0 p.1.1.0 all_links 3 volumes-listed c.wide.ensures c.orbits.ensures)

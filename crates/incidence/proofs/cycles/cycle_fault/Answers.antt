@@ -1,0 +1,48 @@
+-- `incidence::cycles::cycle_fault` meets its contract.
+use Prim.Native.Nat.{◌≤◌, ◌-◌}
+use mathlib.Core.Path.{◌≡◌, refl, ◌∙◌}
+use mathlib.Core.Option.{none}
+use native.Mathlib.Omega.{arith}
+use borrow.Author.Rules.{rules}
+use Rattle.base.specs.First.{first}
+use Rattle.base.proofs.FirstLaws.{first_more}
+use Rattle.model.specs.declared.Fault.TheVariants.{Clean}
+use Rattle.incidence.specs.Cycles.{at_node}
+use Rattle.incidence.proofs.CycleSearchLaws.{Passed, passed_none, passed-pair, passed-dimension, passed-node}
+use Rattle.incidence.proofs.CycleSearchLaws.{found-at-node, found-pair, found_no_pair}
+use Rattle.incidence.proofs.cycles.cycle_fault.Goals as goal
+
+pub nodes-init : goal.nodes-init
+unfolding first
+nodes-init c = (omega arith, refl, refl)
+
+pub loop-j-init : goal.loop-j-init
+loop-j-init c = (passed_none, c.nodes.invariant.2)
+
+pub loop-i-init : goal.loop-i-init
+loop-i-init c = let v = c.loop-j.invariant in (v.0, omega arith, v.1)
+
+pub pair_ok-requires : goal.pair_ok-requires
+pair_ok-requires c =
+    let p = (c.requires.le_n, (c.requires.coding, c.requires.coding_2)) in record { s_bound = (omega arith, omega arith, omega arith); by_index = (λ i h. p.1.0.small _ i c.nodes-test.true h); by_index_2 = λ i h. p.1.1.small _ i c.nodes-test.true h }
+
+pub loop-i-preserved : goal.loop-i-preserved
+loop-i-preserved c =
+    let v = c.loop-i.invariant in
+    (passed-pair v.0 _ c.pair_ok.ensures c.if-not-pair_ok.false, omega arith, v.2)
+
+pub loop-j-preserved : goal.loop-j-preserved
+loop-j-preserved c = let v = c.loop-i.invariant in (passed-dimension v.0 (omega arith), v.2)
+
+pub nodes-preserved : goal.nodes-preserved
+nodes-preserved c =
+    let l = c.loop-j.invariant in
+    (omega arith, first_more _ _ c.nodes.invariant.1 (passed-node l.0 _ (omega arith)), l.1)
+
+pub returns-after-nodes : goal.returns-after-nodes
+returns-after-nodes c = let v = c.nodes.invariant in v.2 ∙ found_no_pair _ _ _ _ _ _ _ v.1 v.0 c.nodes-test.false
+
+pub returns-then-not-pair_ok : goal.returns-then-not-pair_ok
+returns-then-not-pair_ok c =
+    found-pair _ _ _ _ _ _ _ c.nodes.invariant.1 _ c.nodes-test.true
+    (found-at-node c.loop-i.invariant.0 _ (omega arith) c.loop-i-test.true (omega arith) _ c.pair_ok.ensures c.if-not-pair_ok.true)

@@ -1,0 +1,30 @@
+-- `matching::arcs::arcs` meets its contract.
+use Prim.Native.Nat.{◌*◌, ◌-◌, ◌≤◌}
+use mathlib.Core.Path.{◌≡◌}
+use mathlib.Core.Bool.{true}
+use native.Mathlib.Omega.{arith}
+use borrow.Author.Rules.{rules}
+use borrow.Author.Tests.{not-true, not-false}
+use Rattle.model.specs.Map.{view}
+use Rattle.matching.specs.ArcTests.{arcs_test}
+use Rattle.matching.proofs.ArcTestLaws.{arcs-none, arcs-more, arcs_stop, arcs-done}
+use Rattle.matching.proofs.arcs.arcs.Goals as goal
+
+pub loop-k-init : goal.loop-k-init
+loop-k-init c = (omega arith, arcs-none _ _ _ _ _ _ _ _)
+
+pub arc-requires : goal.arc-requires
+arc-requires c =
+    let p = (c.requires.sized, c.requires.firm) in record { sized = p.0; firm = p.1; j_lt_count = (omega arith, omega arith) }
+
+pub returns-then-not-arc : goal.returns-then-not-arc
+returns-then-not-arc c = arcs_stop _ _ _ _ _ _ _ _ _ _ c.arc.ensures c.if-not-arc.true _ c.loop-k-test.true
+
+pub loop-k-preserved : goal.loop-k-preserved
+loop-k-preserved c =
+    (omega arith, arcs-more _ _ _ _ _ _ _ _ _ _ c.arc.ensures c.if-not-arc.false c.loop-k.invariant.1)
+
+pub returns : goal.returns
+returns c =
+    let inv = c.loop-k.invariant in
+    arcs-done _ _ _ _ _ _ _ _ _ _ inv.0 c.loop-k-test.false inv.1

@@ -1,0 +1,17 @@
+-- The loop's invariant: the arc holds at the places below r.
+use Prim.Native.Nat.{◌-◌, ◌≤◌}
+use mathlib.Core.Path.{◌≡◌}
+use mathlib.Core.Bool.{true}
+use native.Mathlib.Omega.{arith}
+use borrow.Author.Rules.{rules}
+use borrow.Author.Tests.{ne_eqb}
+use Rattle.model.specs.Map.{view}
+use Rattle.matching.specs.ArcTests.{follows}
+use Rattle.matching.proofs.ArcTestLaws.{follows-none, follows-more, follows_stop, follows-done, dart-read}
+use Rattle.matching.proofs.arcs.straight.Given as goal
+
+abbrev pub invariant-loop-r : goal.invariant-loop-r
+invariant-loop-r l = (l.r ≤ l.size) × (follows ((view l.slots l.table).link l.i) l.store l.r l.from l.to (λ q. q) ≡ true)
+
+abbrev pub decreases-loop-r : goal.decreases-loop-r
+decreases-loop-r l = l.size - l.r

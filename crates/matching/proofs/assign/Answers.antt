@@ -1,0 +1,29 @@
+-- `matching::assign` meets its contract.
+use mathlib.Core.Path.{◌∙◌}
+use borrow.Author.Rules.{rules}
+use borrow.Author.Tests.{not-true, not-false}
+use Rattle.matching.proofs.AssignLaws.{firm, ready, matched-at, unmatched}
+use Rattle.matching.proofs.assign.Goals as goal
+
+pub returns-then-not-hang : goal.returns-then-not-hang
+returns-then-not-hang c = record { at = λ p. unmatched (c.hang.ensures.none c.if-not-hang.true p.ready) c.hang.auto.store }
+
+pub rows-requires : goal.rows-requires
+rows-requires c =
+    let p = (c.requires.sized, c.requires.posed) in record { sized = p.0; rows_len = p.1.rows_long; before_matching = ready p.1 c.hang.ensures c.if-not-hang.false }
+
+pub returns-then-not-rows : goal.returns-then-not-rows
+returns-then-not-rows c =
+    record {
+      at = λ p. unmatched (c.rows.ensures.none c.if-not-rows.true (ready p c.hang.ensures c.if-not-hang.false))
+          (c.rows.auto.store ∙ c.hang.auto.store);
+    }
+
+pub arcs-requires : goal.arcs-requires
+arcs-requires c =
+    let p = (c.requires.sized, c.requires.posed) in record { sized = p.0; firm = firm (ready p.1 c.hang.ensures c.if-not-hang.false) (c.rows.ensures.done c.if-not-rows.false) p.1.coded }
+
+pub returns : goal.returns
+returns c =
+    let grown = c.rows.ensures.done c.if-not-rows.false in
+    record { at = λ p. matched-at p c.hang.ensures c.if-not-hang.false grown _ c.arcs.ensures }

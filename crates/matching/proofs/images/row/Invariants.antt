@@ -1,0 +1,14 @@
+-- The loop's invariant: the first r darts of the row have their places.
+use Prim.Native.Nat.{◌-◌, ◌≤◌, ◌<◌}
+use native.Mathlib.Omega.{arith}
+use borrow.Author.Rules.{rules}
+use Rattle.model.specs.Map.{view}
+use Rattle.matching.specs.Images.{Row}
+use Rattle.matching.proofs.ImageRowLaws.{mark-read, row-none, row-slot, row_below, row-clash, row_more, row_done}
+use Rattle.matching.proofs.images.row.Given as goal
+
+abbrev pub invariant-loop-r : goal.invariant-loop-r
+invariant-loop-r l = (l.r ≤ l.size) × Row l.slots ((view l.slots l.table).link l.i) l.from l.initial.store l.store l.end l.r
+
+abbrev pub decreases-loop-r : goal.decreases-loop-r
+decreases-loop-r l = l.size - l.r

@@ -1,0 +1,20 @@
+-- The loop's invariant: the links at the first p positions were followed.
+use Prim.Native.Nat.{◌+◌, ◌*◌, ◌-◌, ◌≤◌, ◌<◌}
+use mathlib.Core.Path.{◌≡◌}
+use native.Mathlib.Omega.{arith}
+use lib.ListN.{length}
+use borrow.Author.Rules.{rules}
+use Rattle.model.specs.Map.{view}
+use Rattle.orbit.specs.At.{site}
+use Rattle.matching.specs.Retrace.{Longer, Standing, Retracing}
+use Rattle.matching.proofs.RetraceLaws.{few_positions, x_slot, dim-low, y_slot, q_next, expand_first, expand_more, expand_none, expand_done}
+use Rattle.matching.proofs.retrace.expand.Given as goal
+
+abbrev pub invariant-loop-p : goal.invariant-loop-p
+invariant-loop-p l =
+    (l.p ≤ l.k) × (l.tail ≤ l.end) × (length l.store ≡ 16 * l.slots)
+    × ((T : Retracing (view l.slots l.table) l.initial.store l.size l.dims l.k l.head l.tail)
+    → Standing (site T.at) l.store l.size (4 * l.head + l.p) l.end × Longer l.slots l.initial.store l.store (l.size + l.tail))
+
+abbrev pub decreases-loop-p : goal.decreases-loop-p
+decreases-loop-p l = l.k - l.p

@@ -1,0 +1,25 @@
+-- `matching::retrace::meet` meets its contract.
+use mathlib.Core.Path.{refl, sym, ◌∙◌}
+use mathlib.Core.Logic.{inl, inr}
+use native.Mathlib.Omega.{arith}
+use borrow.Author.Rules.{rules}
+use Rattle.matching.proofs.ImageRowLaws.{mark-read}
+use Rattle.matching.proofs.RetraceLaws.{row_read, mark-some}
+use Rattle.matching.proofs.retrace.meet.Goals as goal
+
+pub returns-then-word-y : goal.returns-then-word-y
+returns-then-word-y c = inr (inr (refl, refl, inl (c.if-q-end.true, λ e. c.if-word-y.true (row_read _ _ _ _ _ c.word.ensures ∙ e))))
+
+pub returns-then-q-end : goal.returns-then-q-end
+returns-then-q-end c = inl (refl, refl, c.if-q-end.true, sym (row_read _ _ _ _ _ c.word.ensures) ∙ c.if-word-y.false)
+
+pub returns-then-word-ne0 : goal.returns-then-word-ne0
+returns-then-word-ne0 c =
+    inr (inr (refl, refl, inr (omega (arith, c.if-q-end.false, c.requires.y_lt_slots.1), mark-some _ _ _ c.word-2.ensures c.if-word-ne0.true)))
+
+pub push-requires : goal.push-requires
+push-requires c =
+    let p = (c.requires.slots_le_max_slots, (c.requires.taken, c.requires.y_lt_slots)) in record { slots_le_max_slots = p.0; taken = p.1.0; y_lt_slots = (p.1.1.0, mark-read _ _ _ c.word-2.ensures c.if-word-ne0.false) }
+
+pub returns : goal.returns
+returns c = inr (inl (refl, omega (arith, c.if-q-end.false, c.requires.y_lt_slots.1), c.push.ensures))

@@ -1,0 +1,38 @@
+-- `matching::retrace::retrace` meets its contract.
+use Prim.Native.Nat.{◌*◌, ◌-◌, ◌≤◌}
+use mathlib.Core.Path.{◌≡◌, ◌∙◌}
+use native.Mathlib.Omega.{arith}
+use lib.ListN.{length}
+use borrow.Author.Rules.{rules}
+use Rattle.model.specs.Map.{view}
+use Rattle.orbit.specs.At.{site}
+use Rattle.matching.specs.Retrace.{Retracing, Retraced}
+use Rattle.matching.proofs.RetraceLaws.{retrace_first, retracing, retrace_more, retrace_done, retrace_none}
+use Rattle.matching.proofs.retrace.retrace.Goals as goal
+
+pub loop-head-init : goal.loop-head-init
+loop-head-init c = let T = c.requires.retracing in (omega arith, T.some, T.standing.taken.long, λ T. retrace_first T)
+
+pub expand-end-requires : goal.expand-end-requires
+expand-end-requires c =
+    let v = c.loop-head.invariant in
+    let p = (c.requires.sized, c.requires.retracing) in record { sized = p.0; retracing = retracing p.1 (v.3 p.1) v.1 c.loop-head-test.true }
+
+pub returns-then-end-eq0 : goal.returns-then-end-eq0
+returns-then-end-eq0 c =
+    let v = c.loop-head.invariant in
+    λ T. retrace_none T (retrace_more T (v.3 T) v.1 (c.expand-end.ensures (retracing T (v.3 T) v.1 c.loop-head-test.true))) c.if-end-eq0.true
+
+pub loop-head-preserved : goal.loop-head-preserved
+loop-head-preserved c =
+    let v = c.loop-head.invariant in (
+      omega arith,
+      omega (arith, c.if-end-eq0.false),
+      c.expand-end.auto.store ∙ v.2,
+      λ T. retrace_more T (v.3 T) v.1 (c.expand-end.ensures (retracing T (v.3 T) v.1 c.loop-head-test.true)),
+    )
+
+pub returns : goal.returns
+returns c =
+    let v = c.loop-head.invariant in
+    λ T. retrace_done T (v.3 T) v.1 (omega (arith, v.0, c.loop-head-test.false))

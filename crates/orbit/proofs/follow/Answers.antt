@@ -1,0 +1,30 @@
+-- `orbit::follow` meets its contract: y has a place already (`followed-old`), or takes the next (`followed-new`).
+use mathlib.Core.Path.{sym, ◌∙◌}
+use native.Mathlib.Omega.{arith}
+use borrow.Author.Rules.{rules}
+use Rattle.orbit.specs.Store.{mark}
+use Rattle.orbit.proofs.StoreLaws.{mark_le}
+use Rattle.orbit.proofs.WalkLaws.{followed-old, followed-new}
+use Rattle.orbit.proofs.follow.Goals as goal
+
+pub keep-requires : goal.keep-requires
+unfolding mark
+keep-requires c =
+    let a = c.args in
+    omega (arith, mark_le a.slots a.store.now a.end c.requires.taken a.y c.requires.y_lt_slots.0)
+
+pub returns-then-m-ne0 : goal.returns-then-m-ne0
+unfolding mark
+returns-then-m-ne0 c =
+    let p = (c.requires.taken, c.requires.y_lt_slots) in
+    followed-old _ _ _ _ _ p.1.1 p.1.2 p.0 p.1.0 c.word-m.ensures c.if-m-ne0.true c.keep.ensures
+
+pub push-requires : goal.push-requires
+unfolding mark
+push-requires c =
+    record { slots_le_max_slots = c.requires.slots_le_max_slots; taken = c.requires.taken; y_lt_slots = (c.requires.y_lt_slots.0, sym c.word-m.ensures ∙ c.if-m-ne0.false) }
+
+pub returns : goal.returns
+returns c =
+    let p = (c.requires.taken, c.requires.y_lt_slots) in
+    followed-new _ _ _ _ _ p.1.1 p.1.2 p.0 p.1.0 c.push.ensures c.keep-2.ensures

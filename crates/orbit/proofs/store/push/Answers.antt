@@ -1,0 +1,9 @@
+-- `orbit::store::push` meets its contract.
+use borrow.Author.Rules.{rules}
+use Rattle.orbit.proofs.StoreLaws.{push_done}
+use Rattle.orbit.proofs.store.push.Goals as goal
+
+pub returns : goal.returns
+returns c =
+    push_done _ _ _ _ c.requires.taken c.requires.y_lt_slots.0 c.requires.y_lt_slots.1 c.keep.ensures
+    c.keep-2.ensures

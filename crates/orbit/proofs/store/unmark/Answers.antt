@@ -1,0 +1,18 @@
+-- `orbit::store::unmark` meets its contract.
+use mathlib.Core.Path.{sym, ap, ◌∙◌}
+use mathlib.Core.List.{List, ◌++◌}
+use Prim.Native.Nat.{ℕ}
+use lib.ListN.{drop, replicate}
+use lib.Seq.{length-take-le}
+use borrow.Author.Rules.{rules}
+use Rattle.orbit.specs.Places.{unmarked}
+use Rattle.orbit.proofs.store.unmark.Goals as goal
+
+pub slice_bounds-clear-end-2 : goal.slice_bounds-clear-end-2
+slice_bounds-clear-end-2 c = sym (length-take-le _ _ c.requires)
+
+pub returns : goal.returns
+unfolding unmarked
+returns c =
+    ap (λ (l : List ℕ). l ++ drop c.args.slots c.args.store.now)
+    (c.clear.ensures ∙ ap (λ (n : ℕ). replicate n 0) (length-take-le _ _ c.requires))

@@ -1,0 +1,26 @@
+-- `report::feed` meets its contract, state by state.
+use borrow.Author.Rules.{rules}
+use Rattle.report.proofs.FeedLaws.{fed_in, worked_in, ready_in, end-fed, start-worked, end-worked}
+use Rattle.report.proofs.feed.Goals as goal
+
+pub begin-requires : goal.begin-requires
+begin-requires c =
+    let p = (c.requires.ready, (c.requires.table_len, (c.requires.store_len, c.requires.longest_line_in_bounds))) in record { sums_value = ready_in _ _ c.in-Start.is _ p.0; longest_line_in_bounds = p.1.1.1 }
+
+pub file-requires : goal.file-requires
+file-requires c =
+    let asked = let p = (c.requires.ready, (c.requires.table_len, (c.requires.store_len, c.requires.longest_line_in_bounds))) in
+    let ready = ready_in _ _ c.in-File.is _ p.0 in
+    (ready.1, (ready.0, p.1)) in record { sums_room = asked.0; long_le_longest_file = asked.1.0; table_len = asked.1.1.0; store_len = asked.1.1.1.0; longest_line_in_bounds = asked.1.1.1.1 }
+
+pub returns-in-Start : goal.returns-in-Start
+returns-in-Start c =
+    let e = c.in-Start.is in record { fed_as = fed_in _ _ e _ _ _ _ _ c.begin.ensures; worked = worked_in _ _ e _ _ _ _ _ (start-worked _ _ _) }
+
+pub returns-in-File : goal.returns-in-File
+returns-in-File c =
+    let e = c.in-File.is in record { fed_as = fed_in _ _ e _ _ _ _ _ c.file.ensures.fed_as; worked = worked_in _ _ e _ _ _ _ _ c.file.ensures.worked }
+
+pub returns-in-End : goal.returns-in-End
+returns-in-End c =
+    let e = c.in-End.is in record { fed_as = fed_in _ _ e _ _ _ _ _ (end-fed _ _ _); worked = worked_in _ _ e _ _ _ _ _ (end-worked _ _ _) }

@@ -1,0 +1,23 @@
+-- `rewriting::links::changes` meets its contract.
+use Prim.Native.Nat.{ℕ, ◌-◌, ◌≤◌, ◌<◌}
+use mathlib.Core.Path.{◌≡◌}
+use native.Mathlib.Omega.{arith}
+use lib.ListN.{length, get_or, length-set}
+use borrow.Author.Rules.{rules}
+use Rattle.rewriting.specs.Links.{changed}
+use Rattle.rewriting.proofs.LinkLaws.{changes_more}
+use Rattle.rewriting.proofs.links.changes.Goals as goal
+
+pub loop-k-init : goal.loop-k-init
+loop-k-init c = (omega arith, c.requires, λ j h. absurd (omega arith))
+
+pub loop-k-preserved : goal.loop-k-preserved
+loop-k-preserved c =
+    let a = c.args in (
+      omega arith,
+      simp length-set c.loop-k.invariant.1,
+      changes_more a.lefts.now a.rights.now c.loop-k.codes _ _ (omega (arith, c.loop-k.invariant.1)) c.change.ensures c.loop-k.invariant.2,
+    )
+
+pub returns : goal.returns
+returns c = record { at = λ k h. c.loop-k.invariant.2 k (omega (arith, c.loop-k-test.false)) }

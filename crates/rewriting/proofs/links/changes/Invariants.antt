@@ -1,0 +1,17 @@
+-- The loop's invariant: the first k codes are as they are to be.
+use Prim.Native.Nat.{ℕ, ◌-◌, ◌≤◌, ◌<◌}
+use mathlib.Core.Path.{◌≡◌}
+use native.Mathlib.Omega.{arith}
+use lib.ListN.{length, get_or, length-set}
+use borrow.Author.Rules.{rules}
+use Rattle.rewriting.specs.Links.{changed}
+use Rattle.rewriting.proofs.LinkLaws.{changes_more}
+use Rattle.rewriting.proofs.links.changes.Given as goal
+
+abbrev pub invariant-loop-k : goal.invariant-loop-k
+invariant-loop-k l =
+    (l.k ≤ 64) × (length l.codes ≡ 64)
+    × ((j : ℕ) → j < l.k → get_or l.codes j 0 ≡ changed (get_or l.lefts j 0) (get_or l.rights j 0))
+
+abbrev pub decreases-loop-k : goal.decreases-loop-k
+decreases-loop-k l = 64 - l.k

@@ -1,0 +1,21 @@
+-- The loop's invariant: the links are written for the first r darts.
+use Prim.Native.Nat.{◌-◌, ◌<◌}
+use mathlib.Core.Path.{ap, ◌∙◌}
+use native.Mathlib.Omega.{arith}
+use borrow.Author.Rules.{rules}
+use Rattle.model.specs.Map.{Link, view}
+use Rattle.table.specs.Writes.{set_at, with_field}
+use Rattle.table.proofs.StageLaws.{Stage, stage_none, stage_more, stage_length, stage_done}
+use Rattle.table.proofs.WriteLaws.{put_view, links-steps}
+use Rattle.orbit.specs.Store.{dart_at}
+use Rattle.rewriting.specs.Links.{place_by, overwritten}
+use Rattle.rewriting.proofs.LinkLaws.{put-at, slot_at, place-below}
+use Rattle.rewriting.proofs.links.join.Given as goal
+
+abbrev pub invariant-loop-r : goal.invariant-loop-r
+invariant-loop-r l =
+    Stage l.slots (view l.slots) l.initial.table
+    (λ k m. with_field m (Link l.i) (set_at (m.link l.i) (dart_at l.store l.from k) (dart_at l.store l.to (place_by l.slots l.store l.code k)))) l.size l.r l.table
+
+abbrev pub decreases-loop-r : goal.decreases-loop-r
+decreases-loop-r l = l.size - l.r

@@ -1,0 +1,21 @@
+-- `rewriting::links::rewrite` meets its contract.
+use mathlib.Core.Path.{refl, ap, ◌∙◌}
+use borrow.Author.Rules.{rules}
+use Rattle.model.specs.Map.{Map, field_of}
+use Rattle.model.specs.Edit.{edited}
+use Rattle.table.proofs.WordLaws.{sized_same}
+use Rattle.table.proofs.WriteLaws.{shown-words}
+use Rattle.orbit.specs.At.{site}
+use Rattle.rewriting.proofs.LinkRewriteLaws.{rows-held, coding, rewritten}
+use Rattle.rewriting.proofs.links.rewrite.Goals as goal
+
+pub relink-requires : goal.relink-requires
+relink-requires c =
+    let p = (c.requires.sized, c.requires.before_rewriting) in record { sized = p.0; rows = rows-held p.1 c.changes.ensures; codes = coding p.1 c.changes.ensures }
+
+pub returns : goal.returns
+unfolding edited
+returns c =
+    let p = (c.requires.sized, c.requires.before_rewriting) in
+    λ R. shown-words (edited (site R.at)) _ (sized_same p.0 c.relink.auto.table)
+    (λ f x h b. ap (λ (m : Map). field_of m f x) c.relink.ensures ∙ rewritten R c.changes.ensures f x h)

@@ -1,0 +1,13 @@
+-- The loop's invariant: the first i words of digits are 0.
+use Prim.Native.Nat.{◌-◌, ◌≤◌, ◌<◌}
+use mathlib.Core.Path.{◌≡◌}
+use native.Mathlib.Omega.{arith}
+use Rattle.rewriting.specs.Slots.{digit_words, NoDigits}
+use Rattle.rewriting.proofs.SlotBlockLaws.{bits_none, bits_more, word-inside}
+use Rattle.rewriting.proofs.slots.clear_bits.Given as goal
+
+abbrev pub invariant-loop-i : goal.invariant-loop-i
+invariant-loop-i l = (l.i ≤ l.end) × NoDigits l.slots l.initial.store l.i l.store
+
+abbrev pub decreases-loop-i : goal.decreases-loop-i
+decreases-loop-i l = l.end - l.i

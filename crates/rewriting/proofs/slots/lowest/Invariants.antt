@@ -1,0 +1,15 @@
+-- The loop's invariant is `Scanned`: no slot from `from` to before y is unused. Each test that fails
+-- takes it one slot on.
+use Prim.Native.Nat.{ℕ, ◌+◌, ◌-◌, ◌≤◌, ◌<◌}
+use mathlib.Core.Path.{refl}
+use native.Mathlib.Omega.{arith}
+use Rattle.model.specs.Map.{view, max_slots}
+use Rattle.table.specs.Words.{Sized}
+use Rattle.rewriting.proofs.SlotTurnLaws.{Scanned, scan_start, scan_inside, scan_more, scan_found}
+use Rattle.rewriting.proofs.slots.lowest.Given as goal
+
+abbrev pub invariant-loop-slots : goal.invariant-loop-slots
+invariant-loop-slots l = Scanned (view l.slots l.table).state l.from l.y
+
+abbrev pub decreases-loop-slots : goal.decreases-loop-slots
+decreases-loop-slots l = l.slots - l.y

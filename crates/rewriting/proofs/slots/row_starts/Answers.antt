@@ -1,0 +1,36 @@
+-- `rewriting::slots::row_starts` meets its contract.
+use Prim.Native.Nat.{◌-◌, ◌≤◌}
+use mathlib.Core.Path.{◌≡◌, ◌∙◌}
+use native.Mathlib.Omega.{arith}
+use borrow.Author.Rules.{rules}
+use Rattle.rewriting.specs.Slots.{RowsBegin}
+use Rattle.rewriting.proofs.SlotRowLaws.{rows_none, rows_more, row_fits}
+use Rattle.rewriting.proofs.slots.row_starts.Goals as goal
+
+pub loop-a-init : goal.loop-a-init
+loop-a-init c = (omega arith, rows_none _ _ _ _)
+
+pub overflow_cast-s : goal.overflow_cast-s
+overflow_cast-s c = omega (arith, c.requires.apart.below c.loop-a.a c.loop-a-test.true)
+
+pub overflow_mul-rows-in-loop-a : goal.overflow_mul-rows-in-loop-a
+overflow_mul-rows-in-loop-a c = omega (arith, c.requires.apart.slots, row_fits _ _ _ _ c.requires.apart c.loop-a.a c.loop-a-test.true)
+
+pub overflow_add-rows : goal.overflow_add-rows
+overflow_add-rows c = omega (arith, c.requires.apart.slots, row_fits _ _ _ _ c.requires.apart c.loop-a.a c.loop-a-test.true)
+
+pub offset_bounds-rows-s : goal.offset_bounds-rows-s
+offset_bounds-rows-s c = omega (arith, c.requires.apart.below c.loop-a.a c.loop-a-test.true)
+
+pub bounds-rows-s : goal.bounds-rows-s
+bounds-rows-s c = c.requires.apart.below c.loop-a.a c.loop-a-test.true
+
+pub loop-a-preserved : goal.loop-a-preserved
+loop-a-preserved c =
+    let h = c.loop-a-test.true in
+    (omega arith, rows_more _ _ _ _ c.requires.apart _ _ _ (c.loop-a.invariant.1.long ∙ c.requires.rows_len) h c.loop-a.invariant.1)
+
+pub returns : goal.returns
+returns c =
+    let e : c.loop-a.a ≡ c.args.many = omega arith in
+    rw (← e) c.loop-a.invariant.1

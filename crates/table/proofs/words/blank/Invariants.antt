@@ -1,0 +1,15 @@
+-- The loop's invariant: the first c words of the record are zero.
+use Prim.Native.Nat.{◌+◌, ◌*◌, ◌-◌}
+use native.Mathlib.Omega.{arith}
+use lib.ListN.{set}
+use borrow.Author.Rules.{rules}
+use Rattle.model.specs.Map.{record_size}
+use Rattle.table.specs.Words.{blanked}
+use Rattle.table.proofs.StageLaws.{Stage, stage_none, stage_more, stage_length, stage_done}
+use Rattle.table.proofs.words.blank.Given as goal
+
+abbrev pub invariant-loop-c : goal.invariant-loop-c
+invariant-loop-c l = Stage l.slots (λ t. t) l.initial.table (λ k t. set t (record_size * l.x + k) 0) record_size l.c l.table
+
+abbrev pub decreases-loop-c : goal.decreases-loop-c
+decreases-loop-c l = record_size - l.c

@@ -1,0 +1,8 @@
+-- `table::words::tag` meets its contract.
+use borrow.Author.Rules.{rules}
+use Rattle.model.specs.Map.{field_at}
+use Rattle.table.proofs.words.tag.Goals as goal
+
+pub returns : goal.returns
+unfolding field_at
+returns c = c.at.ensures
