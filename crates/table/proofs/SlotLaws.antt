@@ -2,10 +2,10 @@
 use Prim.Native.Nat.{ℕ, suc, ◌+◌, ◌*◌, ◌≤◌, ◌<◌}
 use mathlib.Core.Path.{◌≡◌, refl, sym, ap, ◌∙◌}
 use mathlib.Core.Logic.{◌⊎◌, inl, inr, ⊎_elim}
-use mathlib.Core.Bool.{Bool, true, false, not, true≢false}
+use mathlib.Core.Bool.{Bool, true, false, true≢false}
 use native.Mathlib.Omega.{arith}
 use lib.Dec.{eqb, ltb, leb}
-use borrow.Author.Tests.{eqb-true, eqb-false, eq-eqb, ne_eqb, ltb-true, lt-ltb, le-ltb, leb-true, le-leb, not-true, not-false}
+use borrow.Author.Tests.{eqb-true, eqb-false, eq-eqb, ne_eqb, ltb-true, lt-ltb, le-ltb, leb-true, le-leb}
 use Rattle.base.specs.Test.{◌and◌, ◌or◌, ◌⇒◌}
 use Rattle.base.specs.Below.{all_below, count_below}
 use Rattle.model.specs.Map.{Map, live, unused}
@@ -53,9 +53,9 @@ module _ (m : Map) (x : ℕ) where
   link-below i e = ltb-true _ _ (and_left _ _ (and_left _ _ e))
 
   -- past the test, each of the links 0, 1 and 2 leads to a slot
-  pub inside-below : (r : Bool) → r ≡ inside_ok m x → not r ≡ false → (i : ℕ) → i < 3 → m.link i x < m.slots
+  pub inside-below : (r : Bool) → r ≡ inside_ok m x → r ≡ true → (i : ℕ) → i < 3 → m.link i x < m.slots
   unfolding inside_ok
-  inside-below r e h i l = ltb-true _ _ (all-at 3 (λ j. ltb (m.link j x) m.slots) (sym e ∙ not-false r h) i l)
+  inside-below r e h i l = ltb-true _ _ (all-at 3 (λ j. ltb (m.link j x) m.slots) (sym e ∙ h) i l)
 
   -- one link that leads to no slot refutes the test
   pub inside-out : (i y : ℕ) → i < 3 → y ≡ m.link i x → m.slots ≤ y → false ≡ inside_ok m x
@@ -163,10 +163,10 @@ module _ (n : ℕ) (m : Map) (x : ℕ) where
         (all-at (suc n) _ (all-at (suc n) _ (and_right _ _ w) i (omega arith)) j (omega arith)) (le-leb (i + 2) j ij)
 
   -- if one of the links 0, 1 and 2 leads to no slot, the dart is wrong
-  pub no_inside : (r : Bool) → 2 ≤ n → r ≡ inside_ok m x → not r ≡ true → false ≡ corners_ok n m x
+  pub no_inside : (r : Bool) → 2 ≤ n → r ≡ inside_ok m x → r ≡ false → false ≡ corners_ok n m x
   unfolding inside_ok
   no_inside r l e h = sym
-      (refuted (λ w. all_of 3 (λ i. ltb (m.link i x) m.slots) (λ i k. lt-ltb _ _ (link-below m x i (links_of w i (omega arith))))) (sym e ∙ not-true r h))
+      (refuted (λ w. all_of 3 (λ i. ltb (m.link i x) m.slots) (λ i k. lt-ltb _ _ (link-below m x i (links_of w i (omega arith))))) (sym e ∙ h))
 
   -- if the i-link leads to no slot, the dart is wrong
   pub no_link : (i y : ℕ) → i ≤ n → y ≡ m.link i x → m.slots ≤ y → false ≡ corners_ok n m x

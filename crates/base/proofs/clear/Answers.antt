@@ -1,5 +1,5 @@
 -- `base::clear` meets its contract.
-use Rattle.std.proofs.Common.{◌≡◌, refl, arith, length-set}
+use Rattle.std.proofs.Common.{arith, length-set}
 use Rattle.base.proofs.ListLaws.{fill_more, fill_done}
 use Rattle.base.proofs.clear.Goals as goal
 

@@ -1,5 +1,4 @@
 -- `table::corner` meets its contract.
-use borrow.Author.Rules.{rules}
 use Rattle.table.proofs.SlotLaws.{corner_is}
 use Rattle.table.proofs.corner.Goals as goal
 

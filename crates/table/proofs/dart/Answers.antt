@@ -3,7 +3,6 @@ use Prim.Native.Nat.{ℕ, ◌<◌}
 use mathlib.Core.Path.{◌≡◌, ap, ◌∙◌}
 use native.Mathlib.Omega.{arith}
 use lib.Dec.{eqb}
-use borrow.Author.Rules.{rules}
 use Rattle.base.proofs.TestLaws.{both}
 use Rattle.model.specs.Map.{Map, view}
 use Rattle.table.proofs.SlotLaws.{inside-below, no_inside, no_link, corners_2, corners_3, not_two, two_le}
@@ -16,13 +15,13 @@ pub near-requires : goal.near-requires
 near-requires c =
     let map : Map = view c.args.slots c.args.table.now in
     let below : (i : ℕ) → i < 3 → map.link i c.args.x < c.args.slots = λ i l. inside-below _ _ _ c.inside.ensures c.if-not-inside.false i l in
-    let p = (c.requires.sized, c.requires.x_lt_slots) in record { sized = p.0; x_lt_slots = p.1; x_bound = (below 0 (omega arith), below 1 (omega arith)) }
+    record { sized = c.requires.sized; x_lt_slots = c.requires.x_lt_slots; x_bound = (below 0 (omega arith), below 1 (omega arith)) }
 
 pub far-requires : goal.far-requires
 far-requires c =
     let map : Map = view c.args.slots c.args.table.now in
     let below : (i : ℕ) → i < 3 → map.link i c.args.x < c.args.slots = λ i l. inside-below _ _ _ c.inside.ensures c.if-not-inside.false i l in
-    let p = (c.requires.sized, c.requires.x_lt_slots) in record { sized = p.0; x_lt_slots = (p.1, omega arith); x_bound = (below 0 (omega arith), below 2 (omega arith)) }
+    record { sized = c.requires.sized; x_lt_slots = (c.requires.x_lt_slots, omega arith); x_bound = (below 0 (omega arith), below 2 (omega arith)) }
 
 pub returns-then-n-eq2 : goal.returns-then-n-eq2
 returns-then-n-eq2 c =
@@ -38,30 +37,30 @@ pub near-requires-2 : goal.near-requires-2
 near-requires-2 c =
     let map : Map = view c.args.slots c.args.table.now in
     let below : (i : ℕ) → i < 3 → map.link i c.args.x < c.args.slots = λ i l. inside-below _ _ _ c.inside.ensures c.if-not-inside.false i l in
-    let p = (c.requires.sized, c.requires.x_lt_slots) in record { sized = p.0; x_lt_slots = p.1; x_bound = (below 0 (omega arith), below 1 (omega arith)) }
+    record { sized = c.requires.sized; x_lt_slots = c.requires.x_lt_slots; x_bound = (below 0 (omega arith), below 1 (omega arith)) }
 
 pub far-requires-2 : goal.far-requires-2
 far-requires-2 c =
     let map : Map = view c.args.slots c.args.table.now in
     let below : (i : ℕ) → i < 3 → map.link i c.args.x < c.args.slots = λ i l. inside-below _ _ _ c.inside.ensures c.if-not-inside.false i l in
-    let p = (c.requires.sized, c.requires.x_lt_slots) in record { sized = p.0; x_lt_slots = (p.1, omega arith); x_bound = (below 0 (omega arith), below 2 (omega arith)) }
+    record { sized = c.requires.sized; x_lt_slots = (c.requires.x_lt_slots, omega arith); x_bound = (below 0 (omega arith), below 2 (omega arith)) }
 
 pub far-requires-3 : goal.far-requires-3
 far-requires-3 c =
     let map : Map = view c.args.slots c.args.table.now in
     let below : (i : ℕ) → i < 3 → map.link i c.args.x < c.args.slots = λ i l. inside-below _ _ _ c.inside.ensures c.if-not-inside.false i l in
     let below-3 : map.link 3 c.args.x < c.args.slots = rw (← c.link.ensures) c.if-slots-link.false in
-    let p = (c.requires.sized, c.requires.x_lt_slots) in record { sized = p.0; x_lt_slots = (p.1, omega arith); x_bound = (below 0 (omega arith), below-3) }
+    record { sized = c.requires.sized; x_lt_slots = (c.requires.x_lt_slots, omega arith); x_bound = (below 0 (omega arith), below-3) }
 
 pub corner-requires : goal.corner-requires
 corner-requires c =
     let map : Map = view c.args.slots c.args.table.now in
     let below : (i : ℕ) → i < 3 → map.link i c.args.x < c.args.slots = λ i l. inside-below _ _ _ c.inside.ensures c.if-not-inside.false i l in
     let below-3 : map.link 3 c.args.x < c.args.slots = rw (← c.link.ensures) c.if-slots-link.false in
-    let p = (c.requires.sized, c.requires.x_lt_slots) in record { sized = p.0; x_lt_slots = (p.1, omega arith, omega arith); x_bound = (below 1 (omega arith), below-3) }
+    record { sized = c.requires.sized; x_lt_slots = (c.requires.x_lt_slots, omega arith, omega arith); x_bound = (below 1 (omega arith), below-3) }
 
 pub returns : goal.returns
 returns c =
     let three : c.args.n ≡ 3 = not_two c.requires.fact c.if-n-eq2.false in
     both (both (both c.near-2.ensures c.far-2.ensures) c.far-3.ensures) c.corner.ensures
-        ∙ corners_3 _ _ _ (three)
+    ∙ corners_3 _ _ _ (three)

@@ -1,7 +1,6 @@
 -- `table::front` meets its contract: two words below 2^32 are as given just if the word of both is.
 use mathlib.Core.Path.{◌∙◌}
 use native.Mathlib.Omega.{arith}
-use borrow.Author.Rules.{rules}
 use Rattle.table.proofs.SlotLaws.{front_is}
 use Rattle.table.proofs.front.Goals as goal
 

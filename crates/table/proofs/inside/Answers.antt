@@ -1,6 +1,5 @@
 -- `table::inside` meets its contract: each return is one of the tests of `inside_ok`.
 use native.Mathlib.Omega.{arith}
-use borrow.Author.Rules.{rules}
 use Rattle.table.proofs.SlotLaws.{inside-out, inside-last}
 use Rattle.table.proofs.inside.Goals as goal
 

@@ -2,7 +2,6 @@
 use Prim.Native.Nat.{ℕ}
 use mathlib.Core.Path.{ap, ◌∙◌}
 use lib.Dec.{eqb}
-use borrow.Author.Rules.{rules}
 use Rattle.base.proofs.TestLaws.{both}
 use Rattle.table.proofs.SlotLaws.{near_is_lem}
 use Rattle.table.proofs.near.Goals as goal

@@ -1,13 +1,9 @@
 -- `table::survey` meets its contract.
-use Prim.Native.Nat.{◌-◌}
 use mathlib.Core.Path.{◌∙◌}
-use mathlib.Core.Logic.{⊎_elim}
 use native.Mathlib.Omega.{arith}
-use borrow.Author.Rules.{rules}
-use borrow.Author.Tests.{not-true, not-false}
-use Rattle.model.specs.Map.{view}
-use Rattle.table.proofs.SlotLaws.{Passed, pass-none, pass-few, pass-unused, pass-live, slot-bad, slot-live, stops, passes}
+use Rattle.table.proofs.SlotLaws.{pass-none, pass-few, pass-unused, pass-live, slot-bad, slot-live, stops, passes}
 use Rattle.table.proofs.survey.Goals as goal
+use Rattle.table.proofs.survey.Goals.{then-s-ne0+else-s-ne1+else-not-dart, else-s-ne0}
 
 pub loop-x-init : goal.loop-x-init
 loop-x-init c = pass-none _ _
@@ -27,10 +23,11 @@ pub loop-x-preserved : goal.loop-x-preserved
 loop-x-preserved c =
     let inv = c.loop-x.invariant in
     let b = c.loop-x-test.true in
-    ⊎_elim
-    (λ w. rw w.4 (pass-live _ _ _ _ c.state-s.ensures _ inv b _ w.1.left w.2.ensures (not-false _ w.3.left)))
-    (λ w. rw w.1 (pass-unused _ _ _ _ c.state-s.ensures _ inv b w.0.left))
-    c.if-s-ne0.branch
+    elim c.if-s-ne0.branch [
+      | then-s-ne0+else-s-ne1+else-not-dart w ↦
+          rw w.live-is (pass-live _ _ _ _ c.state-s.ensures _ inv b _ w.if-s-ne1.false w.dart.ensures w.if-not-dart.false)
+      | else-s-ne0 w ↦ rw w.live-is (pass-unused _ _ _ _ c.state-s.ensures _ inv b w.if-s-ne0.false)
+    ]
 
 pub returns : goal.returns
 returns c = passes _ _ _ _ c.loop-x.invariant c.loop-x-test.false

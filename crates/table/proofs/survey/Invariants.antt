@@ -1,12 +1,7 @@
 -- The loop's invariant: the slots below x are right, and their live darts are counted.
 use Prim.Native.Nat.{◌-◌}
-use mathlib.Core.Path.{◌∙◌}
-use mathlib.Core.Logic.{⊎_elim}
-use native.Mathlib.Omega.{arith}
-use borrow.Author.Rules.{rules}
-use borrow.Author.Tests.{not-true, not-false}
 use Rattle.model.specs.Map.{view}
-use Rattle.table.proofs.SlotLaws.{Passed, pass-none, pass-few, pass-unused, pass-live, slot-bad, slot-live, stops, passes}
+use Rattle.table.proofs.SlotLaws.{Passed}
 use Rattle.table.proofs.survey.Given as goal
 
 abbrev pub invariant-loop-x : goal.invariant-loop-x

@@ -1,7 +1,6 @@
 -- `word::pack` meets its contract: what an answer holds is small enough for its place.
 use mathlib.Core.Path.{ap, sym, subst, ◌∙◌}
 use native.Mathlib.Omega.{arith}
-use borrow.Author.Rules.{rules}
 use Rattle.word.specs.Word.{packed, Small}
 use Rattle.word.proofs.WordLaws.{numbers_small, numbers_packed}
 use Rattle.word.proofs.pack.Goals as goal

@@ -1,5 +1,4 @@
 -- `numbers::Cursor::four` meets its contract.
-use borrow.Author.Rules.{rules}
 use Rattle.numbers.proofs.PlaceLaws.{taken_join}
 use Rattle.numbers.proofs.Cursor.four.Goals as goal
 

@@ -1,6 +1,5 @@
 -- `numbers::Cursor::number` meets its contract.
 use native.Mathlib.Omega.{arith}
-use borrow.Author.Rules.{rules}
 use Rattle.numbers.proofs.PlaceLaws.{four-wide, taken-wide}
 use Rattle.numbers.proofs.Cursor.number.Goals as goal
 

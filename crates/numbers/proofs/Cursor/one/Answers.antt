@@ -1,6 +1,5 @@
 -- `numbers::Cursor::one` meets its contract.
 use native.Mathlib.Omega.{arith}
-use borrow.Author.Rules.{rules}
 use Rattle.numbers.proofs.PlaceLaws.{taken-one}
 use Rattle.numbers.proofs.Cursor.one.Goals as goal
 

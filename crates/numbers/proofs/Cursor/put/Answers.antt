@@ -1,6 +1,5 @@
 -- `numbers::Cursor::put` meets its contract.
 use native.Mathlib.Omega.{arith}
-use borrow.Author.Rules.{rules}
 use Rattle.numbers.proofs.PlaceLaws.{four-wide, put-wide}
 use Rattle.numbers.proofs.Cursor.put.Goals as goal
 

@@ -1,5 +1,4 @@
 -- `numbers::Cursor::put_one` meets its contract.
-use borrow.Author.Rules.{rules}
 use Rattle.numbers.proofs.PlaceLaws.{put-one-byte}
 use Rattle.numbers.proofs.Cursor.put_one.Goals as goal
 

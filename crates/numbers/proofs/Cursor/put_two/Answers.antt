@@ -1,6 +1,5 @@
 -- `numbers::Cursor::put_two` meets its contract.
 use native.Mathlib.Omega.{arith}
-use borrow.Author.Rules.{rules}
 use Rattle.numbers.proofs.PlaceLaws.{put_join, put-room}
 use Rattle.numbers.proofs.Cursor.put_two.Goals as goal
 

@@ -1,11 +1,7 @@
 -- `table::words::blank` meets its contract.
-use Prim.Native.Nat.{◌+◌, ◌*◌, ◌-◌}
 use native.Mathlib.Omega.{arith}
-use lib.ListN.{set}
-use borrow.Author.Rules.{rules}
-use Rattle.model.specs.Map.{record_size}
 use Rattle.table.specs.Words.{blanked}
-use Rattle.table.proofs.StageLaws.{Stage, stage_none, stage_more, stage_length, stage_done}
+use Rattle.table.proofs.StageLaws.{stage_none, stage_more, stage_length, stage_done}
 use Rattle.table.proofs.words.blank.Goals as goal
 
 pub loop-c-init : goal.loop-c-init

@@ -1,11 +1,8 @@
 -- The loop's invariant: the first c words of the record are zero.
 use Prim.Native.Nat.{◌+◌, ◌*◌, ◌-◌}
-use native.Mathlib.Omega.{arith}
 use lib.ListN.{set}
-use borrow.Author.Rules.{rules}
 use Rattle.model.specs.Map.{record_size}
-use Rattle.table.specs.Words.{blanked}
-use Rattle.table.proofs.StageLaws.{Stage, stage_none, stage_more, stage_length, stage_done}
+use Rattle.table.proofs.StageLaws.{Stage}
 use Rattle.table.proofs.words.blank.Given as goal
 
 abbrev pub invariant-loop-c : goal.invariant-loop-c

@@ -1,5 +1,4 @@
 -- `table::words::put_link` meets its contract.
-use borrow.Author.Rules.{rules}
 use Rattle.model.specs.Map.{put}
 use Rattle.table.proofs.words.put_link.Goals as goal
 

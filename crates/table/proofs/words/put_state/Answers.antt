@@ -1,5 +1,4 @@
 -- `table::words::put_state` meets its contract.
-use borrow.Author.Rules.{rules}
 use Rattle.model.specs.Map.{put}
 use Rattle.table.proofs.words.put_state.Goals as goal
 

@@ -1,5 +1,4 @@
 -- `table::words::state` meets its contract.
-use borrow.Author.Rules.{rules}
 use Rattle.model.specs.Map.{field_at}
 use Rattle.table.proofs.words.state.Goals as goal
 

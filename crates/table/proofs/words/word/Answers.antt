@@ -1,6 +1,5 @@
 -- `table::words::word` meets its contract.
 use mathlib.Core.Path.{sym, ◌∙◌}
-use borrow.Author.Rules.{rules}
 use Rattle.model.specs.Map.{Link}
 use Rattle.model.proofs.MapLaws.{field_at_lem}
 use Rattle.table.proofs.words.word.Goals as goal
