@@ -7,7 +7,7 @@ use mathlib.Core.List.{List}
 use native.Mathlib.Omega.{arith}
 use lib.ListN.{length, get_or}
 use lib.Dec.{eqb}
-use borrow.Author.Tests.{eqb-true, eqb-false, eq-eqb, ne_eqb, not-true, not-false}
+use borrow.Author.Tests.{eqb-true, eqb-false, eq-eqb, ne_eqb}
 use Rattle.base.specs.Test.{◌and◌, ◌or◌}
 use Rattle.base.specs.Below.{all_below}
 use Rattle.base.specs.First.{least, there}
@@ -63,21 +63,21 @@ module _ (kinds : List ℕ) (reached : List Bool) (s : ℕ) where
 -- ---- the hook's fault, from the tests of the first hook and the second
 
 module _ (places : ℕ) (orbit kinds words : List ℕ) (second : ℕ) (out : Found) {b : Bool} (e : b ≡ hooked_by places orbit kinds words first_hook) where
-  pub first-wrong : not b ≡ true → Node first_hook ≡ hook_by places orbit kinds words second out
+  pub first-wrong : b ≡ false → Node first_hook ≡ hook_by places orbit kinds words second out
   unfolding hook_by
-  first-wrong q = rw (sym e ∙ not-true b q)
+  first-wrong q = rw (sym e ∙ q)
 
-  module _ (q : not b ≡ false) {d : Bool} (g : d ≡ hooked_by places orbit kinds words second) where
-    pub second-wrong : not d ≡ true → Node second ≡ hook_by places orbit kinds words second out
+  module _ (q : b ≡ true) {d : Bool} (g : d ≡ hooked_by places orbit kinds words second) where
+    pub second-wrong : d ≡ false → Node second ≡ hook_by places orbit kinds words second out
     unfolding hook_by
-    second-wrong r = rw (sym e ∙ not-false b q, sym g ∙ not-true d r)
+    second-wrong r = rw (sym e ∙ q, sym g ∙ r)
 
-    pub hooks-right : not d ≡ false → out ≡ hook_by places orbit kinds words second out
+    pub hooks-right : d ≡ true → out ≡ hook_by places orbit kinds words second out
     unfolding hook_by
-    hooks-right r = rw (sym e ∙ not-false b q, sym g ∙ not-false d r)
+    hooks-right r = rw (sym e ∙ q, sym g ∙ r)
 
   -- if there is no second hook, node 0 is tested again in its place
-  pub no_second : not b ≡ false → second ≡ first_hook → out ≡ hook_by places orbit kinds words second out
+  pub no_second : b ≡ true → second ≡ first_hook → out ≡ hook_by places orbit kinds words second out
   no_second q z = hooks-right q (e ∙ ap (hooked_by places orbit kinds words) (sym z)) q
 
 -- ---- whether the walk over targets was enough

@@ -10,7 +10,7 @@ use native.Mathlib.Omega.{arith}
 use lib.ListN.{get_or}
 use lib.Dec.{leb}
 use borrow.Author.Count.{below_none, below_more}
-use borrow.Author.Tests.{not-true, not-false, le-leb, lt-leb}
+use borrow.Author.Tests.{le-leb, lt-leb}
 use Rattle.base.specs.Test.{◌and◌}
 use Rattle.base.specs.First.{first, some_if}
 use Rattle.base.proofs.TestLaws.{not_both}
@@ -44,8 +44,8 @@ module _ {orbit kinds lefts rights : List ℕ} {s : ℕ} where
   passed_none = record { lower = λ h k l. no_pair_lem _ _ _ _ s h k (omega arith); before = below_none _ }
 
   module _ {i j : ℕ} (p : Passed orbit kinds lefts rights s i j) where
-    pub passed-pair : (b : Bool) → b ≡ pair_by (get_or kinds s 0) orbit lefts rights s i j → not b ≡ false → Passed orbit kinds lefts rights s (i + 1) j
-    passed-pair b e f = record { lower = p.lower; before = below_more _ i p.before (pair_fine _ _ _ _ s i j (sym e ∙ not-false b f)) }
+    pub passed-pair : (b : Bool) → b ≡ pair_by (get_or kinds s 0) orbit lefts rights s i j → b ≡ true → Passed orbit kinds lefts rights s (i + 1) j
+    passed-pair b e f = record { lower = p.lower; before = below_more _ i p.before (pair_fine _ _ _ _ s i j (sym e ∙ f)) }
 
     -- no pair with j is left
     pub passed-dimension : j < i + 2 → Passed orbit kinds lefts rights s 0 (j + 1)
@@ -63,11 +63,11 @@ module _ {orbit kinds lefts rights : List ℕ} {s : ℕ} where
       earlier : (x : ℕ) → x < i → (y : ℕ) → y < suc n → at_pair orbit kinds lefts rights s x y ≡ none
       earlier x m y o = below_more _ j (p.lower x) (p.before x m) y (omega arith)
 
-      pub found-at-node : (b : Bool) → b ≡ pair_by (get_or kinds s 0) orbit lefts rights s i j → not b ≡ true
+      pub found-at-node : (b : Bool) → b ≡ pair_by (get_or kinds s 0) orbit lefts rights s i j → b ≡ false
           → at_node orbit kinds lefts rights n s ≡ some (BadCycle s i j)
       unfolding at_node
       found-at-node b e f =
-          let here = pair-bad _ _ _ _ s i j (sym e ∙ not-true b f) h in
+          let here = pair-bad _ _ _ _ s i j (sym e ∙ f) h in
           first_hit (suc n) _ i _ (omega arith) (first-none_of i _ (λ x m. first-none_of (suc n) _ (earlier x m)))
           (first_hit (suc n) _ j _ (omega arith) (first-none_of j _ (p.lower i)) here)
 

@@ -7,7 +7,7 @@ use mathlib.Core.List.{List}
 use native.Mathlib.Omega.{arith}
 use lib.ListN.{get_or}
 use lib.Dec.{eqb, leb}
-use borrow.Author.Tests.{ne_eqb, leb-true, leb-false, not-true}
+use borrow.Author.Tests.{ne_eqb, leb-true, leb-false}
 use Rattle.base.specs.Test.{◌and◌, ◌or◌, ◌⇒◌}
 use Rattle.base.specs.Below.{all_below, count_below}
 use Rattle.base.specs.First.{least}
@@ -52,9 +52,9 @@ module _ (n kind : ℕ) (lefts rights : List ℕ) (s : ℕ) where
   abbrev pub AtDim : ℕ → Bool
   AtDim i = paired kind (entry lefts s i) (entry rights s i)
 
-  pub incident_not : (i : ℕ) → i ≤ n → (b : Bool) → b ≡ AtDim i → not b ≡ true → false ≡ incident_by n kind lefts rights s
+  pub incident_not : (i : ℕ) → i ≤ n → (b : Bool) → b ≡ AtDim i → b ≡ false → false ≡ incident_by n kind lefts rights s
   unfolding incident_by
-  incident_not i h b e f = sym (all_not (suc n) AtDim i (omega arith) (sym e ∙ not-true b f))
+  incident_not i h b e f = sym (all_not (suc n) AtDim i (omega arith) (sym e ∙ f))
 
   -- the dimensions below 3 are all that there are, or dimension 3 is left
   module _ (i : ℕ) (h : i ≤ 3) (l : 3 ≤ i) (e : all_below i AtDim ≡ true) where

@@ -13,7 +13,6 @@ fault-found-requires c =
 
 pub returns : goal.returns
 returns c =
-    let r = (c.reach_of-reach.ensures.spanning, (c.reach_of-reach.ensures.roots_value, c.reach_of-reach.ensures.out_value)) in
-    λ J. judge_is J _ _ _ c.wide-2.ensures.0 c.wide-c.ensures.0 c.wide-h.ensures.0 _ c.wide.ensures.0 _
-    r.0 r.1.0 _ r.1.1 _
+    let r = c.reach_of-reach.ensures in
+    λ J. judge_is J _ _ _ c.wide-2.ensures.0 c.wide-c.ensures.0 c.wide-h.ensures.0 _ c.wide.ensures.0 _ r.spanning r.roots_value _ r.out_value _
     c.fault-found.ensures

@@ -9,12 +9,10 @@ use Rattle.count.proofs.volumes.Goals as goal
 pub returns-then-n-eq2 : goal.returns-then-n-eq2
 returns-then-n-eq2 c = volumes-none _ _ c.if-n-eq2.true
 
-pub orbits-requires : goal.orbits-requires
-orbits-requires c =
-    let p = (c.requires.fact, (c.requires.sized, (c.requires.well_formed, c.requires.store_len))) in record { sized = p.1.0; before_walking = kind-ready _ _ p.0 p.1.1.0 all_links 3 volumes-listed c.wide.ensures; store_len = p.1.1.1 }
+pub orbits-requires-clause-before_walking : goal.orbits-requires-clause-before_walking
+orbits-requires-clause-before_walking c = kind-ready _ _ c.requires.fact c.requires.well_formed all_links 3 volumes-listed c.wide.ensures
 
 pub returns : goal.returns
 returns c =
     let three : c.args.n ≡ 3 = ⊎_elim (λ e. absurd (omega (arith, c.if-n-eq2.false, e))) (λ e. e) c.requires.fact in
-    let p = (c.requires.fact, (c.requires.sized, (c.requires.well_formed, c.requires.store_len))) in
-        volumes-some _ _ (three) (kind-cells _ _ p.0 p.1.1.0 all_links 3 volumes-listed c.wide.ensures c.orbits.ensures)
+    volumes-some _ _ three (kind-cells _ _ c.requires.fact c.requires.well_formed all_links 3 volumes-listed c.wide.ensures c.orbits.ensures)

@@ -1,6 +1,7 @@
 -- `incidence::unbalanced` meets its contract.
 use Prim.Native.Nat.{◌≤◌, ◌-◌}
-use mathlib.Core.Path.{◌≡◌, refl, ◌∙◌}
+use mathlib.Core.Path.{◌≡◌, refl, ap, ◌∙◌}
+use mathlib.Core.Bool.{not}
 use mathlib.Core.Option.{none}
 use native.Mathlib.Omega.{arith}
 use Rattle.base.specs.First.{least, first}
@@ -28,14 +29,14 @@ incident-requires c = let p = c.requires in (p.0, p.1, omega arith)
 pub returns-then-not-incident : goal.returns-then-not-incident
 returns-then-not-incident c =
     found_at _ _ _ c.loop-s-test.true c.loop-s.invariant.1
-    (offends_not _ _ _ _ _ _ _ c.if-ltwice-s.false c.if-rtwice-s.false _ c.incident.ensures ∙ c.if-not-incident.true)
+    (offends_not _ _ _ _ _ _ _ c.if-ltwice-s.false c.if-rtwice-s.false _ c.incident.ensures ∙ ap not c.if-not-incident.true)
 
 pub loop-s-preserved : goal.loop-s-preserved
 loop-s-preserved c =
     let l = c.loop-s.invariant in (
       omega arith,
       least_more _ _ l.1
-          (offends_not _ _ _ _ _ _ _ c.if-ltwice-s.false c.if-rtwice-s.false _ c.incident.ensures ∙ c.if-not-incident.false),
+          (offends_not _ _ _ _ _ _ _ c.if-ltwice-s.false c.if-rtwice-s.false _ c.incident.ensures ∙ ap not c.if-not-incident.false),
     )
 
 pub returns : goal.returns

@@ -17,41 +17,37 @@ returns-then-p-k c = rw (← c.if-p-k.true) c.loop-p.invariant.0
 
 pub overflow_cast-i : goal.overflow_cast-i
 overflow_cast-i c =
-    let position : c.loop-p.p < c.args.k = omega (arith, c.loop-p.invariant.1, c.if-p-k.false) in
-    let dim-le : get_or c.args.dims c.loop-p.p 0 ≤ 3 = let r = c.requires.before_walking in omega (arith, r.dim c.loop-p.p (position), r.small) in
-    omega (arith, dim-le)
+    let r = c.requires.before_walking in
+    omega (arith, r.dim c.loop-p.p (omega (arith, c.loop-p.invariant.1, c.if-p-k.false)), r.small)
 
-pub link-y-requires : goal.link-y-requires
+pub link-y-requires-clause-x_lt_slots : goal.link-y-requires-clause-x_lt_slots
 unfolding place
-link-y-requires c =
-    let x_is : let a = c.args in c.word-x.result ≡ place a.slots a.store.now a.head = c.word-x.ensures in
-    let x_slot : c.word-x.result < c.args.slots = let a = c.args in omega (arith, x_is, c.requires.taken.slot a.head c.requires.head_lt_tail.0) in
-    let position : c.loop-p.p < c.args.k = omega (arith, c.loop-p.invariant.1, c.if-p-k.false) in
-    let dim-le : get_or c.args.dims c.loop-p.p 0 ≤ 3 = let r = c.requires.before_walking in omega (arith, r.dim c.loop-p.p (position), r.small) in
-    record { sized = c.requires.sized; x_lt_slots = (x_slot, dim-le) }
+link-y-requires-clause-x_lt_slots c =
+    let a = c.args in
+    let r = c.requires.before_walking in
+    let position : c.loop-p.p < a.k = omega (arith, c.loop-p.invariant.1, c.if-p-k.false) in
+    (omega (arith, c.word-x.ensures, c.requires.taken.slot a.head c.requires.head_lt_tail.0), omega (arith, r.dim c.loop-p.p position, r.small))
 
-pub follow-end-requires : goal.follow-end-requires
+pub follow-end-requires-clause-taken : goal.follow-end-requires-clause-taken
+follow-end-requires-clause-taken c = c.loop-p.invariant.0.grown.taken
+
+pub follow-end-requires-clause-y_lt_slots : goal.follow-end-requires-clause-y_lt_slots
 unfolding place
-follow-end-requires c =
-    let x_is : let a = c.args in c.word-x.result ≡ place a.slots a.store.now a.head = c.word-x.ensures in
-    let x_slot : c.word-x.result < c.args.slots = let a = c.args in omega (arith, x_is, c.requires.taken.slot a.head c.requires.head_lt_tail.0) in
-    let position : c.loop-p.p < c.args.k = omega (arith, c.loop-p.invariant.1, c.if-p-k.false) in
-    let y_slot : let a = c.args in
-        (view a.slots a.table.now).link (get_or a.t3 c.loop-p.p 0) c.word-x.result < a.slots = let a = c.args in
-        c.requires.before_walking.well.below c.word-x.result (x_slot) (ap (view a.slots a.table.now).state (x_is) ∙ c.requires.head_lt_tail.1) _
-        (c.requires.before_walking.dim c.loop-p.p (position)) in
-    record { slots_le_max_slots = c.requires.sized.few; taken = c.loop-p.invariant.0.grown.taken; y_lt_slots = (omega (arith, y_slot, c.link-y.ensures), omega arith, omega arith) }
+follow-end-requires-clause-y_lt_slots c =
+    let a = c.args in
+    let r = c.requires.before_walking in
+    let x_slot : c.word-x.result < a.slots = omega (arith, c.word-x.ensures, c.requires.taken.slot a.head c.requires.head_lt_tail.0) in
+    let position : c.loop-p.p < a.k = omega (arith, c.loop-p.invariant.1, c.if-p-k.false) in
+    let y_slot : (view a.slots a.table.now).link (get_or a.dims c.loop-p.p 0) c.word-x.result < a.slots =
+    r.well.below c.word-x.result x_slot (ap (view a.slots a.table.now).state c.word-x.ensures ∙ c.requires.head_lt_tail.1) _ (r.dim c.loop-p.p position) in
+    (omega (arith, y_slot, c.link-y.ensures), omega arith, omega arith)
 
 pub loop-p-preserved : goal.loop-p-preserved
 unfolding place
-loop-p-preserved c =
-    let x_is : let a = c.args in c.word-x.result ≡ place a.slots a.store.now a.head = c.word-x.ensures in
-    let position : c.loop-p.p < c.args.k = omega (arith, c.loop-p.invariant.1, c.if-p-k.false) in
-    (
-          expanded_more _ _ _ _ _ _ _ _ _ _ _ _ (omega arith) (x_is) c.link-y.ensures
-              c.loop-p.invariant.0 c.follow-end.ensures,
-          omega (arith, position),
-        )
+loop-p-preserved c = (
+  expanded_more _ _ _ _ _ _ _ _ _ _ _ _ (omega arith) c.word-x.ensures c.link-y.ensures c.loop-p.invariant.0 c.follow-end.ensures,
+  omega (arith, c.loop-p.invariant.1, c.if-p-k.false),
+)
 
 pub returns : goal.returns
 returns c =

@@ -1,4 +1,4 @@
--- The loop's invariant is the contract itself, at the first p links. The argument `t3` is `dims`.
+-- The loop's invariant is the contract itself, at the first p links.
 use Prim.Native.Nat.{◌-◌, ◌≤◌, ◌<◌}
 use mathlib.Core.Path.{◌≡◌, ap, ◌∙◌}
 use native.Mathlib.Omega.{arith}

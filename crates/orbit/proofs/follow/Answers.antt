@@ -16,15 +16,14 @@ keep-requires c =
 pub returns-then-m-ne0 : goal.returns-then-m-ne0
 unfolding mark
 returns-then-m-ne0 c =
-    let p = (c.requires.taken, c.requires.y_lt_slots) in
-    followed-old _ _ _ _ _ p.1.1 p.1.2 p.0 p.1.0 c.word-m.ensures c.if-m-ne0.true c.keep.ensures
+    let y = c.requires.y_lt_slots in
+    followed-old _ _ _ _ _ y.1 y.2 c.requires.taken y.0 c.word-m.ensures c.if-m-ne0.true c.keep.ensures
 
-pub push-requires : goal.push-requires
+pub push-requires-clause-y_lt_slots : goal.push-requires-clause-y_lt_slots
 unfolding mark
-push-requires c =
-    record { slots_le_max_slots = c.requires.slots_le_max_slots; taken = c.requires.taken; y_lt_slots = (c.requires.y_lt_slots.0, sym c.word-m.ensures ∙ c.if-m-ne0.false) }
+push-requires-clause-y_lt_slots c = (c.requires.y_lt_slots.0, sym c.word-m.ensures ∙ c.if-m-ne0.false)
 
 pub returns : goal.returns
 returns c =
-    let p = (c.requires.taken, c.requires.y_lt_slots) in
-    followed-new _ _ _ _ _ p.1.1 p.1.2 p.0 p.1.0 c.push.ensures c.keep-2.ensures
+    let y = c.requires.y_lt_slots in
+    followed-new _ _ _ _ _ y.1 y.2 c.requires.taken y.0 c.push.ensures c.keep-2.ensures

@@ -37,10 +37,9 @@ overflow_add-result c =
 pub returns-then-reached-s : goal.returns-then-reached-s
 returns-then-reached-s c =
     let to-small : c.part-t.result < 16 = omega (arith, c.requires.joining.to c.args.a c.requires.a_lt_count) in
-    let p = (c.push.ensures.node_after, (c.push.ensures.parent_after, (c.push.ensures.dim_after, c.push.ensures.reached_after))) in
-        joined_push _ _ _ _ _ _ _ _ c.requires.spans _ _ _ c.requires.a_lt_count
-        (inl (sym c.part-s.ensures.0, sym c.part-t.ensures.0))
-        c.if-reached-s.true c.if-reached-t.false (to-small) _ c.part-i.ensures.0 _ _ _ _ p.0 p.1.0 p.1.1.0 p.1.1.1
+    let e = c.push.ensures in
+    joined_push _ _ _ _ _ _ _ _ c.requires.spans _ _ _ c.requires.a_lt_count (inl (sym c.part-s.ensures.0, sym c.part-t.ensures.0))
+    c.if-reached-s.true c.if-reached-t.false to-small _ c.part-i.ensures.0 _ _ _ _ e.node_after e.parent_after e.dim_after e.reached_after
 
 pub bounds-reached-t-2 : goal.bounds-reached-t-2
 bounds-reached-t-2 c =
@@ -62,10 +61,9 @@ overflow_add-result-then-reached-t-2 c =
 pub returns-then-reached-t-2 : goal.returns-then-reached-t-2
 returns-then-reached-t-2 c =
     let from-small : c.part-s.result < 16 = omega (arith, c.requires.joining.from c.args.a c.requires.a_lt_count) in
-    let p = (c.push-then-reached-t-2.ensures.node_after, (c.push-then-reached-t-2.ensures.parent_after, (c.push-then-reached-t-2.ensures.dim_after, c.push-then-reached-t-2.ensures.reached_after))) in
-        joined_push _ _ _ _ _ _ _ _ c.requires.spans _ _ _ c.requires.a_lt_count
-        (inr (sym c.part-s.ensures.0, sym c.part-t.ensures.0))
-        c.if-reached-t-2.true c.if-reached-s.false (from-small) _ c.part-i.ensures.0 _ _ _ _ p.0 p.1.0 p.1.1.0 p.1.1.1
+    let e = c.push-then-reached-t-2.ensures in
+    joined_push _ _ _ _ _ _ _ _ c.requires.spans _ _ _ c.requires.a_lt_count (inr (sym c.part-s.ensures.0, sym c.part-t.ensures.0))
+    c.if-reached-t-2.true c.if-reached-s.false from-small _ c.part-i.ensures.0 _ _ _ _ e.node_after e.parent_after e.dim_after e.reached_after
 
 pub returns : goal.returns
 returns c =

@@ -9,10 +9,12 @@ walk-size-requires c = tree-start _ _ _ c.requires.nodes_bound.1 c.roots_of-root
 
 pub pass-size-requires : goal.pass-size-requires
 pass-size-requires c =
-    let p = (c.requires.nodes_bound, (c.requires.joining, (c.requires.aimed, c.requires.lefts))) in record { joining = p.1.0; spans = tree-aimed _ _ _ p.1.1.0 _ _ _ _ _ _ c.walk-size.ensures }
+    record { joining = c.requires.joining; spans = tree-aimed _ _ _ c.requires.aimed _ _ _ _ _ _ c.walk-size.ensures }
 
 pub returns-in_default : goal.returns-in_default
 returns-in_default c =
-    let p = (c.requires.nodes_bound, (c.requires.joining, (c.requires.aimed, c.requires.lefts))) in
-    let spans = tree-aimed _ _ _ p.1.1.0 _ _ _ _ _ _ c.walk-size.ensures in
-    let closed = closed-walk _ _ _ _ _ _ _ _ _ _ spans p.1.1.1 (sym c.in_default.is ∙ c.unreached-out.ensures) in record { spanning = closed; roots_value = c.roots_of-roots.ensures.0; out_value = c.unreached-out.ensures }
+    let spans = tree-aimed _ _ _ c.requires.aimed _ _ _ _ _ _ c.walk-size.ensures in record {
+      spanning = closed-walk _ _ _ _ _ _ _ _ _ _ spans c.requires.lefts (sym c.in_default.is ∙ c.unreached-out.ensures);
+      roots_value = c.roots_of-roots.ensures.0;
+      out_value = c.unreached-out.ensures;
+    }

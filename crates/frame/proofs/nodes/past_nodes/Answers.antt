@@ -1,32 +1,20 @@
 -- `frame::nodes::past_nodes` meets its contract.
-use Prim.Native.Nat.{◌-◌, ◌≤◌}
 use mathlib.Core.Path.{◌≡◌}
 use native.Mathlib.Omega.{arith}
-use borrow.Author.Rules.{rules}
 use borrow.Author.Tests.{not-true, not-false}
 use Rattle.model.specs.Bytes.{nodes_of}
-use Rattle.frame.specs.Nodes.{NodePlace}
 use Rattle.frame.proofs.FrameLaws.{node-passed, node-cut}
 use Rattle.frame.proofs.nodes.past_nodes.Goals as goal
 
-pub loop-s-init : goal.loop-s-init
-loop-s-init c = (omega arith, c.requires.node_count.1)
-
 pub returns-then-not-node : goal.returns-then-not-node
 returns-then-not-node c =
-    node-cut c.requires.node_size c.wide.ensures.0 c.loop-s.invariant.1 c.past_node-node.ensures (omega arith)
-    c.if-not-node.true
+    node-cut c.requires.node_size c.wide.ensures.0 c.loop-s.invariant.1 c.past_node-node.ensures (omega arith) (not-true _ c.if-not-node.true)
 
 pub loop-s-preserved : goal.loop-s-preserved
 loop-s-preserved c =
-    (
-      omega arith,
-      node-passed c.requires.node_size c.wide.ensures.0 c.loop-s.invariant.1 c.past_node-node.ensures
-          c.if-not-node.false,
-    )
+    (omega arith, node-passed c.requires.node_size c.wide.ensures.0 c.loop-s.invariant.1 c.past_node-node.ensures (not-false _ c.if-not-node.false))
 
 pub returns : goal.returns
 returns c =
-    let p = (c.requires.node_size, c.requires.node_count) in
-    let same : c.loop-s.s ≡ nodes_of c.args.bytes.now = omega arith in
-    (p.1.0, rw same at c.loop-s.invariant.1)
+    let same : c.loop-s.s ≡ nodes_of c.args.bytes.now = omega (arith, c.requires.node_count.0.nodes_is) in
+    (c.requires.node_count.0, rw same at c.loop-s.invariant.1)

@@ -1,12 +1,6 @@
 -- The loop's invariant: the cursor is at node s, within the bytes.
 use Prim.Native.Nat.{◌-◌, ◌≤◌}
-use mathlib.Core.Path.{◌≡◌}
-use native.Mathlib.Omega.{arith}
-use borrow.Author.Rules.{rules}
-use borrow.Author.Tests.{not-true, not-false}
-use Rattle.model.specs.Bytes.{nodes_of}
 use Rattle.frame.specs.Nodes.{NodePlace}
-use Rattle.frame.proofs.FrameLaws.{node-passed, node-cut}
 use Rattle.frame.proofs.nodes.past_nodes.Given as goal
 
 abbrev pub invariant-loop-s : goal.invariant-loop-s

@@ -24,7 +24,11 @@ loop-i-init c = let v = c.loop-j.invariant in (v.0, omega arith, v.1)
 
 pub pair_ok-requires : goal.pair_ok-requires
 pair_ok-requires c =
-    let p = (c.requires.le_n, (c.requires.coding, c.requires.coding_2)) in record { s_bound = (omega arith, omega arith, omega arith); by_index = (λ i h. p.1.0.small _ i c.nodes-test.true h); by_index_2 = λ i h. p.1.1.small _ i c.nodes-test.true h }
+    record {
+      s_bound = (omega arith, omega arith, omega arith);
+      by_index = λ i h. c.requires.coding.small _ i c.nodes-test.true h;
+      by_index_2 = λ i h. c.requires.coding_2.small _ i c.nodes-test.true h;
+    }
 
 pub loop-i-preserved : goal.loop-i-preserved
 loop-i-preserved c =

@@ -14,8 +14,10 @@ returns-then-a-eq255 c = by-none _ _ _ _ _ _ c.code-a.ensures c.if-a-lt16.false 
 
 pub from_place-requires : goal.from_place-requires
 from_place-requires c =
-    let p = (c.requires.s_bound, c.requires.by_index) in
-    let h = code-small _ _ c.code-a.ensures (p.1 _ (omega arith)) c.if-a-eq255.false in record { i_bound = (omega arith, omega arith, h); b_bound = code-small _ _ c.code-2.ensures (p.1 _ (omega arith)) }
+    let small = c.requires.by_index in record {
+      i_bound = (omega arith, omega arith, code-small _ _ c.code-a.ensures (small _ (omega arith)) c.if-a-eq255.false);
+      b_bound = code-small _ _ c.code-2.ensures (small _ (omega arith));
+    }
 
 pub returns : goal.returns
 returns c =

@@ -35,9 +35,13 @@ bounds-rows-v c =
     let node : c.wide-v.result < 16 = firm-node _ _ _ _ _ _ _ c.requires.firm _ _ c.requires.j_lt_count.0 c.requires.j_lt_count.1 _ c.wide-v.ensures.0 in
     omega (arith, node)
 
-pub explicit-requires : goal.explicit-requires
-explicit-requires c =
-    let p = (c.requires.sized, (c.requires.firm, c.requires.j_lt_count)) in record { sized = p.0; testable = firm-explicit _ _ _ _ _ _ _ p.1.0 _ _ p.1.1.0 p.1.1.1 _ c.wide-v.ensures.0 _ c.wide-code.ensures.0 c.if-code-lt16.true; i_bound = (omega (arith, p.1.1.1), omega (arith, p.1.0.entries), c.if-code-lt16.true) }
+pub explicit-requires-clause-testable : goal.explicit-requires-clause-testable
+explicit-requires-clause-testable c =
+    firm-explicit _ _ _ _ _ _ _ c.requires.firm _ _ c.requires.j_lt_count.0 c.requires.j_lt_count.1 _ c.wide-v.ensures.0 _ c.wide-code.ensures.0
+    c.if-code-lt16.true
+
+pub explicit-requires-clause-i_bound : goal.explicit-requires-clause-i_bound
+explicit-requires-clause-i_bound c = (omega arith, omega (arith, c.requires.firm.entries), c.if-code-lt16.true)
 
 pub returns-then-code-lt16 : goal.returns-then-code-lt16
 returns-then-code-lt16 c =
@@ -49,11 +53,16 @@ returns-then-j-roots c =
     arc-read _ _ _ _ _ _ _ _ _ _ _ _ _ _ c.wide-v.ensures.0 c.wide-code.ensures.0 refl
     (code-hook _ _ _ _ _ _ _ _ _ _ c.if-code-eq255.false c.if-code-lt16.false c.if-j-roots.true)
 
-pub turned-requires : goal.turned-requires
-turned-requires c =
-    let p = (c.requires.sized, (c.requires.firm, c.requires.j_lt_count)) in
-    let f = firm-implicit _ _ _ _ _ _ _ p.1.0 _ _ p.1.1.0 p.1.1.1 _ c.wide-v.ensures.0 _ c.wide-code.ensures.0
-    c.if-code-lt16.false c.if-code-eq255.false in record { sized = p.0; testable = f.0; i_bound = (omega (arith, p.1.1.1), f.1.0, f.1.1) }
+pub turned-requires-clause-testable : goal.turned-requires-clause-testable
+turned-requires-clause-testable c =
+    (firm-implicit _ _ _ _ _ _ _ c.requires.firm _ _ c.requires.j_lt_count.0 c.requires.j_lt_count.1 _ c.wide-v.ensures.0 _ c.wide-code.ensures.0
+    c.if-code-lt16.false c.if-code-eq255.false).0
+
+pub turned-requires-clause-i_bound : goal.turned-requires-clause-i_bound
+turned-requires-clause-i_bound c =
+    let f = firm-implicit _ _ _ _ _ _ _ c.requires.firm _ _ c.requires.j_lt_count.0 c.requires.j_lt_count.1 _ c.wide-v.ensures.0 _ c.wide-code.ensures.0
+    c.if-code-lt16.false c.if-code-eq255.false in
+    (omega arith, f.1.0, f.1.1)
 
 pub returns : goal.returns
 returns c =

@@ -13,9 +13,8 @@ use Rattle.matching.proofs.arcs.arcs.Goals as goal
 pub loop-k-init : goal.loop-k-init
 loop-k-init c = (omega arith, arcs-none _ _ _ _ _ _ _ _)
 
-pub arc-requires : goal.arc-requires
-arc-requires c =
-    let p = (c.requires.sized, c.requires.firm) in record { sized = p.0; firm = p.1; j_lt_count = (omega arith, omega arith) }
+pub arc-requires-clause-j_lt_count : goal.arc-requires-clause-j_lt_count
+arc-requires-clause-j_lt_count c = (omega arith, omega arith)
 
 pub returns-then-not-arc : goal.returns-then-not-arc
 returns-then-not-arc c = arcs_stop _ _ _ _ _ _ _ _ _ _ c.arc.ensures c.if-not-arc.true _ c.loop-k-test.true

@@ -10,9 +10,8 @@ returns-then-from-to c = explicit-later _ _ _ _ _ _ _ _ _ _ refl c.if-from-to.tr
 pub returns-then-wide-i : goal.returns-then-wide-i
 returns-then-wide-i c = explicit-tree _ _ _ _ _ _ _ _ _ _ refl _ c.wide.ensures.0 c.if-wide-i.true
 
-pub straight-requires : goal.straight-requires
-straight-requires c =
-    let p = (c.requires.sized, (c.requires.testable, c.requires.i_bound)) in record { sized = p.0; testable = p.1.0; i_bound = p.1.1.0 }
+pub straight-requires-clause-i_bound : goal.straight-requires-clause-i_bound
+straight-requires-clause-i_bound c = c.requires.i_bound.0
 
 pub returns : goal.returns
 returns c =

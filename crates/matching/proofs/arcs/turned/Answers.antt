@@ -30,12 +30,11 @@ returns-then-link-word c =
     _ c.loop-r-test.true (ne_eqb _ _ c.if-link-word.true)
 
 pub loop-r-preserved : goal.loop-r-preserved
-loop-r-preserved c =
-    (
-      omega arith,
-      turned_more _ _ _ _ _ _ _ _ _ _ c.word-q.ensures c.word.ensures c.link.ensures c.word-in-loop-r.ensures
-          c.if-link-word.false c.loop-r.invariant.1,
-    )
+loop-r-preserved c = (
+  omega arith,
+  turned_more _ _ _ _ _ _ _ _ _ _ c.word-q.ensures c.word.ensures c.link.ensures c.word-in-loop-r.ensures
+      c.if-link-word.false c.loop-r.invariant.1,
+)
 
 pub returns : goal.returns
 returns c =

@@ -17,8 +17,8 @@ link-y-requires c =
 pub word-requires-in-loop-r : goal.word-requires-in-loop-r
 word-requires-in-loop-r c =
     let below : c.link-y.result < c.args.slots = let inside = c.requires.i_bound in
-        row_below _ _ _ _ _ _ _ c.loop-r.invariant.1 inside.2 (omega arith) _ _ c.word.ensures c.link-y.ensures _
-        c.loop-r-test.true c.requires.row_linked in
+    row_below _ _ _ _ _ _ _ c.loop-r.invariant.1 inside.2 (omega arith) _ _ c.word.ensures c.link-y.ensures _
+    c.loop-r-test.true c.requires.row_linked in
     let l = below in omega arith
 
 pub returns-then-word-ne0 : goal.returns-then-word-ne0
@@ -30,20 +30,20 @@ returns-then-word-ne0 c =
 pub push-requires : goal.push-requires
 push-requires c =
     let below : c.link-y.result < c.args.slots = let inside = c.requires.i_bound in
-        row_below _ _ _ _ _ _ _ c.loop-r.invariant.1 inside.2 (omega arith) _ _ c.word.ensures c.link-y.ensures _
-        c.loop-r-test.true c.requires.row_linked in
+    row_below _ _ _ _ _ _ _ c.loop-r.invariant.1 inside.2 (omega arith) _ _ c.word.ensures c.link-y.ensures _
+    c.loop-r-test.true c.requires.row_linked in
     record { slots_le_max_slots = c.requires.sized.few; taken = c.loop-r.invariant.1.taken; y_lt_slots = (below, mark-read _ _ _ c.word-in-loop-r.ensures c.if-word-ne0.false) }
 
 pub loop-r-preserved : goal.loop-r-preserved
 loop-r-preserved c =
     let below : c.link-y.result < c.args.slots = let inside = c.requires.i_bound in
-        row_below _ _ _ _ _ _ _ c.loop-r.invariant.1 inside.2 (omega arith) _ _ c.word.ensures c.link-y.ensures _
-        c.loop-r-test.true c.requires.row_linked in
+    row_below _ _ _ _ _ _ _ c.loop-r.invariant.1 inside.2 (omega arith) _ _ c.word.ensures c.link-y.ensures _
+    c.loop-r-test.true c.requires.row_linked in
     let inside = c.requires.i_bound in (
-          omega arith,
-          row_more _ _ _ _ _ _ _ c.loop-r.invariant.1 inside.2 (omega arith) _ _ c.word.ensures c.link-y.ensures _
-              (below) c.push.ensures,
-        )
+      omega arith,
+      row_more _ _ _ _ _ _ _ c.loop-r.invariant.1 inside.2 (omega arith) _ _ c.word.ensures c.link-y.ensures _
+          (below) c.push.ensures,
+    )
 
 pub returns : goal.returns
 returns c =

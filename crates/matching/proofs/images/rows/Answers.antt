@@ -24,8 +24,8 @@ overflow_mul-end c =
 
 pub loop-k-init : goal.loop-k-init
 loop-k-init c =
-    let p = (c.requires.rows_len, c.requires.before_matching) in
-    (omega arith, p.1.rooted.some, refl, rw c.begin.ensures (grown-hooks p.1 c.args.rows.now p.0 _ refl))
+    let p = c.requires.before_matching in
+    (omega arith, p.rooted.some, refl, rw c.begin.ensures (grown-hooks p c.args.rows.now c.requires.rows_len _ refl))
 
 pub offset_bounds-rows-wide : goal.offset_bounds-rows-wide
 offset_bounds-rows-wide c =
@@ -39,9 +39,9 @@ bounds-rows-wide c =
 
 pub row-requires : goal.row-requires
 row-requires c =
-    let asked = let inv = c.loop-k.invariant in
-    let p = (c.requires.sized, (c.requires.rows_len, c.requires.before_matching)) in
-    (p.0, row_asks inv.3 inv.0 c.loop-k-test.true c.wide.ensures.0 c.wide-in-loop-k.ensures.0 inv.2 p.1.1) in record { sized = asked.0; taken = asked.1.0; i_bound = asked.1.1.0; row_linked = asked.1.1.1 }
+    let inv = c.loop-k.invariant in
+    let asked = row_asks inv.3 inv.0 c.loop-k-test.true c.wide.ensures.0 c.wide-in-loop-k.ensures.0 inv.2 c.requires.before_matching in
+    record { sized = c.requires.sized; taken = asked.0; i_bound = asked.1.0; row_linked = asked.1.1 }
 
 pub returns-then-not-row : goal.returns-then-not-row
 returns-then-not-row c =

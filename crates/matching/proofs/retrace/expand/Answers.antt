@@ -29,50 +29,54 @@ returns-then-p-k c =
     let O = l.invariant.3 T in
     expand_done T O.0 O.1 l.invariant.1 c.if-p-k.true
 
-pub link-y-requires : goal.link-y-requires
-link-y-requires c =
+pub link-y-requires-clause-x_lt_slots : goal.link-y-requires-clause-x_lt_slots
+link-y-requires-clause-x_lt_slots c =
+    let T = c.requires.retracing in
     let position : c.loop-p.p < c.args.k = omega (arith, c.loop-p.invariant.0, c.if-p-k.false) in
-    let p = (c.requires.sized, c.requires.retracing) in
-        let T = p.1 in record { sized = p.0; x_lt_slots = (x_slot T _ c.word-x.ensures, dim-low T _ c.word-x.ensures _ _ (position) c.wide.ensures.0) }
+    (x_slot T _ c.word-x.ensures, dim-low T _ c.word-x.ensures _ _ position c.wide.ensures.0)
 
 pub word-q-requires : goal.word-q-requires
 word-q-requires c =
     let position : c.loop-p.p < c.args.k = omega (arith, c.loop-p.invariant.0, c.if-p-k.false) in
     let T = c.requires.retracing in
-        omega (arith, position, few_positions T, T.low, T.walked.fits, c.loop-p.invariant.2)
+    omega (arith, position, few_positions T, T.low, T.walked.fits, c.loop-p.invariant.2)
 
 pub meet-end-requires : goal.meet-end-requires
 meet-end-requires c =
     let position : c.loop-p.p < c.args.k = omega (arith, c.loop-p.invariant.0, c.if-p-k.false) in
     let T = c.requires.retracing in
-        let v = c.loop-p.invariant in
-        let O = v.3 T in record { slots_le_max_slots = T.at.few; taken = O.0.taken; y_lt_slots = (
-              y_slot T _ c.word-x.ensures _ _ (position) c.wide.ensures.0 O.0 O.1 v.1 _ _ c.link-y.ensures c.word-q.ensures,
-              q_next T _ c.word-x.ensures _ _ (position) c.wide.ensures.0 O.0 O.1 v.1 _ _ c.link-y.ensures c.word-q.ensures,
-            ) }
+    let v = c.loop-p.invariant in
+    let O = v.3 T in record {
+      slots_le_max_slots = T.at.few;
+      taken = O.0.taken;
+      y_lt_slots = (
+        y_slot T _ c.word-x.ensures _ _ (position) c.wide.ensures.0 O.0 O.1 v.1 _ _ c.link-y.ensures c.word-q.ensures,
+        q_next T _ c.word-x.ensures _ _ (position) c.wide.ensures.0 O.0 O.1 v.1 _ _ c.link-y.ensures c.word-q.ensures,
+      );
+    }
 
 pub returns-then-end-eq0 : goal.returns-then-end-eq0
 returns-then-end-eq0 c =
     let position : c.loop-p.p < c.args.k = omega (arith, c.loop-p.invariant.0, c.if-p-k.false) in
     let v = c.loop-p.invariant in
-        λ T.
-        let O = v.3 T in
-        record {
-          done = λ some. absurd (omega arith);
-          none = λ z. expand_none T _ c.word-x.ensures _ _ (position) c.wide.ensures.0 O.0 O.1 v.1 _ _ c.link-y.ensures
-              c.word-q.ensures c.meet-end.ensures c.if-end-eq0.true;
-        }
+    λ T.
+    let O = v.3 T in
+    record {
+      done = λ some. absurd (omega arith);
+      none = λ z. expand_none T _ c.word-x.ensures _ _ (position) c.wide.ensures.0 O.0 O.1 v.1 _ _ c.link-y.ensures
+          c.word-q.ensures c.meet-end.ensures c.if-end-eq0.true;
+    }
 
 pub loop-p-preserved : goal.loop-p-preserved
 loop-p-preserved c =
     let position : c.loop-p.p < c.args.k = omega (arith, c.loop-p.invariant.0, c.if-p-k.false) in
     let v = c.loop-p.invariant in
-        let more : (T : Retracing _ _ _ _ _ _ _) → _ = λ T.
-        let O = v.3 T in
-        expand_more T _ c.word-x.ensures _ _ (position) c.wide.ensures.0 O.0 O.1 v.1 _ _ c.link-y.ensures c.word-q.ensures
-        c.meet-end.ensures c.if-end-eq0.false in
-        let T₀ = c.requires.retracing in
-        (omega (arith, position), (more T₀).0, (more T₀).1.0.taken.long, λ T. (more T).1)
+    let more : (T : Retracing _ _ _ _ _ _ _) → _ = λ T.
+    let O = v.3 T in
+    expand_more T _ c.word-x.ensures _ _ (position) c.wide.ensures.0 O.0 O.1 v.1 _ _ c.link-y.ensures c.word-q.ensures
+    c.meet-end.ensures c.if-end-eq0.false in
+    let T₀ = c.requires.retracing in
+    (omega (arith, position), (more T₀).0, (more T₀).1.0.taken.long, λ T. (more T).1)
 
 pub returns : goal.returns
 returns c =

@@ -17,9 +17,8 @@ meet-tail-requires c =
 pub returns-then-tail-eq0 : goal.returns-then-tail-eq0
 returns-then-tail-eq0 c = hung-none c.if-roots-eq1.false c.meet-tail.ensures c.if-tail-eq0.true
 
-pub retrace-requires : goal.retrace-requires
-retrace-requires c =
-    let p = (c.requires.sized, c.requires.before_hanging) in record { sized = p.0; retracing = ready p.1 c.if-roots-eq1.false c.meet-tail.ensures c.if-tail-eq0.false }
+pub retrace-requires-clause-retracing : goal.retrace-requires-clause-retracing
+retrace-requires-clause-retracing c = ready c.requires.before_hanging c.if-roots-eq1.false c.meet-tail.ensures c.if-tail-eq0.false
 
 pub returns : goal.returns
 returns c = hung-all c.if-roots-eq1.false c.meet-tail.ensures c.if-tail-eq0.false c.retrace.ensures

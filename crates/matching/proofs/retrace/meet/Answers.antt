@@ -17,9 +17,8 @@ pub returns-then-word-ne0 : goal.returns-then-word-ne0
 returns-then-word-ne0 c =
     inr (inr (refl, refl, inr (omega (arith, c.if-q-end.false, c.requires.y_lt_slots.1), mark-some _ _ _ c.word-2.ensures c.if-word-ne0.true)))
 
-pub push-requires : goal.push-requires
-push-requires c =
-    let p = (c.requires.slots_le_max_slots, (c.requires.taken, c.requires.y_lt_slots)) in record { slots_le_max_slots = p.0; taken = p.1.0; y_lt_slots = (p.1.1.0, mark-read _ _ _ c.word-2.ensures c.if-word-ne0.false) }
+pub push-requires-clause-y_lt_slots : goal.push-requires-clause-y_lt_slots
+push-requires-clause-y_lt_slots c = (c.requires.y_lt_slots.0, mark-read _ _ _ c.word-2.ensures c.if-word-ne0.false)
 
 pub returns : goal.returns
 returns c = inr (inl (refl, omega (arith, c.if-q-end.false, c.requires.y_lt_slots.1), c.push.ensures))

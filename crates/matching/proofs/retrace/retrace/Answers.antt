@@ -13,10 +13,11 @@ use Rattle.matching.proofs.retrace.retrace.Goals as goal
 pub loop-head-init : goal.loop-head-init
 loop-head-init c = let T = c.requires.retracing in (omega arith, T.some, T.standing.taken.long, λ T. retrace_first T)
 
-pub expand-end-requires : goal.expand-end-requires
-expand-end-requires c =
+pub expand-end-requires-clause-retracing : goal.expand-end-requires-clause-retracing
+expand-end-requires-clause-retracing c =
+    let T = c.requires.retracing in
     let v = c.loop-head.invariant in
-    let p = (c.requires.sized, c.requires.retracing) in record { sized = p.0; retracing = retracing p.1 (v.3 p.1) v.1 c.loop-head-test.true }
+    retracing T (v.3 T) v.1 c.loop-head-test.true
 
 pub returns-then-end-eq0 : goal.returns-then-end-eq0
 returns-then-end-eq0 c =

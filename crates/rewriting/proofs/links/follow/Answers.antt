@@ -8,12 +8,11 @@ use Rattle.rewriting.proofs.links.follow.Goals as goal
 
 pub join-requires : goal.join-requires
 join-requires c =
-    let pre = (c.requires.sized, (c.requires.holds_slots, (c.requires.legible, c.requires.i_bound))) in
-    let h = c.if-code-lt16.true in record { sized = pre.0; holds_slots = pre.1.0; size_in_bounds = (pre.1.1.0.node h, pre.1.1.1); turnable = λ l. absurd (omega arith) }
+    let h = c.if-code-lt16.true in record { sized = c.requires.sized; holds_slots = c.requires.holds_slots; size_in_bounds = (c.requires.legible.node h, c.requires.i_bound); turnable = λ l. absurd (omega arith) }
 
 pub join-requires-then-code-lt255 : goal.join-requires-then-code-lt255
 join-requires-then-code-lt255 c =
-    let pre = (c.requires.sized, (c.requires.holds_slots, (c.requires.legible, c.requires.i_bound))) in record { sized = pre.0; holds_slots = pre.1.0; size_in_bounds = (pre.1.0.inside, pre.1.1.1); turnable = λ l. pre.1.1.0.position l c.if-code-lt255.true }
+    record { sized = c.requires.sized; holds_slots = c.requires.holds_slots; size_in_bounds = (c.requires.holds_slots.inside, c.requires.i_bound); turnable = λ l. c.requires.legible.position l c.if-code-lt255.true }
 
 pub returns-then-code-lt16 : goal.returns-then-code-lt16
 returns-then-code-lt16 c = joined-node _ _ _ _ _ _ _ _ _ c.if-code-lt16.true c.join.ensures

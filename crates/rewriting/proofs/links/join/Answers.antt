@@ -50,9 +50,6 @@ loop-r-preserved c =
         (put-at _ _ _ _ _ _ _ (put_view c.loop-r.invariant.sized (Link a.i) c.requires.size_in_bounds.1 _ _ (slot) c.put_link.ensures)
         c.word-x.ensures (ap (dart_at a.store.now a.to) c.place-q.ensures))
 
-pub shape_of-table : goal.shape_of-table
-shape_of-table c = stage_length c.loop-r.invariant c.requires.sized
-
 pub returns : goal.returns
 unfolding overwritten
 returns c = stage_done c.loop-r.invariant c.loop-r-test.false ∙ links-steps _ _ _ _

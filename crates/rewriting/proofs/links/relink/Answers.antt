@@ -15,15 +15,12 @@ loop-k-init c = stage_none c.requires.sized
 
 pub follow-requires : goal.follow-requires
 follow-requires c =
-    let pre = (c.requires.sized, (c.requires.rows, c.requires.codes)) in record { sized = c.loop-k.invariant.sized; holds_slots = pre.1.0.at _ (omega arith); legible = rw c.wide.ensures.0 (pre.1.1.at _ (omega arith)); i_bound = omega arith }
+    record { sized = c.loop-k.invariant.sized; holds_slots = c.requires.rows.at _ (omega arith); legible = rw c.wide.ensures.0 (c.requires.codes.at _ (omega arith)); i_bound = omega arith }
 
 pub loop-k-preserved : goal.loop-k-preserved
 loop-k-preserved c =
     stage_more c.loop-k.invariant c.loop-k-test.true c.follow.auto.table
     (followed-at _ _ _ _ _ _ _ _ _ _ c.follow.ensures c.wide.ensures.0)
-
-pub shape_of-table : goal.shape_of-table
-shape_of-table c = stage_length c.loop-k.invariant c.requires.sized
 
 pub returns : goal.returns
 unfolding relinked

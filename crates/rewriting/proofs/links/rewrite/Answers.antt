@@ -11,11 +11,10 @@ use Rattle.rewriting.proofs.links.rewrite.Goals as goal
 
 pub relink-requires : goal.relink-requires
 relink-requires c =
-    let p = (c.requires.sized, c.requires.before_rewriting) in record { sized = p.0; rows = rows-held p.1 c.changes.ensures; codes = coding p.1 c.changes.ensures }
+    record { sized = c.requires.sized; rows = rows-held c.requires.before_rewriting c.changes.ensures; codes = coding c.requires.before_rewriting c.changes.ensures }
 
 pub returns : goal.returns
 unfolding edited
 returns c =
-    let p = (c.requires.sized, c.requires.before_rewriting) in
-    λ R. shown-words (edited (site R.at)) _ (sized_same p.0 c.relink.auto.table)
+    λ R. shown-words (edited (site R.at)) _ (sized_same c.requires.sized c.relink.auto.table)
     (λ f x h b. ap (λ (m : Map). field_of m f x) c.relink.ensures ∙ rewritten R c.changes.ensures f x h)

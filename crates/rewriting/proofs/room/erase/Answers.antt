@@ -27,9 +27,6 @@ loop-r-preserved c =
         stage_more v c.loop-r-test.true c.blank.auto.table
         (zeroed-at _ _ _ _ (blank-view v.sized _ (slot) c.blank.ensures) c.word-x.ensures)
 
-pub shape_of-table : goal.shape_of-table
-shape_of-table c = stage_length c.loop-r.invariant c.requires.sized
-
 pub returns : goal.returns
 unfolding erased
 returns c = stage_done c.loop-r.invariant c.loop-r-test.false

@@ -11,60 +11,23 @@ use Rattle.rewriting.proofs.room.note.Goals as goal
 pub loop-r-init : goal.loop-r-init
 loop-r-init c = (omega arith, noted-none _ _ _ _)
 
-pub overflow_add-from : goal.overflow_add-from
-overflow_add-from c =
-    let inside : let a = c.args in
-        (a.from + c.loop-r.r < a.to) × (a.to + c.loop-r.r < length c.loop-r.store) = let p = (c.requires.sized, (c.requires.holds_slots, c.requires.size_bound)) in
-        let n = c.loop-r.invariant.1.long in
-        (omega (arith, p.1.1.0, c.loop-r-test.true), omega (arith, p.1.1.1, c.loop-r-test.true)) in
-    omega (arith, inside)
-
 pub word-x-requires : goal.word-x-requires
 word-x-requires c =
     let inside : let a = c.args in
-        (a.from + c.loop-r.r < a.to) × (a.to + c.loop-r.r < length c.loop-r.store) = let p = (c.requires.sized, (c.requires.holds_slots, c.requires.size_bound)) in
-        let n = c.loop-r.invariant.1.long in
-        (omega (arith, p.1.1.0, c.loop-r-test.true), omega (arith, p.1.1.1, c.loop-r-test.true)) in
+        (a.from + c.loop-r.r < a.to) × (a.to + c.loop-r.r < length c.loop-r.store) = let n = c.loop-r.invariant.1.long in
+        (omega (arith, c.requires.size_bound.0, c.loop-r-test.true), omega (arith, c.requires.size_bound.1, c.loop-r-test.true)) in
     omega (arith, inside)
 
 pub tag-requires : goal.tag-requires
 tag-requires c =
-    let p = (c.requires.sized, (c.requires.holds_slots, c.requires.size_bound)) in record { sized = p.0; x_lt_slots = noted-slot p.1.0 p.1.1.0 c.loop-r-test.true c.loop-r.invariant.1 _ c.word-x.ensures }
-
-pub overflow_add-store : goal.overflow_add-store
-overflow_add-store c =
-    let inside : let a = c.args in
-        (a.from + c.loop-r.r < a.to) × (a.to + c.loop-r.r < length c.loop-r.store) = let p = (c.requires.sized, (c.requires.holds_slots, c.requires.size_bound)) in
-        let n = c.loop-r.invariant.1.long in
-        (omega (arith, p.1.1.0, c.loop-r-test.true), omega (arith, p.1.1.1, c.loop-r-test.true)) in
-    omega (arith, inside)
-
-pub offset_bounds-store-to : goal.offset_bounds-store-to
-offset_bounds-store-to c =
-    let inside : let a = c.args in
-        (a.from + c.loop-r.r < a.to) × (a.to + c.loop-r.r < length c.loop-r.store) = let p = (c.requires.sized, (c.requires.holds_slots, c.requires.size_bound)) in
-        let n = c.loop-r.invariant.1.long in
-        (omega (arith, p.1.1.0, c.loop-r-test.true), omega (arith, p.1.1.1, c.loop-r-test.true)) in
-    omega (arith, inside)
-
-pub bounds-store-to : goal.bounds-store-to
-bounds-store-to c =
-    let inside : let a = c.args in
-        (a.from + c.loop-r.r < a.to) × (a.to + c.loop-r.r < length c.loop-r.store) = let p = (c.requires.sized, (c.requires.holds_slots, c.requires.size_bound)) in
-        let n = c.loop-r.invariant.1.long in
-        (omega (arith, p.1.1.0, c.loop-r-test.true), omega (arith, p.1.1.1, c.loop-r-test.true)) in
-    omega (arith, inside)
+    record { sized = c.requires.sized; x_lt_slots = noted-slot c.requires.holds_slots c.requires.size_bound.0 c.loop-r-test.true c.loop-r.invariant.1 _ c.word-x.ensures }
 
 pub loop-r-preserved : goal.loop-r-preserved
 loop-r-preserved c =
     let inside : let a = c.args in
-        (a.from + c.loop-r.r < a.to) × (a.to + c.loop-r.r < length c.loop-r.store) = let p = (c.requires.sized, (c.requires.holds_slots, c.requires.size_bound)) in
-        let n = c.loop-r.invariant.1.long in
-        (omega (arith, p.1.1.0, c.loop-r-test.true), omega (arith, p.1.1.1, c.loop-r-test.true)) in
+        (a.from + c.loop-r.r < a.to) × (a.to + c.loop-r.r < length c.loop-r.store) = let n = c.loop-r.invariant.1.long in
+        (omega (arith, c.requires.size_bound.0, c.loop-r-test.true), omega (arith, c.requires.size_bound.1, c.loop-r-test.true)) in
     (omega arith, noted_more c.loop-r.invariant.1 inside.0 inside.1 _ _ c.word-x.ensures c.tag.ensures)
-
-pub shape_of-store : goal.shape_of-store
-shape_of-store c = c.loop-r.invariant.1.long
 
 pub returns : goal.returns
 returns c = noted-all c.loop-r.invariant.0 c.loop-r-test.false c.loop-r.invariant.1

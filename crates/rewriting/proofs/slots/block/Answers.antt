@@ -14,24 +14,6 @@ use Rattle.rewriting.proofs.slots.block.Goals as goal
 pub loop-rest-init : goal.loop-rest-init
 loop-rest-init c = (c.requires.sized, passed_none)
 
-pub overflow_cast-t : goal.overflow_cast-t
-overflow_cast-t c =
-    let next : let j = count_trailing_zeros 64 c.loop-rest.rest in
-        (j < 64) × (64 * c.args.w + j < c.args.slots) × (c.args.slots ≤ max_slots) × (length c.loop-rest.store ≡ 16 * c.args.slots) = let B = c.requires.block in
-        let p = c.loop-rest.invariant.1 B in
-        let some = c.loop-rest-test.true in
-        (in_word B.before B.grant p some _ refl, dart-fits B.before B.grant p some _ refl, B.at.few, p.granting.store_long ∙ B.grant.long) in
-    omega (arith, next)
-
-pub overflow_shl-rest : goal.overflow_shl-rest
-overflow_shl-rest c =
-    let next : let j = count_trailing_zeros 64 c.loop-rest.rest in
-        (j < 64) × (64 * c.args.w + j < c.args.slots) × (c.args.slots ≤ max_slots) × (length c.loop-rest.store ≡ 16 * c.args.slots) = let B = c.requires.block in
-        let p = c.loop-rest.invariant.1 B in
-        let some = c.loop-rest-test.true in
-        (in_word B.before B.grant p some _ refl, dart-fits B.before B.grant p some _ refl, B.at.few, p.granting.store_long ∙ B.grant.long) in
-    next.0
-
 pub overflow_sub-rest : goal.overflow_sub-rest
 overflow_sub-rest c =
     let less : let r = c.loop-rest.rest in
@@ -87,12 +69,6 @@ loop-rest-preserved c =
       sized_same v.0 c.turn-from.auto.table,
       λ B. passed-more B.before B.grant (v.1 B) c.loop-rest-test.true _ refl _ _ _ _ _ c.word-r.ensures refl c.turn-from.ensures,
     )
-
-pub shape_of-table : goal.shape_of-table
-shape_of-table c = c.loop-rest.invariant.0.long ∙ sym c.requires.sized.long
-
-pub shape_of-store : goal.shape_of-store
-shape_of-store c = let B = c.requires.block in (c.loop-rest.invariant.1 B).granting.store_long ∙ sym B.granting.store_long
 
 pub returns : goal.returns
 returns c = λ B. passed-all B.before B.grant (c.loop-rest.invariant.1 B) c.loop-rest-test.false

@@ -19,85 +19,21 @@ block_count-end-requires c = c.requires.sized.few
 pub loop-w-init : goal.loop-w-init
 loop-w-init c = (omega arith, c.requires.sized, λ R. granting-start R.grant R.bare R.tagged)
 
-pub overflow_mul-at : goal.overflow_mul-at
-overflow_mul-at c =
-    let inside : let N = c.args.slots in
-        (N ≤ max_slots) × (c.loop-w.w < block_count N) × (length c.loop-w.store ≡ 16 * N) = let p = (c.requires.sized, c.requires.before_blocks) in
-        (p.0.few, omega (arith, c.loop-w-test.true, c.block_count-end.ensures), (c.loop-w.invariant.2 p.1).store_long ∙ p.1.grant.long) in
-    omega (arith, inside)
-
-pub overflow_mul-at-in-loop-w : goal.overflow_mul-at-in-loop-w
-overflow_mul-at-in-loop-w c =
-    let inside : let N = c.args.slots in
-        (N ≤ max_slots) × (c.loop-w.w < block_count N) × (length c.loop-w.store ≡ 16 * N) = let p = (c.requires.sized, c.requires.before_blocks) in
-        (p.0.few, omega (arith, c.loop-w-test.true, c.block_count-end.ensures), (c.loop-w.invariant.2 p.1).store_long ∙ p.1.grant.long) in
-    omega (arith, inside)
-
-pub overflow_add-at : goal.overflow_add-at
-overflow_add-at c =
-    let inside : let N = c.args.slots in
-        (N ≤ max_slots) × (c.loop-w.w < block_count N) × (length c.loop-w.store ≡ 16 * N) = let p = (c.requires.sized, c.requires.before_blocks) in
-        (p.0.few, omega (arith, c.loop-w-test.true, c.block_count-end.ensures), (c.loop-w.invariant.2 p.1).store_long ∙ p.1.grant.long) in
-    omega (arith, inside)
-
-pub offset_bounds-store-at : goal.offset_bounds-store-at
-offset_bounds-store-at c =
-    let inside : let N = c.args.slots in
-        (N ≤ max_slots) × (c.loop-w.w < block_count N) × (length c.loop-w.store ≡ 16 * N) = let p = (c.requires.sized, c.requires.before_blocks) in
-        (p.0.few, omega (arith, c.loop-w-test.true, c.block_count-end.ensures), (c.loop-w.invariant.2 p.1).store_long ∙ p.1.grant.long) in
-    omega (arith, inside)
-
-pub bounds-store-at : goal.bounds-store-at
-bounds-store-at c =
-    let inside : let N = c.args.slots in
-        (N ≤ max_slots) × (c.loop-w.w < block_count N) × (length c.loop-w.store ≡ 16 * N) = let p = (c.requires.sized, c.requires.before_blocks) in
-        (p.0.few, omega (arith, c.loop-w-test.true, c.block_count-end.ensures), (c.loop-w.invariant.2 p.1).store_long ∙ p.1.grant.long) in
-    omega (arith, inside)
-
-pub overflow_add-at-in-loop-w : goal.overflow_add-at-in-loop-w
-overflow_add-at-in-loop-w c =
-    let inside : let N = c.args.slots in
-        (N ≤ max_slots) × (c.loop-w.w < block_count N) × (length c.loop-w.store ≡ 16 * N) = let p = (c.requires.sized, c.requires.before_blocks) in
-        (p.0.few, omega (arith, c.loop-w-test.true, c.block_count-end.ensures), (c.loop-w.invariant.2 p.1).store_long ∙ p.1.grant.long) in
-    omega (arith, inside)
-
-pub offset_bounds-store-at-in-loop-w : goal.offset_bounds-store-at-in-loop-w
-offset_bounds-store-at-in-loop-w c =
-    let inside : let N = c.args.slots in
-        (N ≤ max_slots) × (c.loop-w.w < block_count N) × (length c.loop-w.store ≡ 16 * N) = let p = (c.requires.sized, c.requires.before_blocks) in
-        (p.0.few, omega (arith, c.loop-w-test.true, c.block_count-end.ensures), (c.loop-w.invariant.2 p.1).store_long ∙ p.1.grant.long) in
-    omega (arith, inside)
-
-pub bounds-store-at-in-loop-w : goal.bounds-store-at-in-loop-w
-bounds-store-at-in-loop-w c =
-    let inside : let N = c.args.slots in
-        (N ≤ max_slots) × (c.loop-w.w < block_count N) × (length c.loop-w.store ≡ 16 * N) = let p = (c.requires.sized, c.requires.before_blocks) in
-        (p.0.few, omega (arith, c.loop-w-test.true, c.block_count-end.ensures), (c.loop-w.invariant.2 p.1).store_long ∙ p.1.grant.long) in
-    omega (arith, inside)
-
 pub block-free-requires : goal.block-free-requires
 block-free-requires c =
     let inside : let N = c.args.slots in
-        (N ≤ max_slots) × (c.loop-w.w < block_count N) × (length c.loop-w.store ≡ 16 * N) = let p = (c.requires.sized, c.requires.before_blocks) in
-        (p.0.few, omega (arith, c.loop-w-test.true, c.block_count-end.ensures), (c.loop-w.invariant.2 p.1).store_long ∙ p.1.grant.long) in
+        (N ≤ max_slots) × (c.loop-w.w < block_count N) × (length c.loop-w.store ≡ 16 * N) = (c.requires.sized.few, omega (arith, c.loop-w-test.true, c.block_count-end.ensures), (c.loop-w.invariant.2 c.requires.before_blocks).store_long ∙ c.requires.before_blocks.grant.long) in
     let R = c.requires.before_blocks in record { sized = c.loop-w.invariant.1; block = block_of R.before R.grant R.digits (c.loop-w.invariant.2 R) inside.1 _ c.pair-digits.ensures }
 
 pub loop-w-preserved : goal.loop-w-preserved
 loop-w-preserved c =
     let inside : let N = c.args.slots in
-        (N ≤ max_slots) × (c.loop-w.w < block_count N) × (length c.loop-w.store ≡ 16 * N) = let p = (c.requires.sized, c.requires.before_blocks) in
-        (p.0.few, omega (arith, c.loop-w-test.true, c.block_count-end.ensures), (c.loop-w.invariant.2 p.1).store_long ∙ p.1.grant.long) in
+        (N ≤ max_slots) × (c.loop-w.w < block_count N) × (length c.loop-w.store ≡ 16 * N) = (c.requires.sized.few, omega (arith, c.loop-w-test.true, c.block_count-end.ensures), (c.loop-w.invariant.2 c.requires.before_blocks).store_long ∙ c.requires.before_blocks.grant.long) in
     (
           omega arith,
           sized_same c.loop-w.invariant.1 c.block-free.auto.table,
           λ R. next_block R.before R.grant R.digits (c.loop-w.invariant.2 R) inside.1 _ _ _ _ c.pair-digits.ensures c.block-free.ensures,
         )
-
-pub shape_of-table : goal.shape_of-table
-shape_of-table c = c.loop-w.invariant.1.long ∙ sym c.requires.sized.long
-
-pub shape_of-store : goal.shape_of-store
-shape_of-store c = (c.loop-w.invariant.2 c.requires.before_blocks).store_long
 
 pub returns : goal.returns
 returns c =

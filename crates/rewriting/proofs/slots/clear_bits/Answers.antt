@@ -9,19 +9,8 @@ use Rattle.rewriting.proofs.slots.clear_bits.Goals as goal
 pub block_count-end-requires : goal.block_count-end-requires
 block_count-end-requires c = c.requires.slots_le_max_slots
 
-pub overflow_mul-end : goal.overflow_mul-end
-overflow_mul-end c = omega (arith, c.block_count-end.ensures, c.requires.slots_le_max_slots)
-
 pub loop-i-init : goal.loop-i-init
 loop-i-init c = (omega arith, bits_none _ _)
-
-pub overflow_mul-slots : goal.overflow_mul-slots
-overflow_mul-slots c = omega (arith, c.requires.slots_le_max_slots)
-
-pub overflow_add-slots : goal.overflow_add-slots
-overflow_add-slots c =
-    let inside : c.loop-i.i < digit_words c.args.slots = omega (arith, c.loop-i-test.true, c.block_count-end.ensures) in
-    omega (arith, inside, c.requires.slots_le_max_slots)
 
 pub keep-requires : goal.keep-requires
 keep-requires c =
@@ -32,9 +21,6 @@ pub loop-i-preserved : goal.loop-i-preserved
 loop-i-preserved c =
     let inside : c.loop-i.i < digit_words c.args.slots = omega (arith, c.loop-i-test.true, c.block_count-end.ensures) in
     (omega arith, bits_more _ _ c.requires.store_len _ (inside) _ c.loop-i.invariant.1 _ _ (omega arith) c.keep.ensures)
-
-pub shape_of-store : goal.shape_of-store
-shape_of-store c = c.loop-i.invariant.1.behind.long
 
 pub returns : goal.returns
 returns c =

@@ -13,7 +13,7 @@ row_starts-requires c = let R = c.requires.before_giving in record { apart = apa
 
 pub clear_bits-requires : goal.clear_bits-requires
 clear_bits-requires c =
-    let p = (c.requires.sized, c.requires.before_giving) in record { slots_le_max_slots = p.0.few; store_len = p.1.grant.long }
+    record { slots_le_max_slots = c.requires.sized.few; store_len = c.requires.before_giving.grant.long }
 
 pub mark_bits-requires : goal.mark_bits-requires
 mark_bits-requires c =
@@ -21,8 +21,7 @@ mark_bits-requires c =
 
 pub blocks-requires : goal.blocks-requires
 blocks-requires c =
-    let p = (c.requires.sized, c.requires.before_giving) in
-    let R₁ = regiven p.1 _ c.clear_bits.ensures.behind in record { sized = p.0; before_blocks = blocks_ready (regiven R₁ _ c.mark_bits.ensures.behind) (digits-own _ _ _ _ c.mark_bits.ensures) }
+    let R₁ = regiven c.requires.before_giving _ c.clear_bits.ensures.behind in record { sized = c.requires.sized; before_blocks = blocks_ready (regiven R₁ _ c.mark_bits.ensures.behind) (digits-own _ _ _ _ c.mark_bits.ensures) }
 
 pub returns : goal.returns
 returns c =

@@ -13,13 +13,6 @@ loop-slots-init c = scan_start _ _
 pub state-requires : goal.state-requires
 state-requires c = record { sized = c.requires.sized; x_lt_slots = scan_inside c.loop-slots.invariant c.requires.slot_left }
 
-pub overflow_add-y : goal.overflow_add-y
-overflow_add-y c =
-    let Past : ℕ → Type 0 = λ k. Scanned (view c.args.slots c.args.table.now).state c.args.from (c.loop-slots.y + k) in
-    let past-1 : Past 1 = scan_more c.loop-slots.invariant _ _ c.state.ensures c.loop-slots-test.true refl in
-    let fits : (k : ℕ) → Past k → (c.loop-slots.y + k < c.args.slots) × (c.args.slots ≤ max_slots) = λ k p. (scan_inside p c.requires.slot_left, c.requires.sized.few) in
-    omega (arith, fits 1 (past-1))
-
 pub state-requires-in-loop-slots : goal.state-requires-in-loop-slots
 state-requires-in-loop-slots c =
     let Past : ℕ → Type 0 = λ k. Scanned (view c.args.slots c.args.table.now).state c.args.from (c.loop-slots.y + k) in
@@ -28,26 +21,11 @@ state-requires-in-loop-slots c =
         × (c.loop-slots.y + k < c.args.slots) = λ k p. (c.requires.sized, scan_inside p c.requires.slot_left) in
     let asked = inside 1 (past-1) in record { sized = asked.0; x_lt_slots = asked.1 }
 
-pub overflow_add-result : goal.overflow_add-result
-overflow_add-result c =
-    let Past : ℕ → Type 0 = λ k. Scanned (view c.args.slots c.args.table.now).state c.args.from (c.loop-slots.y + k) in
-    let past-1 : Past 1 = scan_more c.loop-slots.invariant _ _ c.state.ensures c.loop-slots-test.true refl in
-    let fits : (k : ℕ) → Past k → (c.loop-slots.y + k < c.args.slots) × (c.args.slots ≤ max_slots) = λ k p. (scan_inside p c.requires.slot_left, c.requires.sized.few) in
-    omega (arith, fits 1 (past-1))
-
 pub returns-then-state-eq0 : goal.returns-then-state-eq0
 returns-then-state-eq0 c =
     let Past : ℕ → Type 0 = λ k. Scanned (view c.args.slots c.args.table.now).state c.args.from (c.loop-slots.y + k) in
     let past-1 : Past 1 = scan_more c.loop-slots.invariant _ _ c.state.ensures c.loop-slots-test.true refl in
     scan_found (past-1) _ c.requires.slot_left c.state-in-loop-slots.ensures c.if-state-eq0.true
-
-pub overflow_add-y-in-loop-slots : goal.overflow_add-y-in-loop-slots
-overflow_add-y-in-loop-slots c =
-    let Past : ℕ → Type 0 = λ k. Scanned (view c.args.slots c.args.table.now).state c.args.from (c.loop-slots.y + k) in
-    let past-1 : Past 1 = scan_more c.loop-slots.invariant _ _ c.state.ensures c.loop-slots-test.true refl in
-    let past-2 : Past 2 = scan_more (past-1) _ _ c.state-in-loop-slots.ensures c.if-state-eq0.false (omega arith) in
-    let fits : (k : ℕ) → Past k → (c.loop-slots.y + k < c.args.slots) × (c.args.slots ≤ max_slots) = λ k p. (scan_inside p c.requires.slot_left, c.requires.sized.few) in
-    omega (arith, fits 2 (past-2))
 
 pub state-requires-in-loop-slots-2 : goal.state-requires-in-loop-slots-2
 state-requires-in-loop-slots-2 c =
@@ -58,14 +36,6 @@ state-requires-in-loop-slots-2 c =
         × (c.loop-slots.y + k < c.args.slots) = λ k p. (c.requires.sized, scan_inside p c.requires.slot_left) in
     let asked = inside 2 (past-2) in record { sized = asked.0; x_lt_slots = asked.1 }
 
-pub overflow_add-result-then-state-eq0-2 : goal.overflow_add-result-then-state-eq0-2
-overflow_add-result-then-state-eq0-2 c =
-    let Past : ℕ → Type 0 = λ k. Scanned (view c.args.slots c.args.table.now).state c.args.from (c.loop-slots.y + k) in
-    let past-1 : Past 1 = scan_more c.loop-slots.invariant _ _ c.state.ensures c.loop-slots-test.true refl in
-    let past-2 : Past 2 = scan_more (past-1) _ _ c.state-in-loop-slots.ensures c.if-state-eq0.false (omega arith) in
-    let fits : (k : ℕ) → Past k → (c.loop-slots.y + k < c.args.slots) × (c.args.slots ≤ max_slots) = λ k p. (scan_inside p c.requires.slot_left, c.requires.sized.few) in
-    omega (arith, fits 2 (past-2))
-
 pub returns-then-state-eq0-2 : goal.returns-then-state-eq0-2
 returns-then-state-eq0-2 c =
     let Past : ℕ → Type 0 = λ k. Scanned (view c.args.slots c.args.table.now).state c.args.from (c.loop-slots.y + k) in
@@ -73,15 +43,6 @@ returns-then-state-eq0-2 c =
     let past-2 : Past 2 = scan_more (past-1) _ _ c.state-in-loop-slots.ensures c.if-state-eq0.false (omega arith) in
     scan_found (past-2) _ c.requires.slot_left
         c.state-in-loop-slots-2.ensures c.if-state-eq0-2.true
-
-pub overflow_add-y-in-loop-slots-2 : goal.overflow_add-y-in-loop-slots-2
-overflow_add-y-in-loop-slots-2 c =
-    let Past : ℕ → Type 0 = λ k. Scanned (view c.args.slots c.args.table.now).state c.args.from (c.loop-slots.y + k) in
-    let past-1 : Past 1 = scan_more c.loop-slots.invariant _ _ c.state.ensures c.loop-slots-test.true refl in
-    let past-2 : Past 2 = scan_more (past-1) _ _ c.state-in-loop-slots.ensures c.if-state-eq0.false (omega arith) in
-    let past-3 : Past 3 = scan_more (past-2) _ _ c.state-in-loop-slots-2.ensures c.if-state-eq0-2.false (omega arith) in
-    let fits : (k : ℕ) → Past k → (c.loop-slots.y + k < c.args.slots) × (c.args.slots ≤ max_slots) = λ k p. (scan_inside p c.requires.slot_left, c.requires.sized.few) in
-    omega (arith, fits 3 (past-3))
 
 pub state-requires-in-loop-slots-3 : goal.state-requires-in-loop-slots-3
 state-requires-in-loop-slots-3 c =
@@ -93,15 +54,6 @@ state-requires-in-loop-slots-3 c =
         × (c.loop-slots.y + k < c.args.slots) = λ k p. (c.requires.sized, scan_inside p c.requires.slot_left) in
     let asked = inside 3 (past-3) in record { sized = asked.0; x_lt_slots = asked.1 }
 
-pub overflow_add-result-then-state-eq0-3 : goal.overflow_add-result-then-state-eq0-3
-overflow_add-result-then-state-eq0-3 c =
-    let Past : ℕ → Type 0 = λ k. Scanned (view c.args.slots c.args.table.now).state c.args.from (c.loop-slots.y + k) in
-    let past-1 : Past 1 = scan_more c.loop-slots.invariant _ _ c.state.ensures c.loop-slots-test.true refl in
-    let past-2 : Past 2 = scan_more (past-1) _ _ c.state-in-loop-slots.ensures c.if-state-eq0.false (omega arith) in
-    let past-3 : Past 3 = scan_more (past-2) _ _ c.state-in-loop-slots-2.ensures c.if-state-eq0-2.false (omega arith) in
-    let fits : (k : ℕ) → Past k → (c.loop-slots.y + k < c.args.slots) × (c.args.slots ≤ max_slots) = λ k p. (scan_inside p c.requires.slot_left, c.requires.sized.few) in
-    omega (arith, fits 3 (past-3))
-
 pub returns-then-state-eq0-3 : goal.returns-then-state-eq0-3
 returns-then-state-eq0-3 c =
     let Past : ℕ → Type 0 = λ k. Scanned (view c.args.slots c.args.table.now).state c.args.from (c.loop-slots.y + k) in
@@ -110,16 +62,6 @@ returns-then-state-eq0-3 c =
     let past-3 : Past 3 = scan_more (past-2) _ _ c.state-in-loop-slots-2.ensures c.if-state-eq0-2.false (omega arith) in
     scan_found (past-3) _ c.requires.slot_left
         c.state-in-loop-slots-3.ensures c.if-state-eq0-3.true
-
-pub overflow_add-y-in-loop-slots-3 : goal.overflow_add-y-in-loop-slots-3
-overflow_add-y-in-loop-slots-3 c =
-    let Past : ℕ → Type 0 = λ k. Scanned (view c.args.slots c.args.table.now).state c.args.from (c.loop-slots.y + k) in
-    let past-1 : Past 1 = scan_more c.loop-slots.invariant _ _ c.state.ensures c.loop-slots-test.true refl in
-    let past-2 : Past 2 = scan_more (past-1) _ _ c.state-in-loop-slots.ensures c.if-state-eq0.false (omega arith) in
-    let past-3 : Past 3 = scan_more (past-2) _ _ c.state-in-loop-slots-2.ensures c.if-state-eq0-2.false (omega arith) in
-    let past-4 : Past 4 = scan_more (past-3) _ _ c.state-in-loop-slots-3.ensures c.if-state-eq0-3.false (omega arith) in
-    let fits : (k : ℕ) → Past k → (c.loop-slots.y + k < c.args.slots) × (c.args.slots ≤ max_slots) = λ k p. (scan_inside p c.requires.slot_left, c.requires.sized.few) in
-    omega (arith, fits 4 (past-4))
 
 pub loop-slots-smaller : goal.loop-slots-smaller
 loop-slots-smaller c =

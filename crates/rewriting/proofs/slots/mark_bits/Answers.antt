@@ -10,20 +10,8 @@ use Rattle.rewriting.proofs.slots.mark_bits.Goals as goal
 pub loop-r-init : goal.loop-r-init
 loop-r-init c = (omega arith, digits-none _ _ _ c.requires.no_digits)
 
-pub overflow_add-slots : goal.overflow_add-slots
-overflow_add-slots c = let P = c.requires.places_marked in omega (arith, P.few, P.fits)
-
 pub word-u-requires : goal.word-u-requires
 word-u-requires c = let P = c.requires.places_marked in omega (arith, P.long, P.fits, c.loop-r.invariant.1.behind.long)
-
-pub overflow_mul-at : goal.overflow_mul-at
-overflow_mul-at c = omega (arith, c.requires.places_marked.few)
-
-pub overflow_add-at : goal.overflow_add-at
-overflow_add-at c =
-    let inside : 8 * c.args.slots + c.word-u.result / 32 < length c.loop-r.store = mark-word _ _ _ c.requires.places_marked _ c.loop-r-test.true _ c.loop-r.invariant.1 _ c.word-u.ensures in
-    let P = c.requires.places_marked in
-        omega (arith, inside, P.few, P.long, c.loop-r.invariant.1.behind.long)
 
 pub word-old-requires : goal.word-old-requires
 word-old-requires c =
@@ -41,11 +29,6 @@ keep-requires c =
     let fits : c.word-old.result + (1 * 2 ^ (c.word-u.result % 32)) % 2 ^ 64 < 2 ^ 32 = mark-room _ _ _ c.requires.places_marked _ c.loop-r-test.true _ c.loop-r.invariant.1 _ c.word-u.ensures _ c.word-old.ensures in
     (inside, fits)
 
-pub overflow_add-r : goal.overflow_add-r
-overflow_add-r c =
-    let P = c.requires.places_marked in
-    omega (arith, P.few, P.fits)
-
 pub loop-r-preserved : goal.loop-r-preserved
 loop-r-preserved c =
     (
@@ -53,9 +36,6 @@ loop-r-preserved c =
       mark-more _ _ _ c.requires.places_marked _ c.loop-r-test.true _ c.loop-r.invariant.1 _ c.word-u.ensures
           _ c.word-old.ensures _ c.keep.ensures,
     )
-
-pub shape_of-store : goal.shape_of-store
-shape_of-store c = c.loop-r.invariant.1.behind.long
 
 pub returns : goal.returns
 returns c =

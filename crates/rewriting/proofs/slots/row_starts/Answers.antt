@@ -10,21 +10,6 @@ use Rattle.rewriting.proofs.slots.row_starts.Goals as goal
 pub loop-a-init : goal.loop-a-init
 loop-a-init c = (omega arith, rows_none _ _ _ _)
 
-pub overflow_cast-s : goal.overflow_cast-s
-overflow_cast-s c = omega (arith, c.requires.apart.below c.loop-a.a c.loop-a-test.true)
-
-pub overflow_mul-rows-in-loop-a : goal.overflow_mul-rows-in-loop-a
-overflow_mul-rows-in-loop-a c = omega (arith, c.requires.apart.slots, row_fits _ _ _ _ c.requires.apart c.loop-a.a c.loop-a-test.true)
-
-pub overflow_add-rows : goal.overflow_add-rows
-overflow_add-rows c = omega (arith, c.requires.apart.slots, row_fits _ _ _ _ c.requires.apart c.loop-a.a c.loop-a-test.true)
-
-pub offset_bounds-rows-s : goal.offset_bounds-rows-s
-offset_bounds-rows-s c = omega (arith, c.requires.apart.below c.loop-a.a c.loop-a-test.true)
-
-pub bounds-rows-s : goal.bounds-rows-s
-bounds-rows-s c = c.requires.apart.below c.loop-a.a c.loop-a-test.true
-
 pub loop-a-preserved : goal.loop-a-preserved
 loop-a-preserved c =
     let h = c.loop-a-test.true in

@@ -14,9 +14,6 @@ use Rattle.rewriting.specs.Slots.{Turn, Granting}
 use Rattle.rewriting.proofs.SlotTurnLaws.{turn-size, turn-done, turn-cell, turn-room, turn_more}
 use Rattle.rewriting.proofs.slots.turn.Goals as goal
 
-pub overflow_mul-base : goal.overflow_mul-base
-overflow_mul-base c = omega (arith, c.requires.sized.few)
-
 pub loop-rest-init : goal.loop-rest-init
 loop-rest-init c = (0, omega arith, omega arith, c.requires.sized, λ T. rw add-zero T.granting)
 
@@ -81,18 +78,6 @@ keep-requires c =
     let i = inside in
         (omega arith, omega (arith, c.lowest-y.ensures.fits))
 
-pub overflow_add-from : goal.overflow_add-from
-overflow_add-from c =
-    let done : ℕ = c.loop-rest.invariant.0 in
-    let so_far : let b = c.args in let T = c.requires.turn in
-        Granting T.at T.store b.size (count_below T.dart (site T.at).orbit * b.many + done) c.loop-rest.from
-        (view b.slots c.loop-rest.table) c.loop-rest.store = c.loop-rest.invariant.4 c.requires.turn in
-    let more : done < c.args.many = omega (arith, c.loop-rest-test.true, c.loop-rest.invariant.1) in
-    let inside : let b = c.args in
-        (c.loop-rest.base + b.r < 3 * b.slots) × (b.size ≤ b.slots) × (b.slots ≤ max_slots) × (length c.loop-rest.store ≡ 16 * b.slots) = let T = c.requires.turn in
-        (omega (arith, c.loop-rest.invariant.2, turn-cell T (done) (more)), turn-size T, T.at.few, so_far.store_long ∙ T.grant.long) in
-    omega (arith, c.lowest-y.ensures.fits, inside)
-
 pub overflow_add-base : goal.overflow_add-base
 overflow_add-base c =
     let done : ℕ = c.loop-rest.invariant.0 in
@@ -111,23 +96,12 @@ loop-rest-preserved c =
     let more : done < c.args.many = omega (arith, c.loop-rest-test.true, c.loop-rest.invariant.1) in
     (
           done + 1,
-          omega (arith, c.loop-rest.inv.1, c.loop-rest-test.taken),
-          omega (arith, c.loop-rest.inv.2),
-          sized_same c.loop-rest.inv.3 c.revive.auto.table,
-          λ T. turn_more T (done) (more) (c.loop-rest.inv.4 T) _ _ _ _ _ (omega (arith, c.loop-rest.inv.2)) c.lowest-y.ensures refl c.revive.ensures
+          omega (arith, c.loop-rest.invariant.1, c.loop-rest-test.true),
+          omega (arith, c.loop-rest.invariant.2),
+          sized_same c.loop-rest.invariant.3 c.revive.auto.table,
+          λ T. turn_more T (done) (more) (c.loop-rest.invariant.4 T) _ _ _ _ _ (omega (arith, c.loop-rest.invariant.2)) c.lowest-y.ensures refl c.revive.ensures
               c.keep.ensures,
         )
-
-pub shape_of-table : goal.shape_of-table
-shape_of-table c = c.loop-rest.invariant.3.long ∙ sym c.requires.sized.long
-
-pub shape_of-store : goal.shape_of-store
-shape_of-store c =
-    let done : ℕ = c.loop-rest.invariant.0 in
-    let so_far : let b = c.args in let T = c.requires.turn in
-        Granting T.at T.store b.size (count_below T.dart (site T.at).orbit * b.many + done) c.loop-rest.from
-        (view b.slots c.loop-rest.table) c.loop-rest.store = c.loop-rest.invariant.4 c.requires.turn in
-    so_far.store_long ∙ sym c.requires.turn.granting.store_long
 
 pub returns : goal.returns
 returns c = λ T. turn-done T (omega (arith, c.loop-rest.invariant.1, c.loop-rest-test.false)) (c.loop-rest.invariant.4 T)

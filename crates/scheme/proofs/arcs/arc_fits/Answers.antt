@@ -1,5 +1,4 @@
 -- `scheme::arcs::arc_fits` meets its contract.
-use borrow.Author.Rules.{rules}
 use Rattle.scheme.proofs.ArcTestLaws.{no_key, no_dimension, no_order, no_node, no_near, far-last}
 use Rattle.scheme.proofs.arcs.arc_fits.Goals as goal
 

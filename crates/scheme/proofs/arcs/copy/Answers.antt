@@ -1,8 +1,6 @@
 -- `scheme::arcs::copy` meets its contract.
-use Prim.Native.Nat.{◌+◌, ◌-◌, ◌≤◌}
-use mathlib.Core.Path.{◌≡◌, sym}
+use mathlib.Core.Path.{sym}
 use native.Mathlib.Omega.{arith}
-use Rattle.base.specs.Filled.{stored}
 use Rattle.base.proofs.FilledLaws.{stored-none, stored-all}
 use Rattle.frame.proofs.PlaceLaws.{taken_at, stored-byte}
 use Rattle.scheme.proofs.arcs.copy.Goals as goal

@@ -1,10 +1,7 @@
 -- The loop's invariant: the first j bytes are stored, and the cursor is past them.
 use Prim.Native.Nat.{◌+◌, ◌-◌, ◌≤◌}
-use mathlib.Core.Path.{◌≡◌, sym}
-use native.Mathlib.Omega.{arith}
+use mathlib.Core.Path.{◌≡◌}
 use Rattle.base.specs.Filled.{stored}
-use Rattle.base.proofs.FilledLaws.{stored-none, stored-all}
-use Rattle.frame.proofs.PlaceLaws.{taken_at, stored-byte}
 use Rattle.scheme.proofs.arcs.copy.Given as goal
 
 abbrev pub invariant-loop-j : goal.invariant-loop-j

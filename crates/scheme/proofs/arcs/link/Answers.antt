@@ -1,5 +1,4 @@
 -- `scheme::arcs::link` meets its contract.
-use borrow.Author.Rules.{rules}
 use Rattle.scheme.proofs.LinkLaws.{loop-is, ends_are}
 use Rattle.scheme.proofs.arcs.link.Goals as goal
 

@@ -1,14 +1,9 @@
 -- The loop's invariant: the first p bytes are 255, and the cursor is past them.
 use Prim.Native.Nat.{◌+◌, ◌-◌, ◌≤◌}
-use mathlib.Core.Path.{◌≡◌, sym}
-use mathlib.Core.Bool.{true, true≢false}
-use native.Mathlib.Omega.{arith}
+use mathlib.Core.Path.{◌≡◌}
+use mathlib.Core.Bool.{true}
 use Rattle.base.specs.Below.{all_below}
-use Rattle.base.proofs.BelowLaws.{all_none, all_more, all-stops, all-ends}
-use Rattle.model.specs.Bytes.{byte}
 use Rattle.scheme.specs.Words.{empty_at}
-use Rattle.frame.proofs.PlaceLaws.{taken_at}
-use Rattle.scheme.proofs.WordLaws.{is-empty, not_empty}
 use Rattle.scheme.proofs.nodes.empty.Given as goal
 
 abbrev pub invariant-loop-p : goal.invariant-loop-p

@@ -1,16 +1,6 @@
--- The loop's invariant: the first s nodes are in the form and are held, and the cursor is
--- past them.
+-- The loop's invariant: the first s nodes are in the form and are held, and the cursor is past them.
 use Prim.Native.Nat.{◌-◌, ◌≤◌}
-use mathlib.Core.Path.{◌≡◌, sym, ap, ◌∙◌}
-use mathlib.Core.Bool.{true≢false}
-use native.Mathlib.Omega.{arith}
-use borrow.Author.Rules.{rules}
-use borrow.Author.Tests.{not-true, not-false}
-use Rattle.base.proofs.BelowLaws.{all-stops, all-ends}
-use Rattle.model.specs.Bytes.{byte, nodes_of}
 use Rattle.scheme.specs.Nodes.{Passed}
-use Rattle.frame.proofs.FrameLaws.{count-inside}
-use Rattle.scheme.proofs.NodeLaws.{passed_none, passed-all}
 use Rattle.scheme.proofs.nodes.read_nodes.Given as goal
 
 abbrev pub invariant-loop-s : goal.invariant-loop-s

@@ -1,5 +1,4 @@
 -- `frame::cursor::Cursor::byte` meets its contract.
-use borrow.Author.Rules.{rules}
 use Rattle.frame.proofs.PlaceLaws.{step-byte, step_end}
 use Rattle.frame.proofs.cursor.Cursor.byte.Goals as goal
 
