@@ -18,6 +18,8 @@ module _ (K : Kernel) (call : AlikeCall K) where
   alike_from : (n N : ℕ) (t t' : List ℕ) → AlikeTables n N t t' → (known : Bool) → (known ≡ true → BothHold n N t t') → (s s' : List Event)
       → Run K n N t s → Run K n N t' s' → Forall₂ (λ e e'. SameCall e.call e'.call) s s' → AlikeFrom n N known s s'
   alike_from n N t t' a known k s s' end end Forall₂.nil = alike_end
+  alike_from n N t t' a known k s s' end (next p q) lists = elim lists [ ]
+  alike_from n N t t' a known k s s' (next p q) end lists = elim lists [ ]
   alike_from n N t t' a known k s s' (next {e = e} {s = r} p q) (next {e = e'} {s = r'} p' q') (Forall₂.cons same rest) =
       let now : AlikeEvents n N (known_of known e) e e' = call n N t t' a known k e e' same p p' in
       alike_next now (alike_from n N _ _ now.tables (known_of known e) now.well r r' q q' rest)

@@ -2,13 +2,13 @@
 use Prim.Native.Nat.{ℕ, zero, suc, ◌+◌, ◌*◌, ◌≤◌, ◌<◌}
 use mathlib.Core.Path.{◌≡◌, refl, sym, ap, ◌∙◌}
 use mathlib.Core.Logic.{◌⊎◌, inl, inr, ⊎_elim}
-use mathlib.Core.Bool.{Bool, true, false, not, true≢false}
+use mathlib.Core.Bool.{Bool, true, false, true≢false}
 use mathlib.Core.List.{List}
 use native.Mathlib.Numerals.{add-one}
 use native.Mathlib.Omega.{arith}
 use lib.ListN.{length}
 use lib.Dec.{eqb}
-use borrow.Author.Tests.{eqb-true, eq-eqb, ne_eqb, ltb-true, lt-ltb, le-ltb, not-true, not-false}
+use borrow.Author.Tests.{eqb-true, eq-eqb, ne_eqb, ltb-true, lt-ltb, le-ltb}
 use Rattle.base.specs.Test.{◌and◌}
 use Rattle.base.specs.Digits.{number_at}
 use Rattle.base.proofs.TestLaws.{and_left, and_right, and_of, and_true, and_assoc, true_or_false, same_test}
@@ -47,24 +47,24 @@ module _ (w n N : ℕ) (b : List ℕ) where
   unfolding frame_ok
   frame_short h = refuted (λ y. and_right _ _ y) (ne_eqb (length b) _ (λ e. omega (arith)))
 
-  pub frame_head : (r : Bool) → r ≡ head_ok w n N b → not r ≡ true → Broken ≡ framed w n N b
+  pub frame_head : (r : Bool) → r ≡ head_ok w n N b → r ≡ false → Broken ≡ framed w n N b
   unfolding frame_ok
-  frame_head r e h = refuted (λ y. and_left _ _ (and_left _ _ y)) (sym e ∙ not-true r h)
+  frame_head r e h = refuted (λ y. and_left _ _ (and_left _ _ y)) (sym e ∙ h)
 
   module _ (L : ℕ) (e : L ≡ darts_in w b) where
     pub frame_size : (length b ≡ size_in w n L → ⊥) → Broken ≡ framed w n N b
     unfolding frame_ok
     frame_size h = refuted (λ y. and_right _ _ y) (rw (← e) (ne_eqb (length b) _ h))
 
-    pub frame_counts : (r : Bool) → r ≡ counts_ok w b L → not r ≡ true → Broken ≡ framed w n N b
+    pub frame_counts : (r : Bool) → r ≡ counts_ok w b L → r ≡ false → Broken ≡ framed w n N b
     unfolding frame_ok
-    frame_counts r f h = refuted (λ y. and_right _ _ (and_left _ _ y)) (rw (← e) (sym f ∙ not-true r h))
+    frame_counts r f h = refuted (λ y. and_right _ _ (and_left _ _ y)) (rw (← e) (sym f ∙ h))
 
-    whole : (r s : Bool) → r ≡ head_ok w n N b → not r ≡ false → length b ≡ size_in w n L → s ≡ counts_ok w b L → not s ≡ false → frame_ok w n N b ≡ true
+    whole : (r s : Bool) → r ≡ head_ok w n N b → r ≡ true → length b ≡ size_in w n L → s ≡ counts_ok w b L → s ≡ true → frame_ok w n N b ≡ true
     unfolding frame_ok
-    whole r s f h z g k = and_of (and_of (sym f ∙ not-false r h) (rw (← e) (sym g ∙ not-false s k))) (rw (← e) (eq-eqb (length b) _ z))
+    whole r s f h z g k = and_of (and_of (sym f ∙ h) (rw (← e) (sym g ∙ k))) (rw (← e) (eq-eqb (length b) _ z))
 
-    pub frame_is : (r s : Bool) → r ≡ head_ok w n N b → not r ≡ false → length b ≡ size_in w n L → s ≡ counts_ok w b L → not s ≡ false
+    pub frame_is : (r s : Bool) → r ≡ head_ok w n N b → r ≡ true → length b ≡ size_in w n L → s ≡ counts_ok w b L → s ≡ true
         → Darts L ≡ framed w n N b
     unfolding framed
     frame_is r s f h z g k = rw (whole r s f h z g k, e) refl

@@ -1,11 +1,10 @@
 -- What a load answers and leaves, way by way.
 use Prim.Native.Nat.{ℕ, ◌≤◌}
 use mathlib.Core.Path.{◌≡◌, refl, sym, ◌∙◌}
-use mathlib.Core.Bool.{Bool, true, false, not, cond}
+use mathlib.Core.Bool.{Bool, true, false, cond}
 use mathlib.Core.List.{List}
 use native.Mathlib.Omega.{arith}
 use lib.ListN.{length}
-use borrow.Author.Tests.{not-true, not-false}
 use Rattle.base.specs.Test.{◌and◌}
 use Rattle.model.specs.Map.{table_of}
 use Rattle.model.specs.File.{width, tags_from, darts_in, form_in, map_in, file_form, file_map}
@@ -56,15 +55,15 @@ module _ (w n N : ℕ) (b : List ℕ) where
         unfolding ◌and◌
         tests = form-is w n N b ∙ rw (framed-darts.0, ← darts_are) (sym s)
 
-        pub load-formed : not r ≡ false → Formed w n N b
-        load-formed h = formed w n N b (sym (form-is w n N b) ∙ tests ∙ not-false r h)
+        pub load-formed : r ≡ true → Formed w n N b
+        load-formed h = formed w n N b (sym (form-is w n N b) ∙ tests ∙ h)
 
-        pub load_unordered : (t t' : List ℕ) → not r ≡ true → t' ≡ zeros t → Left w n N b t t' false
-        load_unordered t t' h = refused t t' (tests ∙ not-true r h)
+        pub load_unordered : (t t' : List ℕ) → r ≡ false → t' ≡ zeros t → Left w n N b t t' false
+        load_unordered t t' h = refused t t' (tests ∙ h)
 
-        pub load-done : (t t' : List ℕ) → not r ≡ false → t' ≡ table_of (map_in w n N b) → Left w n N b t t' true
+        pub load-done : (t t' : List ℕ) → r ≡ true → t' ≡ table_of (map_in w n N b) → Left w n N b t t' true
         unfolding Left
-        load-done t t' h z = let form = tests ∙ not-false r h in (sym form, rw form z)
+        load-done t t' h z = let form = tests ∙ h in (sym form, rw form z)
 
 -- the same of a map file
 pub load-file : (n N : ℕ) (b t t' : List ℕ) (r : Bool) → Left width n N b t t' r → (r ≡ file_form n N b) × (t' ≡ loaded n N t b)

@@ -8,7 +8,7 @@ use mathlib.Core.List.{List}
 use native.Mathlib.Decide.{ℕ_discrete}
 use native.Mathlib.Omega.{arith}
 use lib.ListN.{length}
-use borrow.Author.Tests.{eqb-true, eqb-false, eq-eqb, ne_eqb, ltb-true, ltb-false, lt-ltb, le-ltb, not-true, not-false}
+use borrow.Author.Tests.{eqb-true, eqb-false, eq-eqb, ne_eqb, ltb-true, ltb-false, lt-ltb, le-ltb, not-true}
 use Rattle.base.specs.First.{some_if, ◌or_else◌, there}
 use Rattle.base.specs.Test.{◌and◌}
 use Rattle.base.proofs.TestLaws.{and_same, same_test}
@@ -35,7 +35,8 @@ use Rattle.model.proofs.SchemeLaws.{shaped}
 use Rattle.model.proofs.CallLaws.{bytes-accepted, bytes-many, darts-alone}
 use Rattle.scheme.specs.Reading.{reading}
 use Rattle.scheme.specs.declared.Reading.{Reading}
-use Rattle.conditions.specs.Verdict.{Judging}
+use Rattle.conditions.specs.Verdict.{Judging, VerdictOf}
+use Rattle.conditions.specs.declared.Verdict.{Verdict}
 use Rattle.demands.specs.Promises.{SchemeChecked, MapEdited}
 use Rattle.demands.proofs.OneOutcome.{same_outcome}
 use Rattle.edit.specs.Apply.{AppliedAt}
@@ -49,11 +50,11 @@ module _ (b : List ℕ) (r : Reading) (e : r ≡ reading b) where
   unfolding reading
   read_ok = ap (λ (x : Reading). x.ok) e
 
-  pub form-bad : not r.ok ≡ true → in_form b ≡ false
-  form-bad h = sym read_ok ∙ not-true r.ok h
+  pub form-bad : r.ok ≡ false → in_form b ≡ false
+  form-bad h = sym read_ok ∙ h
 
-  pub form-good : not r.ok ≡ false → in_form b ≡ true
-  form-good h = sym read_ok ∙ not-false r.ok h
+  pub form-good : r.ok ≡ true → in_form b ≡ true
+  form-good h = sym read_ok ∙ h
 
   module _ (q : in_form b ≡ true) where
     pub read-scheme : r.scheme ≡ scheme_of b
@@ -102,6 +103,11 @@ form-refused taken b e = rw e
 pub form_judged : (taken : Bool) (b : List ℕ) (S : Scheme) → taken ≡ true → S ≡ scheme_of b → bytes_fault taken b ≡ scheme_fault S
 unfolding bytes_fault some_if ◌or_else◌
 form_judged taken b S e s = rw (e, s)
+
+-- where the call takes the bytes, what the judge found is their first fault
+pub fault_judged : (taken : Bool) (b : List ℕ) (r : Reading) → r ≡ reading b → in_form b ≡ true → taken ≡ true → (v : Verdict)
+    → VerdictOf r.scheme v → v.fault ≡ fault_of (bytes_fault taken b)
+fault_judged taken b r e q t v o = o.fault ∙ ap fault_of (sym (form_judged taken b r.scheme t (read-scheme b r e q)))
 
 -- what a search comes to in code tells what it finds
 pub found_none : (o : Option Refusal) → Clean ≡ fault_of o → o ≡ none

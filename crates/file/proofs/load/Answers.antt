@@ -22,13 +22,13 @@ returns-then-not-ascending c =
 
 pub fill-requires : goal.fill-requires
 fill-requires c =
-    let a = (c.requires.fact, c.requires.sized) in
     let f = c.frame-found.ensures in
-    let q = c.in-Darts.is in record { kind = record { width = inl refl; dimension = a.0 }; slots_le_max_slots = (
-          a.1.few,
-          c.clear.ensures
-              ∙ ap (λ (k : ℕ). replicate k 0) a.1.long,
-        ); formed = load-formed width _ _ _ _ f _ q _ c.ascending.ensures c.if-not-ascending.false; darts_value = darts_are width _ _ _ _ f _ q }
+    let q = c.in-Darts.is in record {
+      kind = record { width = inl refl; dimension = c.requires.fact };
+      slots_le_max_slots = (c.requires.sized.few, c.clear.ensures ∙ ap (λ (k : ℕ). replicate k 0) c.requires.sized.long);
+      formed = load-formed width _ _ _ _ f _ q _ c.ascending.ensures c.if-not-ascending.false;
+      darts_value = darts_are width _ _ _ _ f _ q;
+    }
 
 pub returns-else-not-ascending : goal.returns-else-not-ascending
 returns-else-not-ascending c =

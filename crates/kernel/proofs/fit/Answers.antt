@@ -1,6 +1,5 @@
 -- `kernel::fit` meets its contract.
 use mathlib.Core.Path.{◌∙◌}
-use borrow.Author.Rules.{rules}
 use Rattle.kernel.proofs.CallLaws.{fit_not, fit_is}
 use Rattle.kernel.proofs.fit.Goals as goal
 

@@ -1,7 +1,6 @@
 -- `file::form::rising` meets its contract.
 use Prim.Native.Nat.{◌+◌, ◌*◌, ◌-◌, ◌≤◌}
 use mathlib.Core.Path.{◌≡◌, refl, ◌∙◌}
-use mathlib.Core.Logic.{⊎_elim}
 use native.Mathlib.Nat.{mul-le-mul_left}
 use native.Mathlib.Omega.{arith}
 use Rattle.base.specs.Below.{all_below}
@@ -10,6 +9,7 @@ use Rattle.file.specs.Form.{rises}
 use Rattle.file.proofs.FormLaws.{here, rise_stops, rise_more}
 use Rattle.numbers.proofs.PlaceLaws.{wide-few}
 use Rattle.file.proofs.form.rising.Goals as goal
+use Rattle.file.proofs.form.rising.Goals.{then-high-low, else-high-low}
 
 pub overflow_mul-from : goal.overflow_mul-from
 overflow_mul-from c = omega (arith, wide-few c.requires.0)
@@ -38,10 +38,10 @@ loop-k-preserved c =
     let high = here _ _ _ _ _ at c.number-high.ensures.value in (
       omega arith,
       at,
-      ⊎_elim
-          (λ y. y.1 ∙ rise_stops _ _ _ _ _ low high (omega (arith, y.0.taken)))
-          (λ y. y.1 ∙ rise_more _ _ _ _ _ low high _ inv.2 (omega (arith, y.0.left)))
-          c.if-high-low.branch,
+      elim c.if-high-low.branch [
+          then-high-low y ↦ y.good-is ∙ rise_stops _ _ _ _ _ low high y.if-high-low.true
+        | else-high-low y ↦ y.good-is ∙ rise_more _ _ _ _ _ low high _ inv.2 y.if-high-low.false
+      ],
     )
 
 pub returns : goal.returns

@@ -1,14 +1,8 @@
 -- The loop's invariant: `good` says whether the first k slots are below the next.
 use Prim.Native.Nat.{◌+◌, ◌*◌, ◌-◌, ◌≤◌}
-use mathlib.Core.Path.{◌≡◌, refl, ◌∙◌}
-use mathlib.Core.Logic.{⊎_elim}
-use native.Mathlib.Nat.{mul-le-mul_left}
-use native.Mathlib.Omega.{arith}
-use Rattle.base.specs.Below.{all_below}
+use mathlib.Core.Path.{◌≡◌}
 use Rattle.model.specs.File.{slots_from}
 use Rattle.file.specs.Form.{rises}
-use Rattle.file.proofs.FormLaws.{here, rise_stops, rise_more}
-use Rattle.numbers.proofs.PlaceLaws.{wide-few}
 use Rattle.file.proofs.form.rising.Given as goal
 
 abbrev pub invariant-loop-k : goal.invariant-loop-k

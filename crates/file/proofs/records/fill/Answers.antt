@@ -1,9 +1,9 @@
 -- `file::records::fill` meets its contract.
-use Prim.Native.Nat.{◌-◌, ◌≤◌}
+use Prim.Native.Nat.{◌≤◌}
 use mathlib.Core.Path.{◌≡◌, sym, ap, ◌∙◌}
 use native.Mathlib.Omega.{arith}
 use lib.ListN.{length, length-replicate}
-use Rattle.file.proofs.FillLaws.{Filled, filled_none, filled_more, filled-all}
+use Rattle.file.proofs.FillLaws.{filled_none, filled_more, filled-all}
 use Rattle.file.proofs.records.fill.Goals as goal
 
 pub loop-k-init : goal.loop-k-init
@@ -11,21 +11,21 @@ loop-k-init c = let a = c.requires.slots_le_max_slots in (omega arith, filled_no
 
 pub enter-requires : goal.enter-requires
 enter-requires c =
-    let a = (c.requires.kind, (c.requires.slots_le_max_slots, (c.requires.formed, c.requires.darts_value))) in record { kind = a.0; sized = c.loop-k.invariant.1.sized; formed = a.1.1.0; darts_value = (a.1.1.1, c.loop-k-test.true) }
+    record {
+      kind = c.requires.kind;
+      sized = c.loop-k.invariant.1.sized;
+      formed = c.requires.formed;
+      darts_value = (c.requires.darts_value, c.loop-k-test.true);
+    }
 
 pub loop-k-preserved : goal.loop-k-preserved
 loop-k-preserved c =
-    let inv = c.loop-k.invariant in
-    let a = (c.requires.kind, (c.requires.slots_le_max_slots, (c.requires.formed, c.requires.darts_value))) in
-    (omega arith, filled_more _ _ _ _ _ _ _ a.1.1.0 (rw (← a.1.1.1) c.loop-k-test.true) inv.1 c.enter.ensures)
+    (omega arith, filled_more _ _ _ _ _ _ _ c.requires.formed (rw (← c.requires.darts_value) c.loop-k-test.true) c.loop-k.invariant.1 c.enter.ensures)
 
 pub shape_of-table : goal.shape_of-table
-shape_of-table c =
-    let a = (c.requires.kind, (c.requires.slots_le_max_slots, (c.requires.formed, c.requires.darts_value))) in
-    c.loop-k.invariant.1.sized.long ∙ sym (ap length a.1.0.1 ∙ length-replicate _ 0)
+shape_of-table c = c.loop-k.invariant.1.sized.long ∙ sym (ap length c.requires.slots_le_max_slots.1 ∙ length-replicate _ 0)
 
 pub returns : goal.returns
 returns c =
-    let a = (c.requires.kind, (c.requires.slots_le_max_slots, (c.requires.formed, c.requires.darts_value))) in
     let end : c.loop-k.k ≡ c.args.darts = omega arith in
-    filled-all _ _ _ _ _ _ (end ∙ a.1.1.1) c.loop-k.invariant.1
+    filled-all _ _ _ _ _ _ (end ∙ c.requires.darts_value) c.loop-k.invariant.1

@@ -1,9 +1,6 @@
 -- The loop's invariant: the first k darts of the file are entered.
 use Prim.Native.Nat.{◌-◌, ◌≤◌}
-use mathlib.Core.Path.{◌≡◌, sym, ap, ◌∙◌}
-use native.Mathlib.Omega.{arith}
-use lib.ListN.{length, length-replicate}
-use Rattle.file.proofs.FillLaws.{Filled, filled_none, filled_more, filled-all}
+use Rattle.file.proofs.FillLaws.{Filled}
 use Rattle.file.proofs.records.fill.Given as goal
 
 abbrev pub invariant-loop-k : goal.invariant-loop-k

@@ -1,109 +1,58 @@
 -- `file::records::read_links` meets its contract.
-use Prim.Native.Nat.{◌+◌, ◌*◌, ◌≤◌}
+use Prim.Native.Nat.{ℕ, ◌+◌, ◌*◌, ◌≤◌}
 use mathlib.Core.Path.{◌≡◌}
+use mathlib.Core.List.{List}
 use native.Mathlib.Nat.{mul-le-mul_left}
 use native.Mathlib.Omega.{arith}
 use lib.ListN.{length}
+use Rattle.numbers.specs.Places.{NumberRead}
+use Rattle.numbers.specs.declared.Number.{Number}
 use Rattle.table.proofs.SlotLaws.{two_le, not_two}
 use Rattle.file.specs.Records.{link_word}
 use Rattle.file.proofs.RecordLaws.{link_here, link-flat}
 use Rattle.file.proofs.records.read_links.Goals as goal
 
-pub number-first-requires : goal.number-first-requires
-number-first-requires c =
-    let fits : c.args.from.at + c.args.w * 3 ≤ length c.args.b.now = let three : 3 ≤ c.args.n + 1 = omega (arith, two_le c.requires.kind.dimension) in
-        omega (arith, c.requires.n_in_bounds, mul-le-mul_left c.args.w three) in
-    let three : let a = c.args in
-        let link = link_word a.w a.n a.b.now a.from.at a.x in
-        (c.number-first.result.value ≡ link 0) × (c.number-second.result.value ≡ link 1)
-        × (c.number-third.result.value ≡ link 2) × (c.number-third.result.next.at ≡ a.from.at + a.w * 3) = let n = two_le c.requires.kind.dimension in
-        let t = c.number-first.ensures in
-        let u = c.number-second.ensures in (
-          link_here _ _ _ _ _ 0 _ _ (omega arith) (omega arith) t.value,
-          link_here _ _ _ _ _ 1 _ _ (omega (arith, n)) (omega (arith, t.next)) u.value,
-          link_here _ _ _ _ _ 2 _ _ (omega (arith, n)) (omega (arith, t.next, u.next)) c.number-third.ensures.value,
-          omega (arith, t.next, u.next, c.number-third.ensures.next),
-        ) in
-    record { width = c.requires.kind.width; w_in_bounds = omega (arith, fits) }
+-- three links stand within the bytes, in both dimensions
+fits : (w n at size : ℕ) → 2 ≤ n → at + w * (n + 1) ≤ size → at + w * 3 ≤ size
+fits w n at size h l = let three : 3 ≤ n + 1 = omega arith in omega (arith, mul-le-mul_left w three)
 
-pub number-second-requires : goal.number-second-requires
-number-second-requires c =
-    let fits : c.args.from.at + c.args.w * 3 ≤ length c.args.b.now = let three : 3 ≤ c.args.n + 1 = omega (arith, two_le c.requires.kind.dimension) in
-        omega (arith, c.requires.n_in_bounds, mul-le-mul_left c.args.w three) in
-    let three : let a = c.args in
-        let link = link_word a.w a.n a.b.now a.from.at a.x in
-        (c.number-first.result.value ≡ link 0) × (c.number-second.result.value ≡ link 1)
-        × (c.number-third.result.value ≡ link 2) × (c.number-third.result.next.at ≡ a.from.at + a.w * 3) = let n = two_le c.requires.kind.dimension in
-        let t = c.number-first.ensures in
-        let u = c.number-second.ensures in (
-          link_here _ _ _ _ _ 0 _ _ (omega arith) (omega arith) t.value,
-          link_here _ _ _ _ _ 1 _ _ (omega (arith, n)) (omega (arith, t.next)) u.value,
-          link_here _ _ _ _ _ 2 _ _ (omega (arith, n)) (omega (arith, t.next, u.next)) c.number-third.ensures.value,
-          omega (arith, t.next, u.next, c.number-third.ensures.next),
-        ) in
-    record { width = c.requires.kind.width; w_in_bounds = omega (arith, fits, c.number-first.ensures.next) }
+-- the links that both dimensions read, and the place after them
+three : (w n : ℕ) (b : List ℕ) (at x : ℕ) (r s t : Number) → 2 ≤ n → NumberRead w b at r → NumberRead w b r.next.at s
+    → NumberRead w b s.next.at t
+    → (r.value ≡ link_word w n b at x 0) × (s.value ≡ link_word w n b at x 1) × (t.value ≡ link_word w n b at x 2)
+    × (t.next.at ≡ at + w * 3)
+three w n b at x r s t h e f g = (
+  link_here _ _ _ _ _ 0 _ _ (omega arith) (omega arith) e.value,
+  link_here _ _ _ _ _ 1 _ _ (omega arith) (omega arith) f.value,
+  link_here _ _ _ _ _ 2 _ _ (omega arith) (omega arith) g.value,
+  omega arith,
+)
 
-pub number-third-requires : goal.number-third-requires
-number-third-requires c =
-    let fits : c.args.from.at + c.args.w * 3 ≤ length c.args.b.now = let three : 3 ≤ c.args.n + 1 = omega (arith, two_le c.requires.kind.dimension) in
-        omega (arith, c.requires.n_in_bounds, mul-le-mul_left c.args.w three) in
-    let three : let a = c.args in
-        let link = link_word a.w a.n a.b.now a.from.at a.x in
-        (c.number-first.result.value ≡ link 0) × (c.number-second.result.value ≡ link 1)
-        × (c.number-third.result.value ≡ link 2) × (c.number-third.result.next.at ≡ a.from.at + a.w * 3) = let n = two_le c.requires.kind.dimension in
-        let t = c.number-first.ensures in
-        let u = c.number-second.ensures in (
-          link_here _ _ _ _ _ 0 _ _ (omega arith) (omega arith) t.value,
-          link_here _ _ _ _ _ 1 _ _ (omega (arith, n)) (omega (arith, t.next)) u.value,
-          link_here _ _ _ _ _ 2 _ _ (omega (arith, n)) (omega (arith, t.next, u.next)) c.number-third.ensures.value,
-          omega (arith, t.next, u.next, c.number-third.ensures.next),
-        ) in
-    record { width = c.requires.kind.width; w_in_bounds = omega (arith, fits, c.number-first.ensures.next, c.number-second.ensures.next) }
+pub number-first-requires-clause-w_in_bounds : goal.number-first-requires-clause-w_in_bounds
+number-first-requires-clause-w_in_bounds c =
+    omega (arith, fits _ _ _ _ (two_le c.requires.kind.dimension) c.requires.n_in_bounds)
+
+pub number-second-requires-clause-w_in_bounds : goal.number-second-requires-clause-w_in_bounds
+number-second-requires-clause-w_in_bounds c =
+    omega (arith, fits _ _ _ _ (two_le c.requires.kind.dimension) c.requires.n_in_bounds)
+
+pub number-third-requires-clause-w_in_bounds : goal.number-third-requires-clause-w_in_bounds
+number-third-requires-clause-w_in_bounds c =
+    omega (arith, fits _ _ _ _ (two_le c.requires.kind.dimension) c.requires.n_in_bounds)
 
 pub returns-then-n-eq2 : goal.returns-then-n-eq2
 returns-then-n-eq2 c =
-    let three : let a = c.args in
-        let link = link_word a.w a.n a.b.now a.from.at a.x in
-        (c.number-first.result.value ≡ link 0) × (c.number-second.result.value ≡ link 1)
-        × (c.number-third.result.value ≡ link 2) × (c.number-third.result.next.at ≡ a.from.at + a.w * 3) = let n = two_le c.requires.kind.dimension in
-        let t = c.number-first.ensures in
-        let u = c.number-second.ensures in (
-          link_here _ _ _ _ _ 0 _ _ (omega arith) (omega arith) t.value,
-          link_here _ _ _ _ _ 1 _ _ (omega (arith, n)) (omega (arith, t.next)) u.value,
-          link_here _ _ _ _ _ 2 _ _ (omega (arith, n)) (omega (arith, t.next, u.next)) c.number-third.ensures.value,
-          omega (arith, t.next, u.next, c.number-third.ensures.next),
-        ) in
-    let t = three in record { a0 = t.0; a1 = t.1; a2 = t.2; a3 = link-flat _ _ _ _ _ c.if-n-eq2.true }
+    let t = three _ _ _ _ c.args.x _ _ _ (two_le c.requires.kind.dimension) c.number-first.ensures c.number-second.ensures c.number-third.ensures in
+    record { a0 = t.0; a1 = t.1; a2 = t.2; a3 = link-flat _ _ _ _ _ c.if-n-eq2.true }
 
-pub number-fourth-requires : goal.number-fourth-requires
-number-fourth-requires c =
-    let three : let a = c.args in
-        let link = link_word a.w a.n a.b.now a.from.at a.x in
-        (c.number-first.result.value ≡ link 0) × (c.number-second.result.value ≡ link 1)
-        × (c.number-third.result.value ≡ link 2) × (c.number-third.result.next.at ≡ a.from.at + a.w * 3) = let n = two_le c.requires.kind.dimension in
-        let t = c.number-first.ensures in
-        let u = c.number-second.ensures in (
-          link_here _ _ _ _ _ 0 _ _ (omega arith) (omega arith) t.value,
-          link_here _ _ _ _ _ 1 _ _ (omega (arith, n)) (omega (arith, t.next)) u.value,
-          link_here _ _ _ _ _ 2 _ _ (omega (arith, n)) (omega (arith, t.next, u.next)) c.number-third.ensures.value,
-          omega (arith, t.next, u.next, c.number-third.ensures.next),
-        ) in
+pub number-fourth-requires-clause-w_in_bounds : goal.number-fourth-requires-clause-w_in_bounds
+number-fourth-requires-clause-w_in_bounds c =
     let e = not_two c.requires.kind.dimension c.if-n-eq2.false in
-        let four : 4 ≤ c.args.n + 1 = omega (arith, e) in record { width = c.requires.kind.width; w_in_bounds = omega (arith, c.requires.n_in_bounds, three.3, mul-le-mul_left c.args.w four) }
+    let four : 4 ≤ c.args.n + 1 = omega (arith, e) in
+    omega (arith, mul-le-mul_left c.args.w four)
 
 pub returns : goal.returns
 returns c =
-    let three : let a = c.args in
-        let link = link_word a.w a.n a.b.now a.from.at a.x in
-        (c.number-first.result.value ≡ link 0) × (c.number-second.result.value ≡ link 1)
-        × (c.number-third.result.value ≡ link 2) × (c.number-third.result.next.at ≡ a.from.at + a.w * 3) = let n = two_le c.requires.kind.dimension in
-        let t = c.number-first.ensures in
-        let u = c.number-second.ensures in (
-          link_here _ _ _ _ _ 0 _ _ (omega arith) (omega arith) t.value,
-          link_here _ _ _ _ _ 1 _ _ (omega (arith, n)) (omega (arith, t.next)) u.value,
-          link_here _ _ _ _ _ 2 _ _ (omega (arith, n)) (omega (arith, t.next, u.next)) c.number-third.ensures.value,
-          omega (arith, t.next, u.next, c.number-third.ensures.next),
-        ) in
-    let t = three in
-        let n = not_two c.requires.kind.dimension c.if-n-eq2.false in
-        record { a0 = t.0; a1 = t.1; a2 = t.2; a3 = link_here _ _ _ _ _ 3 _ _ (omega (arith, n)) (omega (arith, t.3)) c.number-fourth.ensures.value }
+    let t = three _ _ _ _ c.args.x _ _ _ (two_le c.requires.kind.dimension) c.number-first.ensures c.number-second.ensures c.number-third.ensures in
+    let n = not_two c.requires.kind.dimension c.if-n-eq2.false in
+    record { a0 = t.0; a1 = t.1; a2 = t.2; a3 = link_here _ _ _ _ _ 3 _ _ (omega (arith, n)) (omega (arith, t.3)) c.number-fourth.ensures.value }

@@ -1,7 +1,6 @@
 -- `file::sections::section` meets its contract.
 use Prim.Native.Nat.{◌-◌, ◌≤◌}
 use mathlib.Core.Path.{◌∙◌}
-use mathlib.Core.Logic.{⊎_elim}
 use native.Mathlib.Omega.{arith}
 use borrow.Author.Rules.{rules}
 use Rattle.model.specs.Map.{view}
@@ -10,6 +9,7 @@ use Rattle.file.specs.Sections.{darts_bytes}
 use Rattle.numbers.proofs.PlaceLaws.{put-length, put-room}
 use Rattle.file.proofs.SectionLaws.{darts-none, darts-dead, darts-live, darts-room, darts-all, few-live}
 use Rattle.file.proofs.sections.section.Goals as goal
+use Rattle.file.proofs.sections.section.Goals.{then-state-eq1, else-state-eq1}
 
 pub overflow_cast-live : goal.overflow_cast-live
 overflow_cast-live c = omega (arith, few-live c.args.n (view c.args.slots c.args.table.now) _ c.requires.live_value)
@@ -31,10 +31,16 @@ dart-at-requires c =
 pub loop-x-preserved : goal.loop-x-preserved
 loop-x-preserved c =
     let inv = c.loop-x.invariant in
-    ⊎_elim
-    (λ y. (omega arith, rw (y.5, y.6) (darts-live _ _ _ _ _ _ _ _ _ inv.1 _ c.state.ensures y.0.taken _ _ y.2.ensures)))
-    (λ y. (omega arith, rw (y.1, y.2) (darts-dead _ _ _ _ _ _ _ _ _ inv.1 _ c.state.ensures y.0.left)))
-    c.if-state-eq1.branch
+    elim c.if-state-eq1.branch [
+        then-state-eq1 y ↦ (
+          omega arith,
+          rw (y.out-is, y.at-is) (darts-live _ _ _ _ _ _ _ _ _ inv.1 _ c.state.ensures y.if-state-eq1.true _ _ y.dart-at.ensures),
+        )
+      | else-state-eq1 y ↦ (
+          omega arith,
+          rw (y.out-is, y.at-is) (darts-dead _ _ _ _ _ _ _ _ _ inv.1 _ c.state.ensures y.if-state-eq1.false),
+        )
+    ]
 
 pub shape_of-out : goal.shape_of-out
 shape_of-out c = put-length _ _ _ _ _ c.loop-x.invariant.1 ∙ put-length _ _ _ _ _ c.put-at.ensures

@@ -1,14 +1,8 @@
 -- The loop's invariant: what the section has of the live darts below x is put.
 use Prim.Native.Nat.{◌-◌, ◌≤◌}
-use mathlib.Core.Path.{◌∙◌}
-use mathlib.Core.Logic.{⊎_elim}
-use native.Mathlib.Omega.{arith}
-use borrow.Author.Rules.{rules}
 use Rattle.model.specs.Map.{view}
 use Rattle.numbers.specs.Places.{Put}
 use Rattle.file.specs.Sections.{darts_bytes}
-use Rattle.numbers.proofs.PlaceLaws.{put-length, put-room}
-use Rattle.file.proofs.SectionLaws.{darts-none, darts-dead, darts-live, darts-room, darts-all, few-live}
 use Rattle.file.proofs.sections.section.Given as goal
 
 abbrev pub invariant-loop-x : goal.invariant-loop-x

@@ -2,7 +2,6 @@
 use mathlib.Core.Path.{refl}
 use native.Mathlib.Omega.{arith}
 use lib.ListN.{length-set}
-use borrow.Author.Rules.{rules}
 use Rattle.kernel.proofs.CountCallLaws.{six-set}
 use Rattle.kernel.proofs.stages.six.Goals as goal
 

@@ -1,7 +1,5 @@
 -- `kernel::stages::taken` meets its contract.
 use mathlib.Core.Path.{refl}
-use borrow.Author.Rules.{rules}
-use borrow.Author.Tests.{not-true, not-false}
 use Rattle.base.specs.Test.{◌and◌}
 use Rattle.kernel.proofs.stages.taken.Goals as goal
 
