@@ -24,9 +24,6 @@ tested c =
 pub take-head-requires : goal.take-head-requires
 take-head-requires c = let p = c.requires.arcs_placed in omega (arith, p.from_is, p.inside)
 
-pub overflow_mul-count : goal.overflow_mul-count
-overflow_mul-count c = omega (arith, counted (goal.at.overflow_mul-count c).After-wide-count, c.requires.arcs_placed.few)
-
 pub copy-requires : goal.copy-requires
 copy-requires c =
     let p = c.requires.arcs_placed in
@@ -39,14 +36,6 @@ loop-a-init c =
     let v = c.requires.arcs_value in
     (omega arith, joined-none _ _ _ _ _ c.requires.arcs_placed c.take-head.ensures.next_is v.1 v.2)
 
-pub arc-arc-requires : goal.arc-arc-requires
-arc-arc-requires c =
-    let n = counted (goal.at.arc-arc-requires c).After-wide-count in
-    omega (arith, c.loop-a.invariant.1.place_is, c.requires.arcs_placed.inside)
-
-pub arc_fits-requires : goal.arc_fits-requires
-arc_fits-requires c = let h = c.requires.arcs_placed.laid.headed in omega arith
-
 pub returns-then-not-arc_fits : goal.returns-then-not-arc_fits
 returns-then-not-arc_fits c =
     let n = counted (goal.at.returns-then-not-arc_fits c).After-wide-count in
@@ -55,9 +44,6 @@ returns-then-not-arc_fits c =
       ok_value = joined-stops _ _ _ _ _ c.requires.arcs_placed c.loop-a.a (omega arith) off;
       arcs_read = λ e. absurd (true≢false (sym e));
     }
-
-pub overflow_add-low : goal.overflow_add-low
-overflow_add-low c = omega (arith, c.key-low.ensures.1)
 
 pub link-requires : goal.link-requires
 link-requires c =

@@ -2,10 +2,10 @@
 use mathlib.Core.Path.{◌≡◌, sym, ap, ◌∙◌}
 use mathlib.Core.Bool.{true≢false}
 use native.Mathlib.Omega.{arith}
-use borrow.Author.Tests.{not-true, not-false}
+use borrow.Author.Tests.{not-true}
 use Rattle.base.proofs.BelowLaws.{all-stops, all-ends}
 use Rattle.model.specs.Bytes.{byte, nodes_of}
-use Rattle.frame.proofs.FrameLaws.{no_mark, has-mark, count-inside}
+use Rattle.frame.proofs.FrameLaws.{no_mark, has-mark}
 use Rattle.scheme.proofs.DonorLaws.{none-formed, none_read, donated_none, donated_all}
 use Rattle.scheme.proofs.donors.read_donors.Goals as goal
 use Rattle.scheme.proofs.donors.read_donors.Goals.{After-wide-nodes}
@@ -18,9 +18,6 @@ pub returns-then-l-eq0 : goal.returns-then-l-eq0
 returns-then-l-eq0 c =
     let none = no_mark _ c.requires.donors_placed.laid.headed.donors_is c.if-l-eq0.true in
     record { value = none-formed _ none; donors_after = λ q. none_read _ none c.requires.at_value.1 }
-
-pub take-count-requires : goal.take-count-requires
-take-count-requires c = omega (arith, count-inside _ _ c.requires.donors_placed.laid, c.requires.at_value.0)
 
 pub loop-s-init : goal.loop-s-init
 loop-s-init c =
@@ -44,9 +41,6 @@ returns-then-not-donor c =
       value = all-stops _ c.loop-s.s _ (omega arith) (sym c.read_donor-donor.ensures.ok_value ∙ not-true _ c.if-not-donor.true);
       donors_after = λ q. absurd (true≢false (sym q));
     }
-
-pub loop-s-preserved : goal.loop-s-preserved
-loop-s-preserved c = (omega arith, c.read_donor-donor.ensures.donated_2 (not-false _ c.if-not-donor.false))
 
 pub returns : goal.returns
 returns c =

@@ -2,10 +2,9 @@
 use mathlib.Core.Path.{◌≡◌, sym, ap, ◌∙◌}
 use mathlib.Core.Bool.{true≢false}
 use native.Mathlib.Omega.{arith}
-use borrow.Author.Tests.{not-true, not-false}
+use borrow.Author.Tests.{not-true}
 use Rattle.base.proofs.BelowLaws.{all-stops, all-ends}
 use Rattle.model.specs.Bytes.{byte, nodes_of}
-use Rattle.frame.proofs.FrameLaws.{count-inside}
 use Rattle.scheme.proofs.NodeLaws.{passed_none, passed-all}
 use Rattle.scheme.proofs.nodes.read_nodes.Goals as goal
 use Rattle.scheme.proofs.nodes.read_nodes.Goals.{After-wide-nodes}
@@ -13,9 +12,6 @@ use Rattle.scheme.proofs.nodes.read_nodes.Goals.{After-wide-nodes}
 -- the count is that of the nodes
 counted : (c : After-wide-nodes) → c.wide-nodes.result ≡ nodes_of c.args.bytes.now
 counted c = c.wide-nodes.ensures.0 ∙ c.take-count.ensures.value_is ∙ ap (byte c.args.bytes.now) c.requires.at_value
-
-pub take-count-requires : goal.take-count-requires
-take-count-requires c = omega (arith, count-inside _ _ c.requires.laid_out, c.requires.at_value)
 
 pub loop-s-init : goal.loop-s-init
 loop-s-init c =
@@ -35,9 +31,6 @@ returns-then-not-node c =
       ok_value = all-stops _ c.loop-s.s _ (omega arith) (sym c.read_node-node.ensures.ok_value ∙ not-true _ c.if-not-node.true);
       noded = λ e. absurd (true≢false (sym e));
     }
-
-pub loop-s-preserved : goal.loop-s-preserved
-loop-s-preserved c = (omega arith, c.read_node-node.ensures.passed_2 (not-false _ c.if-not-node.false))
 
 pub returns : goal.returns
 returns c =

@@ -31,14 +31,8 @@ took : (c : After-take-dim) → let b = c.args.bytes.now in
     (c.take-dim.result.value ≡ byte b (2 + c.loop-p.p)) × (c.take-dim.result.next.at ≡ 2 + (c.loop-p.p + 1))
 took c = taken_at _ 2 _ c.take-dim.ensures c.loop-p.invariant.1
 
-pub take-count-requires : goal.take-count-requires
-take-count-requires c = omega (arith, count-inside _ _ c.requires.laid_out, c.requires.at_value.0)
-
 pub loop-p-init : goal.loop-p-init
 loop-p-init c = let p = c.requires.at_value in (omega arith, omega (arith, c.take-count.ensures.next_is, p.0), risen_none _ p.1)
-
-pub take-dim-requires : goal.take-dim-requires
-take-dim-requires c = let k = known (goal.at.take-dim-requires c).After-wide-places in omega arith
 
 pub returns-then-d-low : goal.returns-then-d-low
 returns-then-d-low c =
@@ -57,12 +51,6 @@ returns-then-n-d c =
       ok_value = risen_high _ c.loop-p.p t.0 (omega arith) (omega arith);
       orbit_after = λ e. absurd (true≢false (sym e));
     }
-
-pub bounds-orbit-p : goal.bounds-orbit-p
-bounds-orbit-p c = let k = known (goal.at.bounds-orbit-p c).After-wide-places in omega arith
-
-pub overflow_add-low : goal.overflow_add-low
-overflow_add-low c = let k = known (goal.at.overflow_add-low c).After-wide-places in omega arith
 
 pub loop-p-preserved : goal.loop-p-preserved
 loop-p-preserved c =
