@@ -1,6 +1,5 @@
 -- `conditions::fault` meets its contract.
 use Rattle.conditions.proofs.FaultLaws.{fault-hook, fault-arcs}
-use borrow.Author.Rules.{rules}
 use Rattle.conditions.proofs.fault.Goals as goal
 
 pub returns-in-Node : goal.returns-in-Node

@@ -1,6 +1,5 @@
 -- `conditions::hook_fault` meets its contract.
 use Rattle.conditions.proofs.HookLaws.{first-wrong, second-wrong, hooks-right, no_second}
-use borrow.Author.Rules.{rules}
 use Rattle.conditions.proofs.hook_fault.Goals as goal
 
 pub returns-then-not-hooked : goal.returns-then-not-hooked

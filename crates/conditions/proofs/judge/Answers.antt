@@ -1,6 +1,5 @@
 -- `conditions::judge` meets its contract: what is reached, and the fault from it and the tables.
 use Rattle.conditions.proofs.FaultLaws.{judge_tree, judge_asks, judge_is}
-use borrow.Author.Rules.{rules}
 use Rattle.conditions.proofs.judge.Goals as goal
 
 pub reach_of-reach-requires : goal.reach_of-reach-requires

@@ -1,9 +1,12 @@
 -- `incidence::unbalanced` meets its contract.
-use mathlib.Core.Path.{refl, ap, ◌∙◌}
+use Prim.Native.Nat.{◌≤◌, ◌-◌}
+use mathlib.Core.Path.{◌≡◌, refl, ap, ◌∙◌}
 use mathlib.Core.Bool.{not}
+use mathlib.Core.Option.{none}
 use native.Mathlib.Omega.{arith}
 use Rattle.base.specs.First.{least, first}
 use Rattle.base.proofs.FirstLaws.{least_more}
+use Rattle.incidence.specs.Incidence.{offends}
 use Rattle.incidence.proofs.FoundLaws.{found_none, found_at}
 use Rattle.incidence.proofs.IncidenceLaws.{offends-left, offends-right, offends_not}
 use Rattle.incidence.proofs.unbalanced.Goals as goal

@@ -1,12 +1,10 @@
 -- `conditions::hook::hooked` meets its contract.
-use Prim.Native.Nat.{◌≤◌, ◌-◌}
-use mathlib.Core.Path.{◌≡◌, refl}
-use mathlib.Core.Bool.{true}
+use mathlib.Core.Path.{refl}
 use native.Mathlib.Omega.{arith}
 use borrow.Author.Tests.{eq-eqb}
 use Rattle.base.specs.Below.{all_below}
 use Rattle.base.proofs.BelowLaws.{all_more}
-use Rattle.conditions.proofs.HookLaws.{Read, hook-added, hook-other, hook-whole}
+use Rattle.conditions.proofs.HookLaws.{hook-added, hook-other, hook-whole}
 use Rattle.conditions.proofs.hook.hooked.Goals as goal
 
 pub returns-then-kinds-h-eq3 : goal.returns-then-kinds-h-eq3

@@ -1,12 +1,9 @@
 -- The loop's invariant: the word is the orbit type at the positions passed.
 use Prim.Native.Nat.{◌≤◌, ◌-◌}
-use mathlib.Core.Path.{◌≡◌, refl}
+use mathlib.Core.Path.{◌≡◌}
 use mathlib.Core.Bool.{true}
-use native.Mathlib.Omega.{arith}
-use borrow.Author.Tests.{eq-eqb}
 use Rattle.base.specs.Below.{all_below}
-use Rattle.base.proofs.BelowLaws.{all_more}
-use Rattle.conditions.proofs.HookLaws.{Read, hook-added, hook-other, hook-whole}
+use Rattle.conditions.proofs.HookLaws.{Read}
 use Rattle.conditions.proofs.hook.hooked.Given as goal
 
 abbrev pub invariant-loop-p : goal.invariant-loop-p

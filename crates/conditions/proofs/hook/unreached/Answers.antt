@@ -1,8 +1,6 @@
 -- `conditions::hook::unreached` meets its contract.
-use Prim.Native.Nat.{◌≤◌, ◌-◌}
 use mathlib.Core.Path.{◌≡◌, refl, ap, ◌∙◌}
 use mathlib.Core.Bool.{not, false}
-use mathlib.Core.Option.{none}
 use native.Mathlib.Omega.{arith}
 use Rattle.base.specs.First.{least, first}
 use Rattle.base.proofs.FirstLaws.{least_more}
@@ -24,7 +22,7 @@ pub loop-s-preserved : goal.loop-s-preserved
 loop-s-preserved c =
     let l = c.loop-s.invariant in
     let not_out : left_out c.args.kinds.now c.args.reached.now c.loop-s.s ≡ false = elim c.if-kinds-s-ne3.branch [
-      then-kinds-s-ne3+else-not-reached-s w ↦ out-left _ _ _ w.if-kinds-s-ne3.true ∙ ap not w.if-not-reached-s.false
+      | then-kinds-s-ne3+else-not-reached-s w ↦ out-left _ _ _ w.if-kinds-s-ne3.true ∙ ap not w.if-not-reached-s.false
       | else-kinds-s-ne3 w ↦ out-added _ _ _ w.if-kinds-s-ne3.false
     ] in
     (omega arith, least_more _ _ l.1 not_out)

@@ -1,8 +1,6 @@
 -- `conditions::tree::grow` meets its contract.
-use Prim.Native.Nat.{◌≤◌, ◌-◌}
 use mathlib.Core.Path.{◌≡◌}
 use native.Mathlib.Omega.{arith}
-use Rattle.conditions.specs.Tree.{TreeGrown}
 use Rattle.conditions.proofs.TreeLaws.{grown-none, grown-more}
 use Rattle.conditions.proofs.tree.grow.Goals as goal
 

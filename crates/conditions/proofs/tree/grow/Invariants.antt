@@ -1,9 +1,6 @@
 -- The loop's invariant is the contract at the arcs passed.
 use Prim.Native.Nat.{◌≤◌, ◌-◌}
-use mathlib.Core.Path.{◌≡◌}
-use native.Mathlib.Omega.{arith}
 use Rattle.conditions.specs.Tree.{TreeGrown}
-use Rattle.conditions.proofs.TreeLaws.{grown-none, grown-more}
 use Rattle.conditions.proofs.tree.grow.Given as goal
 
 abbrev pub invariant-loop-a : goal.invariant-loop-a

@@ -1,8 +1,6 @@
 -- `conditions::tree::meet` meets its contract.
-use Prim.Native.Nat.{◌<◌}
 use native.Mathlib.Omega.{arith}
 use Rattle.conditions.proofs.TreeLaws.{room, reach_push}
-use borrow.Author.Rules.{rules}
 use Rattle.conditions.proofs.tree.meet.Goals as goal
 
 pub push-requires : goal.push-requires

@@ -1,8 +1,6 @@
 -- `conditions::tree::pass` meets its contract.
-use Prim.Native.Nat.{◌-◌}
 use mathlib.Core.Path.{◌≡◌}
 use native.Mathlib.Omega.{arith}
-use Rattle.conditions.specs.Tree.{TreeGrown}
 use Rattle.conditions.proofs.TreeLaws.{some-entry, few, grown-start}
 use Rattle.conditions.proofs.tree.pass.Goals as goal
 

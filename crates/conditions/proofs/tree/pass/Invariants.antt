@@ -1,9 +1,6 @@
 -- The loop's invariant: if the last pass added nothing, no arc leads out of the trees.
 use Prim.Native.Nat.{◌-◌}
-use mathlib.Core.Path.{◌≡◌}
-use native.Mathlib.Omega.{arith}
 use Rattle.conditions.specs.Tree.{TreeGrown}
-use Rattle.conditions.proofs.TreeLaws.{some-entry, few, grown-start}
 use Rattle.conditions.proofs.tree.pass.Given as goal
 
 abbrev pub invariant-loop-last : goal.invariant-loop-last

@@ -1,6 +1,5 @@
 -- `conditions::tree::push` meets its contract.
 use mathlib.Core.Path.{refl}
-use borrow.Author.Rules.{rules}
 use Rattle.conditions.proofs.tree.push.Goals as goal
 
 pub returns : goal.returns

@@ -1,7 +1,6 @@
 -- `conditions::tree::reach_of` meets its contract: if the walk leaves no left node out, no arc leads out of its trees.
 use mathlib.Core.Path.{sym, ◌∙◌}
 use Rattle.conditions.proofs.TreeLaws.{tree-start, tree-aimed, closed-walk}
-use borrow.Author.Rules.{rules}
 use Rattle.conditions.proofs.tree.reach_of.Goals as goal
 
 pub walk-size-requires : goal.walk-size-requires

@@ -1,7 +1,5 @@
 -- `conditions::tree::spread` meets its contract.
-use Prim.Native.Nat.{◌≤◌, ◌-◌}
 use native.Mathlib.Omega.{arith}
-use Rattle.conditions.specs.Tree.{Reaching}
 use Rattle.conditions.proofs.tree.spread.Goals as goal
 
 pub loop-i-init : goal.loop-i-init

@@ -1,6 +1,5 @@
 -- The loop's invariant is the contract at the dimensions passed.
 use Prim.Native.Nat.{◌≤◌, ◌-◌}
-use native.Mathlib.Omega.{arith}
 use Rattle.conditions.specs.Tree.{Reaching}
 use Rattle.conditions.proofs.tree.spread.Given as goal
 

@@ -1,9 +1,6 @@
 -- `conditions::tree::walk` meets its contract.
-use Prim.Native.Nat.{◌-◌}
 use native.Mathlib.Omega.{arith}
-use Rattle.conditions.specs.Tree.{ByTarget, TreeBy}
 use Rattle.conditions.proofs.TreeLaws.{few, reach-entry}
-use borrow.Author.Rules.{rules}
 use Rattle.conditions.proofs.tree.walk.Goals as goal
 
 pub loop-k-init : goal.loop-k-init

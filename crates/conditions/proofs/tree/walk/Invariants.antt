@@ -1,9 +1,6 @@
 -- The loop's invariant: the entries are trees over targets.
 use Prim.Native.Nat.{◌-◌}
-use native.Mathlib.Omega.{arith}
 use Rattle.conditions.specs.Tree.{ByTarget, TreeBy}
-use Rattle.conditions.proofs.TreeLaws.{few, reach-entry}
-use borrow.Author.Rules.{rules}
 use Rattle.conditions.proofs.tree.walk.Given as goal
 
 abbrev pub invariant-loop-k : goal.invariant-loop-k

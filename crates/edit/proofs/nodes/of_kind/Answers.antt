@@ -20,8 +20,8 @@ loop-s-preserved c =
     let l = c.loop-s.invariant.1 in (
       omega arith,
       elim c.if-kinds-s.branch [
-        then-kinds-s w ↦ rw (w.node-is, w.size-is) (listed_more _ _ _ _ _ l (omega arith) w.if-kinds-s.true)
-      | else-kinds-s w ↦ rw (w.node-is, w.size-is) (listed_skip _ _ _ _ _ l w.if-kinds-s.false)
+        | then-kinds-s w ↦ rw (w.node-is, w.size-is) (listed_more _ _ _ _ _ l (omega arith) w.if-kinds-s.true)
+        | else-kinds-s w ↦ rw (w.node-is, w.size-is) (listed_skip _ _ _ _ _ l w.if-kinds-s.false)
       ],
     )
 

@@ -1,5 +1,6 @@
 -- `incidence::cycles::apart` meets its contract.
 use Rattle.incidence.proofs.CycleTestLaws.{apart-up, apart_down}
+use borrow.Author.Rules.{rules}
 use Rattle.incidence.proofs.cycles.apart.Goals as goal
 
 pub returns-then-p-q : goal.returns-then-p-q

@@ -1,5 +1,6 @@
 -- `incidence::cycles::from_node` meets its contract.
 use Rattle.incidence.proofs.CycleTestLaws.{round_back, round_not, node-absent, node-place}
+use borrow.Author.Rules.{rules}
 use Rattle.incidence.proofs.cycles.from_node.Goals as goal
 
 pub returns-then-u-lt16 : goal.returns-then-u-lt16

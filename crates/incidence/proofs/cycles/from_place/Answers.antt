@@ -1,6 +1,7 @@
 -- `incidence::cycles::from_place` meets its contract.
 use native.Mathlib.Omega.{arith}
 use Rattle.incidence.proofs.CycleTestLaws.{place-node, place-absent, place-place}
+use borrow.Author.Rules.{rules}
 use Rattle.incidence.proofs.cycles.from_place.Goals as goal
 
 pub returns-then-b-lt16 : goal.returns-then-b-lt16

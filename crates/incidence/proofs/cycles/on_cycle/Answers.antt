@@ -1,6 +1,7 @@
 -- `incidence::cycles::on_cycle` meets its contract.
 use native.Mathlib.Omega.{arith}
 use Rattle.incidence.proofs.CycleTestLaws.{by-node, by-none, by_place, code-small}
+use borrow.Author.Rules.{rules}
 use Rattle.incidence.proofs.cycles.on_cycle.Goals as goal
 
 pub returns-then-a-lt16 : goal.returns-then-a-lt16

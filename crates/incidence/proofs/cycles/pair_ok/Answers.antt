@@ -1,5 +1,6 @@
 -- `incidence::cycles::pair_ok` meets its contract.
 use Rattle.incidence.proofs.CycleTestLaws.{pair-deleted, pair-added, pair_cycle, pair-other, pair_same}
+use borrow.Author.Rules.{rules}
 use Rattle.incidence.proofs.cycles.pair_ok.Goals as goal
 
 pub returns-then-kind-eq1 : goal.returns-then-kind-eq1

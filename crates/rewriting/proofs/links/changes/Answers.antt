@@ -8,9 +8,6 @@ use Rattle.rewriting.specs.Links.{changed}
 use Rattle.rewriting.proofs.LinkLaws.{changes_more}
 use Rattle.rewriting.proofs.links.changes.Goals as goal
 
-pub loop-k-init : goal.loop-k-init
-loop-k-init c = (omega arith, c.requires, λ j h. absurd (omega arith))
-
 pub loop-k-preserved : goal.loop-k-preserved
 loop-k-preserved c =
     let a = c.args in (

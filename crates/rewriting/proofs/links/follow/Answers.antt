@@ -2,17 +2,24 @@
 -- Each return is one of the kinds of arcs.
 use mathlib.Core.Path.{refl}
 use native.Mathlib.Omega.{arith}
-use borrow.Author.Rules.{rules}
 use Rattle.rewriting.proofs.LinkLaws.{joined-node, joined-position, joined-none}
 use Rattle.rewriting.proofs.links.follow.Goals as goal
 
 pub join-requires : goal.join-requires
-join-requires c =
-    let h = c.if-code-lt16.true in record { sized = c.requires.sized; holds_slots = c.requires.holds_slots; size_in_bounds = (c.requires.legible.node h, c.requires.i_bound); turnable = λ l. absurd (omega arith) }
+join-requires c = record {
+  sized = c.requires.sized;
+  holds_slots = c.requires.holds_slots;
+  size_in_bounds = (c.requires.legible.node c.if-code-lt16.true, c.requires.i_bound);
+  turnable = λ l. absurd (omega arith);
+}
 
 pub join-requires-then-code-lt255 : goal.join-requires-then-code-lt255
-join-requires-then-code-lt255 c =
-    record { sized = c.requires.sized; holds_slots = c.requires.holds_slots; size_in_bounds = (c.requires.holds_slots.inside, c.requires.i_bound); turnable = λ l. c.requires.legible.position l c.if-code-lt255.true }
+join-requires-then-code-lt255 c = record {
+  sized = c.requires.sized;
+  holds_slots = c.requires.holds_slots;
+  size_in_bounds = (c.requires.holds_slots.inside, c.requires.i_bound);
+  turnable = λ l. c.requires.legible.position l c.if-code-lt255.true;
+}
 
 pub returns-then-code-lt16 : goal.returns-then-code-lt16
 returns-then-code-lt16 c = joined-node _ _ _ _ _ _ _ _ _ c.if-code-lt16.true c.join.ensures

@@ -1,14 +1,11 @@
 -- `rewriting::links::join` meets its contract.
-use Prim.Native.Nat.{◌-◌, ◌<◌}
 use mathlib.Core.Path.{ap, ◌∙◌}
 use native.Mathlib.Omega.{arith}
-use borrow.Author.Rules.{rules}
-use Rattle.model.specs.Map.{Link, view}
-use Rattle.table.specs.Writes.{set_at, with_field}
-use Rattle.table.proofs.StageLaws.{Stage, stage_none, stage_more, stage_length, stage_done}
+use Rattle.model.specs.Map.{Link}
+use Rattle.table.proofs.StageLaws.{stage_none, stage_more, stage_done}
 use Rattle.table.proofs.WriteLaws.{put_view, links-steps}
 use Rattle.orbit.specs.Store.{dart_at}
-use Rattle.rewriting.specs.Links.{place_by, overwritten}
+use Rattle.rewriting.specs.Links.{overwritten}
 use Rattle.rewriting.proofs.LinkLaws.{put-at, slot_at, place-below}
 use Rattle.rewriting.proofs.links.join.Goals as goal
 
@@ -22,33 +19,26 @@ place-q-requires c =
     omega (arith, t.long, t.fits, t.position, c.loop-r-test.true)
 
 pub overflow_add-to : goal.overflow_add-to
-overflow_add-to c =
-    let below : c.place-q.result < c.args.size = rw c.place-q.ensures (place-below _ _ _ _ _ c.requires.turnable c.loop-r-test.true) in
-    omega (arith, below)
+overflow_add-to c = omega (arith, c.place-q.ensures, place-below _ _ _ _ _ c.requires.turnable c.loop-r-test.true)
 
 pub offset_bounds-store-to : goal.offset_bounds-store-to
-offset_bounds-store-to c =
-    let below : c.place-q.result < c.args.size = rw c.place-q.ensures (place-below _ _ _ _ _ c.requires.turnable c.loop-r-test.true) in
-    omega (arith, below)
+offset_bounds-store-to c = omega (arith, c.place-q.ensures, place-below _ _ _ _ _ c.requires.turnable c.loop-r-test.true)
 
 pub bounds-store-to : goal.bounds-store-to
-bounds-store-to c =
-    let below : c.place-q.result < c.args.size = rw c.place-q.ensures (place-below _ _ _ _ _ c.requires.turnable c.loop-r-test.true) in
-    omega (arith, below)
+bounds-store-to c = omega (arith, c.place-q.ensures, place-below _ _ _ _ _ c.requires.turnable c.loop-r-test.true)
 
-pub put_link-requires : goal.put_link-requires
-put_link-requires c =
-    let slot : c.word-x.result < c.args.slots = slot_at c.requires.holds_slots _ _ c.loop-r-test.true c.word-x.ensures in
-    record { sized = c.loop-r.invariant.sized; x_lt_slots = (slot, c.requires.size_in_bounds.1) }
+pub put_link-requires-clause-x_lt_slots : goal.put_link-requires-clause-x_lt_slots
+put_link-requires-clause-x_lt_slots c =
+    (slot_at c.requires.holds_slots _ _ c.loop-r-test.true c.word-x.ensures, c.requires.size_in_bounds.1)
 
 pub loop-r-preserved : goal.loop-r-preserved
 unfolding dart_at
 loop-r-preserved c =
-    let slot : c.word-x.result < c.args.slots = slot_at c.requires.holds_slots _ _ c.loop-r-test.true c.word-x.ensures in
     let a = c.args in
-        stage_more c.loop-r.invariant c.loop-r-test.true c.put_link.auto.table
-        (put-at _ _ _ _ _ _ _ (put_view c.loop-r.invariant.sized (Link a.i) c.requires.size_in_bounds.1 _ _ (slot) c.put_link.ensures)
-        c.word-x.ensures (ap (dart_at a.store.now a.to) c.place-q.ensures))
+    let slot = slot_at c.requires.holds_slots _ _ c.loop-r-test.true c.word-x.ensures in
+    stage_more c.loop-r.invariant c.loop-r-test.true c.put_link.auto.table
+    (put-at _ _ _ _ _ _ _ (put_view c.loop-r.invariant.sized (Link a.i) c.requires.size_in_bounds.1 _ _ slot c.put_link.ensures)
+    c.word-x.ensures (ap (dart_at a.store.now a.to) c.place-q.ensures))
 
 pub returns : goal.returns
 unfolding overwritten

@@ -15,7 +15,8 @@ use Rattle.rewriting.proofs.links.join.Given as goal
 abbrev pub invariant-loop-r : goal.invariant-loop-r
 invariant-loop-r l =
     Stage l.slots (view l.slots) l.initial.table
-    (λ k m. with_field m (Link l.i) (set_at (m.link l.i) (dart_at l.store l.from k) (dart_at l.store l.to (place_by l.slots l.store l.code k)))) l.size l.r l.table
+    (λ k m. with_field m (Link l.i)
+    (set_at (m.link l.i) (dart_at l.store l.from k) (dart_at l.store l.to (place_by l.slots l.store l.code k)))) l.size l.r l.table
 
 abbrev pub decreases-loop-r : goal.decreases-loop-r
 decreases-loop-r l = l.size - l.r

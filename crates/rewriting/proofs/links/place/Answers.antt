@@ -6,8 +6,5 @@ use Rattle.rewriting.proofs.links.place.Goals as goal
 pub returns-then-code-lt16 : goal.returns-then-code-lt16
 returns-then-code-lt16 c = place_same _ _ _ _ c.if-code-lt16.true
 
-pub word-requires : goal.word-requires
-word-requires c = c.requires c.if-code-lt16.false
-
 pub returns : goal.returns
 returns c = place-by _ _ _ _ _ c.if-code-lt16.false c.word.ensures

@@ -1,12 +1,7 @@
 -- `rewriting::links::relink` meets its contract.
-use Prim.Native.Nat.{◌*◌, ◌-◌, ◌/◌, ◌%◌}
 use native.Mathlib.Omega.{arith}
-use lib.ListN.{get_or}
-use borrow.Author.Rules.{rules}
-use Rattle.model.specs.Map.{Link, view}
-use Rattle.table.specs.Writes.{with_field}
-use Rattle.rewriting.specs.Links.{followed, relinked}
-use Rattle.table.proofs.StageLaws.{Stage, stage_none, stage_more, stage_length, stage_done}
+use Rattle.table.proofs.StageLaws.{stage_none, stage_more, stage_done}
+use Rattle.rewriting.specs.Links.{relinked}
 use Rattle.rewriting.proofs.LinkLaws.{followed-at}
 use Rattle.rewriting.proofs.links.relink.Goals as goal
 
@@ -14,8 +9,12 @@ pub loop-k-init : goal.loop-k-init
 loop-k-init c = stage_none c.requires.sized
 
 pub follow-requires : goal.follow-requires
-follow-requires c =
-    record { sized = c.loop-k.invariant.sized; holds_slots = c.requires.rows.at _ (omega arith); legible = rw c.wide.ensures.0 (c.requires.codes.at _ (omega arith)); i_bound = omega arith }
+follow-requires c = record {
+  sized = c.loop-k.invariant.sized;
+  holds_slots = c.requires.rows.at _ (omega arith);
+  legible = rw c.wide.ensures.0 (c.requires.codes.at _ (omega arith));
+  i_bound = omega arith;
+}
 
 pub loop-k-preserved : goal.loop-k-preserved
 loop-k-preserved c =

@@ -13,7 +13,8 @@ use Rattle.rewriting.proofs.links.relink.Given as goal
 abbrev pub invariant-loop-k : goal.invariant-loop-k
 invariant-loop-k l =
     Stage l.slots (view l.slots) l.initial.table
-    (λ j m. with_field m (Link (j % 4)) (followed l.slots l.store l.size l.rows (get_or l.rows (j / 4) 0) (get_or l.codes j 0) (m.link (j % 4)))) (4 * l.c) l.k l.table
+    (λ j m. with_field m (Link (j % 4))
+    (followed l.slots l.store l.size l.rows (get_or l.rows (j / 4) 0) (get_or l.codes j 0) (m.link (j % 4)))) (4 * l.c) l.k l.table
 
 abbrev pub decreases-loop-k : goal.decreases-loop-k
 decreases-loop-k l = 4 * l.c - l.k

@@ -1,6 +1,5 @@
 -- `rewriting::links::rewrite` meets its contract.
-use mathlib.Core.Path.{refl, ap, ◌∙◌}
-use borrow.Author.Rules.{rules}
+use mathlib.Core.Path.{ap, ◌∙◌}
 use Rattle.model.specs.Map.{Map, field_of}
 use Rattle.model.specs.Edit.{edited}
 use Rattle.table.proofs.WordLaws.{sized_same}
@@ -10,8 +9,11 @@ use Rattle.rewriting.proofs.LinkRewriteLaws.{rows-held, coding, rewritten}
 use Rattle.rewriting.proofs.links.rewrite.Goals as goal
 
 pub relink-requires : goal.relink-requires
-relink-requires c =
-    record { sized = c.requires.sized; rows = rows-held c.requires.before_rewriting c.changes.ensures; codes = coding c.requires.before_rewriting c.changes.ensures }
+relink-requires c = record {
+  sized = c.requires.sized;
+  rows = rows-held c.requires.before_rewriting c.changes.ensures;
+  codes = coding c.requires.before_rewriting c.changes.ensures;
+}
 
 pub returns : goal.returns
 unfolding edited

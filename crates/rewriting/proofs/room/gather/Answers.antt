@@ -1,19 +1,17 @@
 -- `rewriting::room::gather` meets its contract.
-use Prim.Native.Nat.{◌+◌, ◌*◌, ◌-◌, ◌≤◌, ◌<◌}
 use native.Mathlib.Omega.{arith}
-use lib.ListN.{get_or}
-use borrow.Author.Rules.{rules}
-use Rattle.model.specs.Map.{view, max_slots}
-use Rattle.rewriting.specs.Room.{Gathered}
-use Rattle.rewriting.proofs.RoomLaws.{gathered_none, gathered_more, gathered_all, giver-slots, giver-before, next_fits}
+use Rattle.rewriting.proofs.RoomLaws.{gathered_none, gathered_more, gathered_all, giver-slots, giver-before}
 use Rattle.rewriting.proofs.room.gather.Goals as goal
 
 pub loop-a-init : goal.loop-a-init
 loop-a-init c = (omega arith, gathered_none c.requires.donating _)
 
 pub note-requires : goal.note-requires
-note-requires c =
-    record { sized = c.requires.sized; holds_slots = giver-slots c.requires.donating _ c.loop-a-test.true c.loop-a.invariant.1; size_bound = giver-before c.requires.donating _ c.loop-a-test.true c.loop-a.invariant.1 }
+note-requires c = record {
+  sized = c.requires.sized;
+  holds_slots = giver-slots c.requires.donating _ c.loop-a-test.true c.loop-a.invariant.1;
+  size_bound = giver-before c.requires.donating _ c.loop-a-test.true c.loop-a.invariant.1;
+}
 
 pub loop-a-preserved : goal.loop-a-preserved
 loop-a-preserved c = (omega arith, gathered_more c.requires.donating _ c.loop-a-test.true c.loop-a.invariant.1 c.note.ensures)

@@ -1,14 +1,12 @@
 -- `rewriting::room::prepare` meets its contract.
-use borrow.Author.Rules.{rules}
 use Rattle.rewriting.proofs.RoomLaws.{donating_of, doomed, roomy}
 use Rattle.rewriting.proofs.room.prepare.Goals as goal
 
-pub gather-requires : goal.gather-requires
-gather-requires c = record { sized = c.requires.sized; donating = donating_of c.requires.before_room }
+pub gather-requires-clause-donating : goal.gather-requires-clause-donating
+gather-requires-clause-donating c = donating_of c.requires.before_room
 
-pub clear-requires : goal.clear-requires
-clear-requires c =
-    record { sized = c.requires.sized; deleted_rows = doomed c.requires.before_room c.gather.ensures }
+pub clear-requires-clause-deleted_rows : goal.clear-requires-clause-deleted_rows
+clear-requires-clause-deleted_rows c = doomed c.requires.before_room c.gather.ensures
 
 pub returns : goal.returns
 returns c = λ R. roomy R c.gather.ensures _ c.clear.ensures

@@ -3,24 +3,13 @@ use Prim.Native.Nat.{◌-◌, ◌≤◌, ◌<◌}
 use mathlib.Core.Path.{◌≡◌}
 use native.Mathlib.Omega.{arith}
 use Rattle.rewriting.specs.Slots.{digit_words, NoDigits}
-use Rattle.rewriting.proofs.SlotBlockLaws.{bits_none, bits_more, word-inside}
+use Rattle.rewriting.proofs.SlotBlockLaws.{bits_more, word-inside}
 use Rattle.rewriting.proofs.slots.clear_bits.Goals as goal
-
-pub block_count-end-requires : goal.block_count-end-requires
-block_count-end-requires c = c.requires.slots_le_max_slots
-
-pub loop-i-init : goal.loop-i-init
-loop-i-init c = (omega arith, bits_none _ _)
-
-pub keep-requires : goal.keep-requires
-keep-requires c =
-    let inside : c.loop-i.i < digit_words c.args.slots = omega (arith, c.loop-i-test.true, c.block_count-end.ensures) in
-    (omega (arith, word-inside _ _ c.requires.store_len _ (inside) _ c.loop-i.invariant.1), omega arith)
 
 pub loop-i-preserved : goal.loop-i-preserved
 loop-i-preserved c =
     let inside : c.loop-i.i < digit_words c.args.slots = omega (arith, c.loop-i-test.true, c.block_count-end.ensures) in
-    (omega arith, bits_more _ _ c.requires.store_len _ (inside) _ c.loop-i.invariant.1 _ _ (omega arith) c.keep.ensures)
+    (omega arith, bits_more _ _ c.requires.store_len _ inside _ c.loop-i.invariant.1 _ _ (omega arith) c.keep.ensures)
 
 pub returns : goal.returns
 returns c =

@@ -3,7 +3,7 @@ use Prim.Native.Nat.{◌-◌, ◌≤◌, ◌<◌}
 use mathlib.Core.Path.{◌≡◌}
 use native.Mathlib.Omega.{arith}
 use Rattle.rewriting.specs.Slots.{digit_words, NoDigits}
-use Rattle.rewriting.proofs.SlotBlockLaws.{bits_none, bits_more, word-inside}
+use Rattle.rewriting.proofs.SlotBlockLaws.{bits_more, word-inside}
 use Rattle.rewriting.proofs.slots.clear_bits.Given as goal
 
 abbrev pub invariant-loop-i : goal.invariant-loop-i

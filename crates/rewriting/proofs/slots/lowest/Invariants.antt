@@ -5,7 +5,7 @@ use mathlib.Core.Path.{refl}
 use native.Mathlib.Omega.{arith}
 use Rattle.model.specs.Map.{view, max_slots}
 use Rattle.table.specs.Words.{Sized}
-use Rattle.rewriting.proofs.SlotTurnLaws.{Scanned, scan_start, scan_inside, scan_more, scan_found}
+use Rattle.rewriting.proofs.SlotTurnLaws.{Scanned, scan_inside, scan_more, scan_found}
 use Rattle.rewriting.proofs.slots.lowest.Given as goal
 
 abbrev pub invariant-loop-slots : goal.invariant-loop-slots

@@ -4,11 +4,8 @@ use mathlib.Core.Path.{◌≡◌, ◌∙◌}
 use native.Mathlib.Omega.{arith}
 use borrow.Author.Rules.{rules}
 use Rattle.rewriting.specs.Slots.{RowsBegin}
-use Rattle.rewriting.proofs.SlotRowLaws.{rows_none, rows_more, row_fits}
+use Rattle.rewriting.proofs.SlotRowLaws.{rows_none, rows_more}
 use Rattle.rewriting.proofs.slots.row_starts.Goals as goal
-
-pub loop-a-init : goal.loop-a-init
-loop-a-init c = (omega arith, rows_none _ _ _ _)
 
 pub loop-a-preserved : goal.loop-a-preserved
 loop-a-preserved c =

@@ -4,7 +4,7 @@ use mathlib.Core.Path.{◌≡◌, ◌∙◌}
 use native.Mathlib.Omega.{arith}
 use borrow.Author.Rules.{rules}
 use Rattle.rewriting.specs.Slots.{RowsBegin}
-use Rattle.rewriting.proofs.SlotRowLaws.{rows_none, rows_more, row_fits}
+use Rattle.rewriting.proofs.SlotRowLaws.{rows_none, rows_more}
 use Rattle.rewriting.proofs.slots.row_starts.Given as goal
 
 abbrev pub invariant-loop-a : goal.invariant-loop-a
