@@ -321,7 +321,8 @@ module _ {M : Map} {s : List ℕ} {size : ℕ} {dims : List ℕ} {k head tail : 
             }
 
         -- y takes the next place, which is q
-        step-new : {s'' : List ℕ} → q ≡ end → Pushed N₂ s' (size + end) y s'' → Longer N₂ s' s'' (size + end) → Standing E₂ s'' size (4 * head + (p + 1)) (end + 1)
+        step-new : {s'' : List ℕ} → q ≡ end → Pushed N₂ s' (size + end) y s'' → Longer N₂ s' s'' (size + end)
+            → Standing E₂ s'' size (4 * head + (p + 1)) (end + 1)
         step-new {s''} last pushed more =
             let low = head_stands in
             let grows : Standing E₂ s'' size (4 * head + p) (end + 1) =
@@ -475,7 +476,8 @@ module _ {m : Map} {s : List ℕ} {size : ℕ} {dims : List ℕ} {k other roots 
     }
 
     -- both hooks have their rows
-    pub hung-both : {s'' : List ℕ} → (tail ≡ 0 → ⊥) → Standing E₄ s'' size (4 * size) size × Longer N₄ s' s'' size → Hung E₄ s'' size roots × Longer N₄ s s'' size
+    pub hung-both : {s'' : List ℕ} → (tail ≡ 0 → ⊥) → Standing E₄ s'' size (4 * size) size × Longer N₄ s' s'' size
+        → Hung E₄ s'' size roots × Longer N₄ s s'' size
     hung-both {s''} ne D =
         let both : roots ≡ 2 = R.roots_are ∙ (second-named R.at.scheme.second (λ z. two (R.roots_are ∙ z))).0 in
         let rows : roots * size ≡ size + size = ap (λ (z : ℕ). z * size) both ∙ omega arith in

@@ -7,18 +7,6 @@ use Rattle.count.proofs.CellKindLaws.{vertex_links, edge_links, face_links, vert
 use Rattle.count.proofs.CellKindLaws.{kind-ready, pieces_ready, counts_are}
 use Rattle.count.proofs.count.Goals as goal
 
-pub orbits-vertices-requires-clause-before_walking : goal.orbits-vertices-requires-clause-before_walking
-orbits-vertices-requires-clause-before_walking c = kind-ready _ _ c.requires.fact c.requires.well_formed vertex_links 0 vertices-listed c.wide-k.ensures
-
-pub orbits-edges-requires-clause-before_walking : goal.orbits-edges-requires-clause-before_walking
-orbits-edges-requires-clause-before_walking c = kind-ready _ _ c.requires.fact c.requires.well_formed edge_links 1 edges-listed c.wide-k.ensures
-
-pub orbits-faces-requires-clause-before_walking : goal.orbits-faces-requires-clause-before_walking
-orbits-faces-requires-clause-before_walking c = kind-ready _ _ c.requires.fact c.requires.well_formed face_links 2 faces-listed c.wide-k.ensures
-
-pub orbits-pieces-requires-clause-before_walking : goal.orbits-pieces-requires-clause-before_walking
-orbits-pieces-requires-clause-before_walking c = pieces_ready _ _ c.requires.fact c.requires.well_formed c.wide-k.ensures
-
 pub overflow_cast-result : goal.overflow_cast-result
 overflow_cast-result c =
     let a = c.args in

@@ -6,12 +6,6 @@ use borrow.Author.Rules.{rules}
 use Rattle.count.proofs.CellKindLaws.{all_links, volumes-listed, kind-ready, kind-cells, volumes-none, volumes-some}
 use Rattle.count.proofs.volumes.Goals as goal
 
-pub returns-then-n-eq2 : goal.returns-then-n-eq2
-returns-then-n-eq2 c = volumes-none _ _ c.if-n-eq2.true
-
-pub orbits-requires-clause-before_walking : goal.orbits-requires-clause-before_walking
-orbits-requires-clause-before_walking c = kind-ready _ _ c.requires.fact c.requires.well_formed all_links 3 volumes-listed c.wide.ensures
-
 pub returns : goal.returns
 returns c =
     let three : c.args.n ≡ 3 = ⊎_elim (λ e. absurd (omega (arith, c.if-n-eq2.false, e))) (λ e. e) c.requires.fact in

@@ -12,9 +12,6 @@ use Rattle.count.proofs.walks.Goals.{then-fresh, else-fresh}
 pub loop-x-init : goal.loop-x-init
 loop-x-init c = counting-none _ _ _ _ _ c.requires.store_len c.unmark.ensures
 
-pub fresh-requires-clause-store_len : goal.fresh-requires-clause-store_len
-fresh-requires-clause-store_len c = c.loop-x.invariant.taken.long
-
 pub walk-end-requires-clause-d_lt_slots : goal.walk-end-requires-clause-d_lt_slots
 walk-end-requires-clause-d_lt_slots c =
     let r = c.requires.before_walking in

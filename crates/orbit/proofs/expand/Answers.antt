@@ -9,16 +9,8 @@ use Rattle.orbit.specs.Walk.{Expanded}
 use Rattle.orbit.proofs.WalkLaws.{expanded_none, expanded_more}
 use Rattle.orbit.proofs.expand.Goals as goal
 
-pub loop-p-init : goal.loop-p-init
-loop-p-init c = (expanded_none _ _ _ _ _ c.requires.taken, omega arith)
-
 pub returns-then-p-k : goal.returns-then-p-k
 returns-then-p-k c = rw (← c.if-p-k.true) c.loop-p.invariant.0
-
-pub overflow_cast-i : goal.overflow_cast-i
-overflow_cast-i c =
-    let r = c.requires.before_walking in
-    omega (arith, r.dim c.loop-p.p (omega (arith, c.loop-p.invariant.1, c.if-p-k.false)), r.small)
 
 pub link-y-requires-clause-x_lt_slots : goal.link-y-requires-clause-x_lt_slots
 unfolding place
@@ -27,9 +19,6 @@ link-y-requires-clause-x_lt_slots c =
     let r = c.requires.before_walking in
     let position : c.loop-p.p < a.k = omega (arith, c.loop-p.invariant.1, c.if-p-k.false) in
     (omega (arith, c.word-x.ensures, c.requires.taken.slot a.head c.requires.head_lt_tail.0), omega (arith, r.dim c.loop-p.p position, r.small))
-
-pub follow-end-requires-clause-taken : goal.follow-end-requires-clause-taken
-follow-end-requires-clause-taken c = c.loop-p.invariant.0.grown.taken
 
 pub follow-end-requires-clause-y_lt_slots : goal.follow-end-requires-clause-y_lt_slots
 unfolding place

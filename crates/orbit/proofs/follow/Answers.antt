@@ -7,12 +7,6 @@ use Rattle.orbit.proofs.StoreLaws.{mark_le}
 use Rattle.orbit.proofs.WalkLaws.{followed-old, followed-new}
 use Rattle.orbit.proofs.follow.Goals as goal
 
-pub keep-requires : goal.keep-requires
-unfolding mark
-keep-requires c =
-    let a = c.args in
-    omega (arith, mark_le a.slots a.store.now a.end c.requires.taken a.y c.requires.y_lt_slots.0)
-
 pub returns-then-m-ne0 : goal.returns-then-m-ne0
 unfolding mark
 returns-then-m-ne0 c =

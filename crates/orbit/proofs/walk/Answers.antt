@@ -6,17 +6,8 @@ use Rattle.model.specs.Map.{view}
 use Rattle.orbit.proofs.WalkLaws.{Walking, walking-first, walking-more, walking-live, walking-done}
 use Rattle.orbit.proofs.walk.Goals as goal
 
-pub push-requires-clause-taken : goal.push-requires-clause-taken
-push-requires-clause-taken c = c.requires.begun.taken
-
-pub push-requires-clause-y_lt_slots : goal.push-requires-clause-y_lt_slots
-push-requires-clause-y_lt_slots c = (c.requires.d_lt_slots.0, c.requires.begun.free)
-
 pub loop-head-init : goal.loop-head-init
 loop-head-init c = walking-first _ _ _ _ _ _ _ c.requires.begun.taken c.requires.d_lt_slots.0 c.push.ensures
-
-pub expand-tail-requires-clause-taken : goal.expand-tail-requires-clause-taken
-expand-tail-requires-clause-taken c = c.loop-head.invariant.taken
 
 pub expand-tail-requires-clause-head_lt_tail : goal.expand-tail-requires-clause-head_lt_tail
 expand-tail-requires-clause-head_lt_tail c =

@@ -13,17 +13,9 @@ use Rattle.matching.proofs.arcs.arcs.Goals as goal
 pub loop-k-init : goal.loop-k-init
 loop-k-init c = (omega arith, arcs-none _ _ _ _ _ _ _ _)
 
-pub arc-requires-clause-j_lt_count : goal.arc-requires-clause-j_lt_count
-arc-requires-clause-j_lt_count c = (omega arith, omega arith)
-
 pub returns-then-not-arc : goal.returns-then-not-arc
 returns-then-not-arc c = arcs_stop _ _ _ _ _ _ _ _ _ _ c.arc.ensures c.if-not-arc.true _ c.loop-k-test.true
 
 pub loop-k-preserved : goal.loop-k-preserved
 loop-k-preserved c =
     (omega arith, arcs-more _ _ _ _ _ _ _ _ _ _ c.arc.ensures c.if-not-arc.false c.loop-k.invariant.1)
-
-pub returns : goal.returns
-returns c =
-    let inv = c.loop-k.invariant in
-    arcs-done _ _ _ _ _ _ _ _ _ _ inv.0 c.loop-k-test.false inv.1

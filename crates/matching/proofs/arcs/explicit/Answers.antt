@@ -10,9 +10,6 @@ returns-then-from-to c = explicit-later _ _ _ _ _ _ _ _ _ _ refl c.if-from-to.tr
 pub returns-then-wide-i : goal.returns-then-wide-i
 returns-then-wide-i c = explicit-tree _ _ _ _ _ _ _ _ _ _ refl _ c.wide.ensures.0 c.if-wide-i.true
 
-pub straight-requires-clause-i_bound : goal.straight-requires-clause-i_bound
-straight-requires-clause-i_bound c = c.requires.i_bound.0
-
 pub returns : goal.returns
 returns c =
     explicit_tested _ _ _ _ _ _ _ _ _ _ refl _ c.if-from-to.false (λ e. c.if-wide-i.false (c.wide.ensures.0 ∙ e)) c.straight.ensures

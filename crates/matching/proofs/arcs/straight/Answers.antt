@@ -13,9 +13,8 @@ use Rattle.matching.proofs.arcs.straight.Goals as goal
 pub loop-r-init : goal.loop-r-init
 loop-r-init c = (omega arith, follows-none _ _ _ _ _)
 
-pub link-requires : goal.link-requires
-link-requires c =
-    record { sized = c.requires.sized; x_lt_slots = (dart-read _ _ _ _ _ _ c.requires.testable.slots (omega (arith, c.loop-r-test.true)) c.word.ensures, omega arith) }
+pub link-requires-clause-x_lt_slots : goal.link-requires-clause-x_lt_slots
+link-requires-clause-x_lt_slots c = (dart-read _ _ _ _ _ _ c.requires.testable.slots c.loop-r-test.true c.word.ensures, omega arith)
 
 pub returns-then-link-word : goal.returns-then-link-word
 returns-then-link-word c =
@@ -28,8 +27,3 @@ loop-r-preserved c = (
   follows-more _ _ _ _ _ _ _ _ _ c.word.ensures c.link.ensures c.word-in-loop-r.ensures c.if-link-word.false
       c.loop-r.invariant.1,
 )
-
-pub returns : goal.returns
-returns c =
-    let inv = c.loop-r.invariant in
-    follows-done _ _ _ _ _ _ _ inv.0 c.loop-r-test.false inv.1

@@ -14,12 +14,8 @@ use Rattle.matching.proofs.arcs.turned.Goals as goal
 pub loop-r-init : goal.loop-r-init
 loop-r-init c = (omega arith, follows-none _ _ _ _ _)
 
-pub link-requires : goal.link-requires
-link-requires c =
-    record { sized = c.requires.sized; x_lt_slots = (dart-read _ _ _ _ _ _ c.requires.testable.slots c.loop-r-test.true c.word.ensures, omega arith) }
-
-pub overflow_add-from-in-loop-r : goal.overflow_add-from-in-loop-r
-overflow_add-from-in-loop-r c = omega (arith, turn_below _ _ _ _ _ _ c.word-q.ensures c.requires.i_bound.2 c.loop-r-test.true)
+pub link-requires-clause-x_lt_slots : goal.link-requires-clause-x_lt_slots
+link-requires-clause-x_lt_slots c = (dart-read _ _ _ _ _ _ c.requires.testable.slots c.loop-r-test.true c.word.ensures, omega arith)
 
 pub word-requires-in-loop-r : goal.word-requires-in-loop-r
 word-requires-in-loop-r c = omega (arith, turn_below _ _ _ _ _ _ c.word-q.ensures c.requires.i_bound.2 c.loop-r-test.true)
@@ -35,8 +31,3 @@ loop-r-preserved c = (
   turned_more _ _ _ _ _ _ _ _ _ _ c.word-q.ensures c.word.ensures c.link.ensures c.word-in-loop-r.ensures
       c.if-link-word.false c.loop-r.invariant.1,
 )
-
-pub returns : goal.returns
-returns c =
-    let inv = c.loop-r.invariant in
-    follows-done _ _ _ _ _ _ _ inv.0 c.loop-r-test.false inv.1

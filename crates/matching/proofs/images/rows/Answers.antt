@@ -11,53 +11,31 @@ use Rattle.matching.proofs.RowTreeLaws.{hooks-some, hooks-few, grown-hooks, node
 use Rattle.matching.proofs.RowTreeLaws.{rows-clash, rows-done}
 use Rattle.matching.proofs.images.rows.Goals as goal
 
-pub begin-requires : goal.begin-requires
-begin-requires c =
-    let p = c.requires.before_matching in
-    let some = hooks-some p in
-    (p.at.few, p.walked.fits, some, hooks-few p, node-below p _ (omega (arith, p.rooted.some)))
-
-pub overflow_mul-end : goal.overflow_mul-end
-overflow_mul-end c =
-    let p = c.requires.before_matching in
-    omega (arith, mul-le-mul_right c.args.size (hooks-few p), p.walked.fits, p.at.few)
-
 pub loop-k-init : goal.loop-k-init
 loop-k-init c =
     let p = c.requires.before_matching in
     (omega arith, p.rooted.some, refl, rw c.begin.ensures (grown-hooks p c.args.rows.now c.requires.rows_len _ refl))
 
-pub offset_bounds-rows-wide : goal.offset_bounds-rows-wide
-offset_bounds-rows-wide c =
-    let parent : c.wide.result < 16 = parent-fits c.requires.before_matching c.loop-k-test.true c.loop-k.invariant.0 c.wide.ensures.0 in
-    omega (arith, parent)
-
 pub bounds-rows-wide : goal.bounds-rows-wide
 bounds-rows-wide c =
     let parent : c.wide.result < 16 = parent-fits c.requires.before_matching c.loop-k-test.true c.loop-k.invariant.0 c.wide.ensures.0 in
-    omega (arith, parent)
+    omega arith
 
-pub row-requires : goal.row-requires
-row-requires c =
+pub row-requires-clause-i_bound : goal.row-requires-clause-i_bound
+row-requires-clause-i_bound c =
     let inv = c.loop-k.invariant in
-    let asked = row_asks inv.3 inv.0 c.loop-k-test.true c.wide.ensures.0 c.wide-in-loop-k.ensures.0 inv.2 c.requires.before_matching in
-    record { sized = c.requires.sized; taken = asked.0; i_bound = asked.1.0; row_linked = asked.1.1 }
+    (row_asks inv.3 inv.0 c.loop-k-test.true c.wide.ensures.0 c.wide-in-loop-k.ensures.0 inv.2 c.requires.before_matching).1.0
+
+pub row-requires-clause-row_linked : goal.row-requires-clause-row_linked
+row-requires-clause-row_linked c =
+    let inv = c.loop-k.invariant in
+    (row_asks inv.3 inv.0 c.loop-k-test.true c.wide.ensures.0 c.wide-in-loop-k.ensures.0 inv.2 c.requires.before_matching).1.1
 
 pub returns-then-not-row : goal.returns-then-not-row
 returns-then-not-row c =
     let inv = c.loop-k.invariant in
     rows-clash inv.3 inv.0 c.loop-k-test.true c.wide.ensures.0 c.wide-in-loop-k.ensures.0 inv.2 _ _
     c.row.ensures c.if-not-row.true
-
-pub offset_bounds-rows-wide-in-loop-k : goal.offset_bounds-rows-wide-in-loop-k
-offset_bounds-rows-wide-in-loop-k c =
-    let node : c.wide-in-loop-k-2.result < 16 = node-fits c.requires.before_matching c.loop-k-test.true c.wide-in-loop-k-2.ensures.0 in
-    omega (arith, node)
-
-pub bounds-rows-wide-in-loop-k : goal.bounds-rows-wide-in-loop-k
-bounds-rows-wide-in-loop-k c =
-    let node : c.wide-in-loop-k-2.result < 16 = node-fits c.requires.before_matching c.loop-k-test.true c.wide-in-loop-k-2.ensures.0 in
-    omega (arith, node)
 
 pub loop-k-preserved : goal.loop-k-preserved
 loop-k-preserved c =

@@ -6,14 +6,6 @@ use borrow.Author.Rules.{rules}
 use Rattle.matching.proofs.RetraceLaws.{other-slot, hung-single, ready, hung-none, hung-all}
 use Rattle.matching.proofs.retrace.hang.Goals as goal
 
-pub returns-then-roots-eq1 : goal.returns-then-roots-eq1
-returns-then-roots-eq1 c = hung-single c.if-roots-eq1.true
-
-pub meet-tail-requires : goal.meet-tail-requires
-meet-tail-requires c =
-    let R = c.requires.before_hanging in
-    let same : c.args.size + 0 ≡ c.args.size = omega arith in record { slots_le_max_slots = R.at.few; taken = rw same R.taken; y_lt_slots = (omega (arith, other-slot R), omega arith) }
-
 pub returns-then-tail-eq0 : goal.returns-then-tail-eq0
 returns-then-tail-eq0 c = hung-none c.if-roots-eq1.false c.meet-tail.ensures c.if-tail-eq0.true
 

@@ -10,9 +10,6 @@ use Rattle.matching.specs.Retrace.{Retracing, Retraced}
 use Rattle.matching.proofs.RetraceLaws.{retrace_first, retracing, retrace_more, retrace_done, retrace_none}
 use Rattle.matching.proofs.retrace.retrace.Goals as goal
 
-pub loop-head-init : goal.loop-head-init
-loop-head-init c = let T = c.requires.retracing in (omega arith, T.some, T.standing.taken.long, λ T. retrace_first T)
-
 pub expand-end-requires-clause-retracing : goal.expand-end-requires-clause-retracing
 expand-end-requires-clause-retracing c =
     let T = c.requires.retracing in

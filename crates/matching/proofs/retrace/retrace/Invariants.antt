@@ -13,7 +13,8 @@ use Rattle.matching.proofs.retrace.retrace.Given as goal
 abbrev pub invariant-loop-head : goal.invariant-loop-head
 invariant-loop-head l =
     (l.head ≤ l.size) × (1 ≤ l.end) × (length l.store ≡ 16 * l.slots)
-    × ((T : Retracing (view l.slots l.table) l.initial.store l.size l.dims l.k 0 l.tail) → Retraced (site T.at) l.initial.store l.store l.size l.tail l.head l.end)
+    × ((T : Retracing (view l.slots l.table) l.initial.store l.size l.dims l.k 0 l.tail)
+    → Retraced (site T.at) l.initial.store l.store l.size l.tail l.head l.end)
 
 abbrev pub decreases-loop-head : goal.decreases-loop-head
 decreases-loop-head l = l.size - l.head

@@ -8,9 +8,6 @@ use borrow.Author.Rules.{rules}
 use Rattle.orbit.specs.Places.{unmarked}
 use Rattle.orbit.proofs.store.unmark.Goals as goal
 
-pub slice_bounds-clear-end-2 : goal.slice_bounds-clear-end-2
-slice_bounds-clear-end-2 c = sym (length-take-le _ _ c.requires)
-
 pub returns : goal.returns
 unfolding unmarked
 returns c =
