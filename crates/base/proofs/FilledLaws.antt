@@ -15,20 +15,20 @@ use borrow.Author.Tests.{lt-ltb, le-ltb, ltb-true, ltb-false}
 use Rattle.base.specs.Lists.{list}
 use Rattle.base.specs.Filled.{filled, stored}
 use Rattle.base.proofs.TestLaws.{true_or_false, same_test}
-use Rattle.base.proofs.ListLaws.{get_d_list, length-list}
+use Rattle.base.proofs.ListLaws.{get_or-list, length-list}
 
 -- lists made of the same values are one
 module _ {A : Type 0} where
   pub list_same : (n : ℕ) (f g : ℕ → A) → ((k : ℕ) → k < n → f k ≡ g k) → list n f ≡ list n g
   list_same n f g h = ext_get_or (f 0) _ _ (length-list n f ∙ sym (length-list n g)) (λ k l.
       let b : k < n = omega (arith, length-list n f) in
-      get_d_list n k f (f 0) b ∙ h k b ∙ sym (get_d_list n k g (f 0) b))
+      get_or-list n k f (f 0) b ∙ h k b ∙ sym (get_or-list n k g (f 0) b))
 
   -- a list of one value over and over
   pub list_all : (n : ℕ) (z : A) (f : ℕ → A) → ((k : ℕ) → k < n → f k ≡ z) → replicate n z ≡ list n f
   list_all n z f h = ext_get_or z _ _ (length-replicate n z ∙ sym (length-list n f)) (λ k l.
       let l' : k < n = omega (arith, length-replicate n z) in
-      get_or-replicate n k z z l' ∙ sym (get_d_list n k f z l' ∙ h k l'))
+      get_or-replicate n k z z l' ∙ sym (get_or-list n k f z l' ∙ h k l'))
 
 -- a test of two orders that hold together
 pub same-ltb : (a b c d : ℕ) → (a < b → c < d) → (c < d → a < b) → ltb a b ≡ ltb c d
@@ -48,10 +48,10 @@ module _ (n : ℕ) (f : ℕ → ℕ) (z : ℕ) where
       let g' : k < n = omega (arith, length-set l j v) in
       by_cases (ℕ_discrete k j)
       (λ w. ap (λ (i : ℕ). get_or (set l j v) i z) w ∙ get_or-set_same l j v z (omega arith) ∙ q ∙ ap f (sym w)
-      ∙ sym (get_d_list n k _ z g' ∙ ap (λ (t : Bool). cond t (f k) z) (lt-ltb k (j + 1) (omega arith))))
-      (λ w. get_or-set_other l j k v z w ∙ ap (λ (m : List ℕ). get_or m k z) e ∙ get_d_list n k _ z g'
+      ∙ sym (get_or-list n k _ z g' ∙ ap (λ (t : Bool). cond t (f k) z) (lt-ltb k (j + 1) (omega arith))))
+      (λ w. get_or-set_other l j k v z w ∙ ap (λ (m : List ℕ). get_or m k z) e ∙ get_or-list n k _ z g'
       ∙ ap (λ (t : Bool). cond t (f k) z) (same-ltb k j k (j + 1) (λ u. omega arith) (λ u. further k j u w))
-      ∙ sym (get_d_list n k _ z g')))
+      ∙ sym (get_or-list n k _ z g')))
     where
       further : (k j : ℕ) → k < j + 1 → (k ≡ j → ⊥) → k < j
       further k j u w = omega arith

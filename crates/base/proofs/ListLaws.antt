@@ -17,16 +17,16 @@ use Rattle.base.proofs.TestLaws.{true_or_false}
 use Rattle.base.proofs.BelowLaws.{below_suc, count_lt}
 
 module _ {A : Type 0} where
-  pub get_d_list_from : (n k i : ℕ) (f : ℕ → A) (d : A) → i < n → get_or (list_from k n f) i d ≡ f (k + i)
+  pub get_or-list_from : (n k i : ℕ) (f : ℕ → A) (d : A) → i < n → get_or (list_from k n f) i d ≡ f (k + i)
   unfolding list_from
-  get_d_list_from zero k i f d h = absurd (not-suc-le-zero h)
-  get_d_list_from (suc n) k zero f d h = ap f (sym (add-zero k))
-  get_d_list_from (suc n) k (suc i) f d h =
-      get_d_list_from n (suc k) i f d (le_of_suc-le-suc h) ∙ ap f (suc-add k i ∙ sym (add-suc k i))
+  get_or-list_from zero k i f d h = absurd (not-suc-le-zero h)
+  get_or-list_from (suc n) k zero f d h = ap f (sym (add-zero k))
+  get_or-list_from (suc n) k (suc i) f d h =
+      get_or-list_from n (suc k) i f d (le_of_suc-le-suc h) ∙ ap f (suc-add k i ∙ sym (add-suc k i))
 
-  pub get_d_list : (n i : ℕ) (f : ℕ → A) (d : A) → i < n → get_or (list n f) i d ≡ f i
+  pub get_or-list : (n i : ℕ) (f : ℕ → A) (d : A) → i < n → get_or (list n f) i d ≡ f i
   unfolding list
-  get_d_list n i f d h = get_d_list_from n 0 i f d h ∙ ap f (zero-add i)
+  get_or-list n i f d h = get_or-list_from n 0 i f d h ∙ ap f (zero-add i)
 
   pub length-list_from : (n k : ℕ) (f : ℕ → A) → length (list_from k n f) ≡ n
   unfolding list_from
@@ -45,17 +45,17 @@ module _ {A : Type 0} (k : ℕ) (f : ℕ → List A) (each : (x : ℕ) → lengt
   length-joined zero = sym (mul-zero k)
   length-joined (suc n) = length-append (joined n f) (f n) ∙ ap₂ ◌+◌ (length-joined n) (each n) ∙ sym (mul-suc k n)
 
-  pub get_d_joined : (n x j : ℕ) (d : A) → x < n → j < k → get_or (joined n f) (k * x + j) d ≡ get_or (f x) j d
+  pub get_or-joined : (n x j : ℕ) (d : A) → x < n → j < k → get_or (joined n f) (k * x + j) d ≡ get_or (f x) j d
   unfolding joined
-  get_d_joined zero x j d h l = absurd (not-suc-le-zero h)
-  get_d_joined (suc n) x j d h l = ⊎_elim
+  get_or-joined zero x j d h l = absurd (not-suc-le-zero h)
+  get_or-joined (suc n) x j d h l = ⊎_elim
       (λ w. ap (λ (y : ℕ). get_or (joined n f ++ f n) (k * y + j) d) w
       ∙ ap (λ (y : ℕ). get_or (joined n f ++ f n) (y + j) d) (sym (length-joined n))
       ∙ get_or-append-add (joined n f) (f n) j d ∙ ap (λ (y : ℕ). get_or (f y) j d) (sym w))
       (λ w. get_or-append (joined n f) (f n) d (k * x + j)
       (subst (λ (y : ℕ). k * x + j < y) (sym (length-joined n))
       (lt_of_lt_of_le (subst (λ (y : ℕ). k * x + j < y) (sym (mul-suc k x)) (omega arith)) (mul-le-mul_left k w)))
-      ∙ get_d_joined n x j d w l)
+      ∙ get_or-joined n x j d w l)
       (below_suc h)
 
 module _ {A : Type 0} where
@@ -85,15 +85,15 @@ module _ {A : Type 0} where
 -- ---- inside a list, no element is a default
 
 module _ {A : Type 0} where
-  pub get_d_inside : (l : List A) (i : ℕ) (d e : A) → i < length l → get_or l i d ≡ get_or l i e
-  get_d_inside [] i d e h = absurd (not-suc-le-zero h)
-  get_d_inside (a ∷ l) zero d e h = refl
-  get_d_inside (a ∷ l) (suc i) d e h = get_d_inside l i d e (le_of_suc-le-suc h)
+  pub get_or_inside : (l : List A) (i : ℕ) (d e : A) → i < length l → get_or l i d ≡ get_or l i e
+  get_or_inside [] i d e h = absurd (not-suc-le-zero h)
+  get_or_inside (a ∷ l) zero d e h = refl
+  get_or_inside (a ∷ l) (suc i) d e h = get_or_inside l i d e (le_of_suc-le-suc h)
 
-  pub get_d_replicate-all : (n i : ℕ) (a : A) → get_or (replicate n a) i a ≡ a
-  get_d_replicate-all zero i a = refl
-  get_d_replicate-all (suc n) zero a = refl
-  get_d_replicate-all (suc n) (suc i) a = get_d_replicate-all n i a
+  pub get_or-replicate_all : (n i : ℕ) (a : A) → get_or (replicate n a) i a ≡ a
+  get_or-replicate_all zero i a = refl
+  get_or-replicate_all (suc n) zero a = refl
+  get_or-replicate_all (suc n) (suc i) a = get_or-replicate_all n i a
 
 -- ---- one list after the other, of the numbers that have p
 
@@ -114,16 +114,16 @@ module _ {A : Type 0} (w : ℕ) (p : ℕ → Bool) (f : ℕ → List A) (each : 
       rw (e, ← length_chosen n) (get_or-append-add (joined n (λ y. cond (p y) (f y) [])) (f n) j d)
 
   -- the list of x stands after those of the numbers below x that have p
-  pub get_d_chosen : (n x j : ℕ) (d : A) → x < n → p x ≡ true → j < w
+  pub get_or_chosen : (n x j : ℕ) (d : A) → x < n → p x ≡ true → j < w
       → get_or (joined n (λ y. cond (p y) (f y) [])) (w * count_below x p + j) d ≡ get_or (f x) j d
   unfolding joined
-  get_d_chosen zero x j d h e l = absurd (not-suc-le-zero h)
-  get_d_chosen (suc n) x j d h e l = ⊎_elim
+  get_or_chosen zero x j d h e l = absurd (not-suc-le-zero h)
+  get_or_chosen (suc n) x j d h e l = ⊎_elim
       (λ (q : x ≡ n). rw q (chosen_last n j d (ap p (sym q) ∙ e)))
       (λ (q : x < n).
       let less : count_below x p + 1 ≤ count_below n p = omega (arith, count_lt p x n q e) in
       get_or-append (joined n (λ y. cond (p y) (f y) [])) (cond (p n) (f n) []) d (w * count_below x p + j)
-      (rw (length_chosen n) (omega (arith, mul-le-mul_left w less))) ∙ get_d_chosen n x j d q e l)
+      (rw (length_chosen n) (omega (arith, mul-le-mul_left w less))) ∙ get_or_chosen n x j d q e l)
       (below_suc h)
 
 module _ {A : Type 0} where

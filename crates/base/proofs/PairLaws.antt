@@ -39,10 +39,10 @@ module _ (M c : ℕ) (D : ℕ → Bool) where
       (count-here M (D k) (f k) (slot k (omega arith)))
 
   -- the numbers of one row, or none
-  count-row_if : (b : Bool) (p : ℕ → Bool) (k : ℕ) → (b ≡ true → count_below M p ≡ k) → count_below M (λ x. b and p x) ≡ bit b * k
+  count_row_if : (b : Bool) (p : ℕ → Bool) (k : ℕ) → (b ≡ true → count_below M p ≡ k) → count_below M (λ x. b and p x) ≡ bit b * k
   unfolding ◌and◌
-  count-row_if true p k h = let e = h refl in omega arith
-  count-row_if false p k h = let e : count_below M (λ x. false) ≡ 0 = count-zero M _ (λ k l. refl) in omega arith
+  count_row_if true p k h = let e = h refl in omega arith
+  count_row_if false p k h = let e : count_below M (λ x. false) ≡ 0 = count-zero M _ (λ k l. refl) in omega arith
 
   -- the numbers f u s, for each u of O and s of D
   pub count-pairs : (O : ℕ → Bool) (f : ℕ → ℕ → ℕ) (N : ℕ) → ((u s : ℕ) → u < N → O u ≡ true → s < c → D s ≡ true → f u s < M)
@@ -64,7 +64,7 @@ module _ (M c : ℕ) (D : ℕ → Bool) where
       let old : count_below M (λ x. any_below N (λ u. O u and any_below c (λ s. D s and eqb (f u s) x))) ≡ count_below N O * count_below c D =
       count-pairs O f N (λ u s h. slot u s (omega arith)) (λ u s v t h e b d l. once u s v t (omega arith) e b d (omega arith)) in
       let new : count_below M (λ x. O N and any_below c (λ s. D s and eqb (f N s) x)) ≡ bit (O N) * count_below c D =
-      count-row_if (O N) _ k (λ e. count-row (f N) c (λ s h d. slot N s (omega arith) e h d)
+      count_row_if (O N) _ k (λ e. count-row (f N) c (λ s h d. slot N s (omega arith) e h d)
       (λ s t h l d g q. (once N s N t (omega arith) e h d (omega arith) e l g q).1)) in
       both ∙ ap₂ (λ (a z : ℕ). a + z) old new ∙ product (count_below N O) (bit (O N)) k
     where

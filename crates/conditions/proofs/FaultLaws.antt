@@ -48,7 +48,7 @@ module _ (S : Scheme) (f : Shaped S) (lefts rights : List ℕ) (cl : Coded S lef
   pub fault_asks : ((2 ≤ S.n) × (S.n ≤ 3) × (S.places ≤ 4) × (S.nodes ≤ 16) × (S.second < 16)) × (Coding S.nodes lefts × Coding S.nodes rights)
   fault_asks =
       let d = AcceptedLaws.small S f in
-      let two = AcceptedLaws.at-least_two S f in
+      let two = AcceptedLaws.at_least_two S f in
       let k = f.places_few in
       ((two, d, omega arith, f.nodes_few, AcceptedLaws.node-small S f S.second f.second_below), (coding S f left lefts cl, coding S f right rights cr))
 

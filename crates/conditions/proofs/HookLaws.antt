@@ -13,7 +13,7 @@ use Rattle.base.specs.Below.{all_below}
 use Rattle.base.specs.First.{least, there}
 use Rattle.base.proofs.BelowLaws.{all_not, all_same}
 use Rattle.base.proofs.FirstLaws.{least-same, least-none}
-use Rattle.base.proofs.ListLaws.{get_d_inside}
+use Rattle.base.proofs.ListLaws.{get_or_inside}
 use Rattle.base.proofs.TestLaws.{or_left, or_right, true_or_false}
 use Rattle.model.specs.Bytes.{on_side}
 use Rattle.model.specs.Scheme.{left, kind, orbit_dim, has, first_hook}
@@ -125,7 +125,7 @@ module _ (S : Scheme) (f : Shaped S) where
       let a = f.places_few in
       let b = AcceptedLaws.small S f in
       let c = f.nodes_few in
-      ap (λ (z : ℕ). eqb z (orbit_dim S p)) (get_d_inside S.lwords (4 * s + p) 255 0 (omega arith))))
+      ap (λ (z : ℕ). eqb z (orbit_dim S p)) (get_or_inside S.lwords (4 * s + p) 255 0 (omega arith))))
 
   -- the least left node to which no path leads
   pub unreached_is : (t : Tree) → TreeOf S t

@@ -13,7 +13,7 @@ use Rattle.base.specs.Below.{count_below}
 use Rattle.base.specs.First.{least}
 use Rattle.base.proofs.TestLaws.{true_or_false}
 use Rattle.base.proofs.BelowLaws.{le_or_lt, below_step, count-more, count_le, count-some}
-use Rattle.base.proofs.ListLaws.{get_d_inside, get_d_replicate-all}
+use Rattle.base.proofs.ListLaws.{get_or_inside, get_or-replicate_all}
 use Rattle.model.specs.Codes.{entry}
 use Rattle.model.specs.Scheme.{first_hook}
 use Rattle.conditions.specs.Arcs.{part_of}
@@ -297,7 +297,7 @@ module _ (second : ℕ) (h : second < 16) where
   hooks = record {
     first = first-is;
     last = last-is;
-    bare = λ k l. let f = roots_few second in get_d_inside (replicate 16 255) k 0 255 (omega arith) ∙ get_d_replicate-all 16 k 255;
+    bare = λ k l. let f = roots_few second in get_or_inside (replicate 16 255) k 0 255 (omega arith) ∙ get_or-replicate_all 16 k 255;
   }
 
   -- they are marked, and nothing else is
@@ -310,7 +310,7 @@ module _ (second : ℕ) (h : second < 16) where
   marks_were : (s : ℕ) → get_or marks s false ≡ true → (s ≡ first_hook) ⊎ (s ≡ second)
   marks_were s e = ⊎_elim
       (λ q. inr q)
-      (λ q. ⊎_elim (λ z. inl z) (λ z. absurd (true≢false (sym z ∙ get_d_replicate-all 16 s false))) (mark_was (replicate 16 false) first_hook s q))
+      (λ q. ⊎_elim (λ z. inl z) (λ z. absurd (true≢false (sym z ∙ get_or-replicate_all 16 s false))) (mark_was (replicate 16 false) first_hook s q))
       (mark_was one second s e)
 
   -- there are as many as are marked
@@ -319,7 +319,7 @@ module _ (second : ℕ) (h : second < 16) where
       (λ e. let c = count-some 16 (λ s. get_or marks s false) first_hook (omega arith) first-marked in omega (arith, e.0))
       (λ e. let c = count-some 16 (λ s. get_or one s false) first_hook (omega arith) refl in
       let m = count-more 16 (λ s. get_or one s false) (λ s. get_or marks s false) second h
-      (get_or-set_other (replicate 16 false) first_hook second true false (λ z. absurd (omega (arith, e.1))) ∙ get_d_replicate-all 16 second false)
+      (get_or-set_other (replicate 16 false) first_hook second true false (λ z. absurd (omega (arith, e.1))) ∙ get_or-replicate_all 16 second false)
       last-marked (λ j l. mark-keeps one second j (omega arith)) in
       omega (arith, e.0))
       (root_count second)

@@ -53,5 +53,5 @@ pub labels_follow : (K : Kernel) → Demand2 K → LabelsFollow K
 labels_follow K D = record { follows = edit_labelled K D; no_other = edit-tagged K D }
 
 -- "the label follows the metal"
-pub label-follows_metal : LabelsFollow ours
-label-follows_metal = labels_follow ours demand2
+pub label_follows_metal : LabelsFollow ours
+label_follows_metal = labels_follow ours demand2

@@ -297,11 +297,11 @@ first-table : cond (there (edit_fault 2 8 e8 store8 v_bytes (One 0))) e8 (table_
 unfolding computes
 first-table e = let link : ◌≡◌ {A = ℕ} 0 3 = ap (λ (t : List ℕ). field_at t (Link 0) 1) e in omega arith
 
-pub not_first-only : Demand2 first-only → ⊥
-not_first-only D = first-table (p8_done first-only D _ refl).1
+pub not_first_only : Demand2 first-only → ⊥
+not_first_only D = first-table (p8_done first-only D _ refl).1
 
-pub not_first-twice : Demand2 first-twice → ⊥
-not_first-twice D =
+pub not_first_twice : Demand2 first-twice → ⊥
+not_first_twice D =
     let is = as_ours first-twice D 2 4 f_darts (sew_bytes 0 1) (Two 0 3) (stored store4) (ap number sew_answer) _ refl in
     let nine : ◌≡◌ {A = ℕ} 9 0 = ap number (sym twice-answer ∙ is.0 ∙ sew_answer) in
     omega arith
@@ -319,9 +319,9 @@ hook-tagged-table : cond (there (edit_fault 2 8 e8 store8 (renew_bytes 18 (1 ∷
 unfolding computes
 hook-tagged-table = refl
 
-pub not_hook-tagged : Demand2 hook-tagged → ⊥
+pub not_hook_tagged : Demand2 hook-tagged → ⊥
 unfolding field_at
-not_hook-tagged D =
+not_hook_tagged D =
     let is = as_ours hook-tagged D 2 8 e8 (renew_bytes 18 (1 ∷ [])) (One 0) (stored store8) (ap number renew_answer) _ refl in
     let tag : ◌≡◌ {A = ℕ} 7 9 = ap (λ (t : List ℕ). field_at t Tag 1) (sym hook-tagged-table ∙ is.1 ∙ renew_table) in
     omega arith
@@ -347,12 +347,12 @@ not_hoarding D =
 -- ---- where the label does not follow the metal
 
 -- no live dart of E has the tag that its unused records hold
-no_stale-tag : all_below 8 (λ x. live (view 8 e8) x ⇒ not (eqb ((view 8 e8).tag x) 904)) ≡ true
+no_stale_tag : all_below 8 (λ x. live (view 8 e8) x ⇒ not (eqb ((view 8 e8).tag x) 904)) ≡ true
 unfolding computes
-no_stale-tag = refl
+no_stale_tag = refl
 
 not_tagged : Tagged 8 e8 904 → ⊥
-not_tagged w = eqb-false _ _ (not-true _ (if_so _ (all-at 8 _ no_stale-tag w.dart w.alive.slot) (eq-eqb _ _ w.alive.alive))) w.tag
+not_tagged w = eqb-false _ _ (not-true _ (if_so _ (all-at 8 _ no_stale_tag w.dart w.alive.slot) (eq-eqb _ _ w.alive.alive))) w.tag
 
 -- V on E at 0 makes slot 2 live
 stale-state : (view 8 (stale_tags 8 e8 (edit_table 2 8 e8 store8 v_bytes (One 0)))).state 2 ≡ 1
@@ -432,9 +432,9 @@ e_edges : cells (view 8 e8) 2 (all_but 1) ≡ 1
 unfolding computes
 e_edges = refl
 
-pub not_each-dart : Demand1 each-dart → ⊥
+pub not_each_dart : Demand1 each-dart → ⊥
 unfolding computes
-not_each-dart D =
+not_each_dart D =
     let numbers = e_numbers each-dart D _ refl (ap number e_counts) in
     let edges : ◌≡◌ {A = ℕ} 2 1 = cells-only _ 2 (all_but 1) 2 ((well_formed_iff 2 (view 8 e8)).0 e_well) (all_but_small 2 1) numbers.edges ∙ e_edges in
     omega arith
@@ -455,20 +455,20 @@ no_file (load b) o e = refl
 no_file write o e = rw e refl
 
 -- nothing is found to be well-formed
-no_more-known : (known : Bool) (q : Request) (a : Answer) → a ≡ Refused BadCall → known_after known q a ≡ true → known ≡ true
-no_more-known known table_check a e k = sym (or_false known) ∙ subst (λ (r : Answer). (known or eqb (number r) 0) ≡ true) e k
-no_more-known known (scheme_check b) a e k = k
-no_more-known known (edit b d) a e k = k
-no_more-known known count a e k = k
-no_more-known known (load b) a e k = absurd (true≢false (sym k))
-no_more-known known write a e k = k
+no_more_known : (known : Bool) (q : Request) (a : Answer) → a ≡ Refused BadCall → known_after known q a ≡ true → known ≡ true
+no_more_known known table_check a e k = sym (or_false known) ∙ subst (λ (r : Answer). (known or eqb (number r) 0) ≡ true) e k
+no_more_known known (scheme_check b) a e k = k
+no_more_known known (edit b d) a e k = k
+no_more_known known count a e k = k
+no_more_known known (load b) a e k = absurd (true≢false (sym k))
+no_more_known known write a e k = k
 
 constant_call : AlikeCall refusing
 constant_call n N t t' a known k e e' same p p' = record {
   tables = rw (table_of_lem p, table_of_lem p') a;
   answers = answer_of p ∙ sym (answer_of p');
   files = no_file e.call.request e.outcome (answer_of p) ∙ sym (no_file e'.call.request e'.outcome (answer_of p'));
-  well = λ h. rw (table_of_lem p, table_of_lem p') (k (no_more-known known e.call.request e.outcome.answer (answer_of p) h));
+  well = λ h. rw (table_of_lem p, table_of_lem p') (k (no_more_known known e.call.request e.outcome.answer (answer_of p) h));
 }
 
 pub constant_alike : AlikeRuns refusing

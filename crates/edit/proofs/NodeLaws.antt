@@ -16,7 +16,7 @@ use Rattle.base.specs.Below.{count_below}
 use Rattle.base.specs.First.{least, nth_lowest, some_if, ◌or_else◌}
 use Rattle.base.proofs.BelowLaws.{below_step, count-step, count_le, count_lt}
 use Rattle.base.proofs.FirstLaws.{first_step, nth_at}
-use Rattle.base.proofs.ListLaws.{get_d_replicate-all}
+use Rattle.base.proofs.ListLaws.{get_or-replicate_all}
 use Rattle.edit.specs.Nodes.{is_kind, Listed}
 
 -- the k-th lowest below n + 1: below n, or n itself
@@ -50,7 +50,7 @@ listed-none kinds kind = record {
   long = refl;
   total = refl;
   each = λ j h. absurd (omega arith);
-  rest = λ j h. get_d_replicate-all 16 j 0;
+  rest = λ j h. get_or-replicate_all 16 j 0;
 }
 
 module _ (s : ℕ) (kinds : List ℕ) (kind : ℕ) (node : List ℕ) (size : ℕ) (l : Listed s kinds kind node size) where

@@ -11,7 +11,7 @@ use Rattle.base.specs.Below.{count_below}
 use Rattle.base.specs.Digits.{bytes_of, number_at}
 use Rattle.base.proofs.BelowLaws.{count_lt}
 use Rattle.base.proofs.DigitLaws.{length-bytes, number-back}
-use Rattle.base.proofs.ListLaws.{get_d_joined, get_d_chosen}
+use Rattle.base.proofs.ListLaws.{get_or-joined, get_or_chosen}
 use Rattle.model.specs.Map.{Map, live}
 use Rattle.model.specs.File.{slots_from, tags_from, links_from, live_darts, section, file_in, slot_in}
 use Rattle.file.specs.Sections.{link_bytes, part_bytes, part_size, darts_bytes, section_bytes, head_bytes}
@@ -70,7 +70,7 @@ module _ (w n : ℕ) (m : Map) where
     of_dart part j l =
         in_section part (w + (part_size w n part * c + j)) (rw length-section (omega (arith, mul-le-mul_left (part_size w n part) counted)))
         ∙ after-count part (part_size w n part * c + j)
-        ∙ get_d_chosen (part_size w n part) (live m) (part_bytes w n m part) (length_part w n m part) m.slots x j 0 b (eq-eqb _ _ e) l
+        ∙ get_or_chosen (part_size w n part) (live m) (part_bytes w n m part) (length_part w n m part) m.slots x j 0 b (eq-eqb _ _ e) l
 
     -- a number that a section has of x is read
     dart-back : (part : Part) (off u v at : ℕ) → at ≡ start w L part + (w + (part_size w n part * c + off)) → off + u ≤ part_size w n part → v < 256 ^ u
@@ -92,7 +92,7 @@ module _ (w n : ℕ) (m : Map) where
     link-back i k l =
         let more : i + 1 ≤ n + 1 = omega arith in
         dart-back Links (w * i) w (m.link i x) (links_from w L + w + w * ((n + 1) * c) + w * i) (omega arith) (omega (arith, mul-le-mul_left w more)) l
-        (λ j g. get_d_joined w _ (λ y. length-bytes w (m.link y x)) (suc n) i j 0 (omega arith) g)
+        (λ j g. get_or-joined w _ (λ y. length-bytes w (m.link y x)) (suc n) i j 0 (omega arith) g)
 
   -- the head is read
   in_head : (k : ℕ) → k < 1 + w → get_or (file_in w n m) k 0 ≡ get_or (head_bytes w n m.slots) k 0

@@ -29,10 +29,10 @@ use Rattle.model.proofs.AcceptedLaws.{node-small}
 
 -- ---- what the model says, by the arc of s at i
 
-at-end_never : (y : Arc) → at_end y (λ t. false) ≡ false
-at-end_never absent = refl
-at-end_never (explicit t) = refl
-at-end_never (implicit p) = refl
+at_end_never : (y : Arc) → at_end y (λ t. false) ≡ false
+at_end_never absent = refl
+at_end_never (explicit t) = refl
+at_end_never (implicit p) = refl
 
 not_node : (y : Arc) (u : ℕ) → at_places y (explicit u) eqb ≡ false
 not_node absent u = refl
@@ -53,7 +53,7 @@ module _ (S : Scheme) (side : Side) (s i j : ℕ) where
       or at_places (arc_at S side s j) (arc_at S side t j) eqb)
   unfolding on_cycle four_arcs one_arc both_implicit
   on-node t e = rw e (or_false _ ∙ ap (λ (b : Bool). (at_end (arc_at S side t j) (λ u. at_end (arc_at S side u i) (λ v. at_end (arc_at S side v j) (eqb s)))
-      or at_places (arc_at S side s j) (arc_at S side t j) eqb) or b) (at-end_never (arc_at S side s j)) ∙ or_false _)
+      or at_places (arc_at S side s j) (arc_at S side t j) eqb) or b) (at_end_never (arc_at S side s j)) ∙ or_false _)
 
   on-place : (p : ℕ) → arc_at S side s i ≡ implicit p
       → on_cycle S side s i j ≡ (at_end (arc_at S side s j) (λ t. at_places (implicit p) (arc_at S side t i) eqb) or at_places (implicit p) (arc_at S side s j) Apart)
@@ -62,7 +62,7 @@ module _ (S : Scheme) (side : Side) (s i j : ℕ) where
 
   on_none : arc_at S side s i ≡ absent → on_cycle S side s i j ≡ false
   unfolding on_cycle four_arcs one_arc both_implicit ◌or◌
-  on_none e = rw e (rw (at-end_never (arc_at S side s j)))
+  on_none e = rw e (rw (at_end_never (arc_at S side s j)))
 
 -- ---- what the codes say
 

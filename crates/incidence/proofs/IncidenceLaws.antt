@@ -14,7 +14,7 @@ use Rattle.base.specs.First.{least}
 use Rattle.base.proofs.TestLaws.{and_no_left, impossible, true_or_false}
 use Rattle.base.proofs.BelowLaws.{all_not, all-step, all_same, any_at, any_of, count-zero, one-to-three}
 use Rattle.base.proofs.FirstLaws.{least-same}
-use Rattle.base.proofs.ListLaws.{get_d_list}
+use Rattle.base.proofs.ListLaws.{get_or-list}
 use Rattle.model.specs.Codes.{arc_code}
 use Rattle.model.specs.Scheme.{Side, left, right, kind, word, arcs, arc_part}
 use Rattle.model.specs.Conditions.{Arc, absent, explicit, implicit, touches, reads, arc_at, arcs_of_dim, incidence_ok, incidence_fault}
@@ -186,7 +186,7 @@ module _ (S : Scheme) (f : Shaped S) where
     -- what goes with a scheme tells of the node
     twice-is : (twice : List Bool) → twice ≡ twice_of S side → get_or twice s false ≡ twice_at S side s
     unfolding twice_of
-    twice-is twice e = let few = f.nodes_few in ap (λ (l : List Bool). get_or l s false) e ∙ get_d_list 16 s _ false (omega arith)
+    twice-is twice e = let few = f.nodes_few in ap (λ (l : List Bool). get_or l s false) e ∙ get_or-list 16 s _ false (omega arith)
 
   module _ (lefts rights : List ℕ) (ltwice rtwice : List Bool) (cl : Coded S left lefts) (cr : Coded S right rights)
       (tl : ltwice ≡ twice_of S left) (tr : rtwice ≡ twice_of S right) where

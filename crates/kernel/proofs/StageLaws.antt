@@ -164,11 +164,11 @@ module _ (n N : ℕ) (t b : List ℕ) (D : Darts) where
 
 -- bytes with no fault are an accepted scheme's, and one with a single hook is for one dart
 module _ (D : Darts) (b : List ℕ) (S : Scheme) (f : bytes_fault (takes D b) b ≡ none) (s : S ≡ scheme_of b) where
-  pub no_fault-accepted : Accepted S
-  no_fault-accepted = subst Accepted (sym s) (bytes-accepted D b f)
+  pub no_fault_accepted : Accepted S
+  no_fault_accepted = subst Accepted (sym s) (bytes-accepted D b f)
 
-  pub no_fault-alone : {d e : ℕ} → d ≡ first_dart D → e ≡ second_dart D → has_second S ≡ false → e ≡ d
-  no_fault-alone p q h = q ∙ darts-alone D S (subst (λ (x : Scheme). as_many D x ≡ true) (sym s) (bytes-many D b f)) h ∙ sym p
+  pub no_fault_alone : {d e : ℕ} → d ≡ first_dart D → e ≡ second_dart D → has_second S ≡ false → e ≡ d
+  no_fault_alone p q h = q ∙ darts-alone D S (subst (λ (x : Scheme). as_many D x ≡ true) (sym s) (bytes-many D b f)) h ∙ sym p
 
 -- ---- the calls
 

@@ -104,8 +104,8 @@ module _ (S : Scheme) (f : Shaped S) where
   pub small : S.n ≤ 3
   small = ⊎_elim (λ e. omega arith) (λ e. omega arith) f.dimension
 
-  pub at-least_two : 2 ≤ S.n
-  at-least_two = ⊎_elim (λ e. omega arith) (λ e. omega arith) f.dimension
+  pub at_least_two : 2 ≤ S.n
+  at_least_two = ⊎_elim (λ e. omega arith) (λ e. omega arith) f.dimension
 
   pub node-small : (s : ℕ) → s < S.nodes → s < 16
   node-small s h = let n = f.nodes_few in omega arith

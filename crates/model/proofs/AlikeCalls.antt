@@ -143,8 +143,8 @@ module _ (n N : ℕ) (t t' : List ℕ) (a : AlikeTables n N t t') where
       same-done =
           (λ i. Edited (same_size E m' a.alike i) (same-added E m' a.alike i) (same-deleted E m' a.alike i)) ∙ ap site_done same-site
 
-    same-dart_test : (x : ℕ) → is_dart m x ≡ is_dart m' x
-    same-dart_test x = and_same (ltb x N) (λ h. same_live m m' a.alike x (ltb-true _ _ h))
+    same_dart_test : (x : ℕ) → is_dart m x ≡ is_dart m' x
+    same_dart_test x = and_same (ltb x N) (λ h. same_live m m' a.alike x (ltb-true _ _ h))
 
     -- test by test, each asked only where those before it have passed
     same-fault : edit_fault n N t store b d ≡ edit_fault n N t' store' b d
@@ -154,7 +154,7 @@ module _ (n N : ℕ) (t t' : List ℕ) (a : AlikeTables n N t t') where
         or_else_same _ _ refl (λ r2.
         or_else_same _ _ refl (λ r6.
         or_else_same _ _ (ap (λ (w : Bool). some_if (not w) BadTable) same-well) (λ r7.
-        or_else_same _ _ (ap₂ (λ (w v : Bool). some_if (not (w and v)) NoDart) (same-dart_test (first_dart d)) (same-dart_test (second_dart d))) (λ r8.
+        or_else_same _ _ (ap₂ (λ (w v : Bool). some_if (not (w and v)) NoDart) (same_dart_test (first_dart d)) (same_dart_test (second_dart d))) (λ r8.
         let darts = passed _ _ r8 in
         let same = eqb-true _ _ (passed _ _ r6) in
         fit_same (record {
@@ -191,7 +191,7 @@ module _ (n N : ℕ) (t t' : List ℕ) (a : AlikeTables n N t t') where
             }
         go (some r) q = rw (refused-table n N t store b d r q, refused-table n N t' store' b d r (sym same-fault ∙ q)) a
 
-    -- both stores come back zero; where their length is wrong each stays as it was (`store-Kept`)
+    -- both stores come back zero; where their length is wrong each stays as it was (`store_kept`)
     pub same_store : length store ≡ 16 * N → edit_store n N t store b d ≡ edit_store n N t' store' b d
     same_store k = store-zero n N t store b d a.one.sizes k ∙ sym (store-zero n N t' store' b d a.other.sizes (sym e ∙ k))
 

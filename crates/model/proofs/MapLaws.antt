@@ -10,7 +10,7 @@ use borrow.Author.Tests.{le-leb, lt-leb}
 use Rattle.model.specs.Map.{Map, Field, State, Link, Tag, field_of, dimension, record_size, offset, record_of, table_size, field_at, put, view}
 use Rattle.model.specs.Map.{table_of}
 use Rattle.base.proofs.BelowLaws.{le_or_lt}
-use Rattle.base.proofs.ListLaws.{length-joined, get_d_joined}
+use Rattle.base.proofs.ListLaws.{length-joined, get_or-joined}
 
 -- ---- the fields and their offsets
 
@@ -113,7 +113,7 @@ module _ (m : Map) (x : ℕ) (h : x < m.slots) where
 
   in_table : (f : Field) → dimension f ≤ 3 → get_or (table_of m) (record_size * x + offset f) 0 ≡ field_of m f x
   unfolding table_of
-  in_table f l = get_d_joined record_size (record_of m) (λ y. refl) m.slots x (offset f) 0 h (offset-below f l) ∙ in_record f l
+  in_table f l = get_or-joined record_size (record_of m) (λ y. refl) m.slots x (offset f) 0 h (offset-below f l) ∙ in_record f l
 
   pub field_words : (f : Field) → dimension f ≤ 3 → field_at (table_of m) f x ≡ field_of m f x
   field_words f l = field_at_lem (table_of m) f x l ∙ in_table f l

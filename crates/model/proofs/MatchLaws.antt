@@ -56,7 +56,7 @@ module _ (E : Site) (g : Accepted E.scheme) where
   abbrev gl : SingleSide S left
   gl = one_side g left
 
-  -- the image of (u, s) is the end of a walk from the dart of a hook: u at the first, its second_dart_of at the second
+  -- the image of (u, s) is the end of a walk from the dart of a hook: u at the first, its second dart (`second_dart_of`) at the second
   record Walk (u s : ℕ) : Type 0 where
     hook : ℕ
     start : ℕ
@@ -95,7 +95,7 @@ module _ (E : Site) (g : Accepted E.scheme) where
     abbrev OPath : List ℕ → ℕ → Type 0
     OPath = OrbitPath m S.places (orbit_dim S) d
 
-    -- every orbit dart has a path from the dart, and its second_dart_of is the end of that path from the other dart
+    -- every orbit dart has a path from the dart, and its second dart is the end of that path from the other dart
     second-path : (u : ℕ) → O u ≡ true → (p : List ℕ) × OPath p u × (second_dart_of E u ≡ walk m p d₂)
     unfolding second_dart_of
     second-path u e =
@@ -214,7 +214,7 @@ module _ (E : Site) (g : Accepted E.scheme) where
           ap (λ (i : ℕ). m.link i (f u S.second)) (sym q)
           ∙ A.implicit_arc u (o.slot u e) e S.second g.shaped.second_below h.kind p k (λ c. omega arith)
 
-      -- so the path from the dart to u leads from the other dart to the second_dart_of of u
+      -- so the path from the dart to u leads from the other dart to the second dart of u
       orbit-is : {p : List ℕ} {u : ℕ} → OPath p u → (walk m p d₂ ≡ f u S.second) × (O u ≡ true)
       unfolding walk
       orbit-is (here {y} b z) =

@@ -21,7 +21,7 @@ use Rattle.model.specs.declared.Scheme.{Scheme}
 use Rattle.model.specs.Rewriting.{Rewriting, SameRecord}
 use Rattle.model.proofs.MapLaws.{words_are, length-words, field_words}
 use Rattle.model.proofs.ArcLaws.{explicit-end, implicit-from, absent-from}
-use Rattle.model.proofs.AcceptedLaws.{one_side, at-least_two, kind_cases, left_or_added}
+use Rattle.model.proofs.AcceptedLaws.{one_side, at_least_two, kind_cases, left_or_added}
 use Rattle.model.proofs.MatchLaws.{GoodOrbit, assigned}
 use Rattle.model.proofs.KindLaws.{added-right, preserved-right}
 use Rattle.model.proofs.RoomLaws.{free-same}
@@ -78,7 +78,7 @@ module _ (E : Site) (a : Accepted E.scheme) (o : GoodOrbit E) {m' m'' : Map} {f 
   -- an added node has every arc up to n, so where it has none, n = 2 and the link is α3
   added-absent : (s i : ℕ) → s < S.nodes → added S s ≡ true → i ≤ 3 → arc_at S right s i ≡ absent → (S.n ≡ 2) × (i ≡ 3)
   added-absent s i h k l c =
-      let two = at-least_two S a.shaped in
+      let two = at_least_two S a.shaped in
       let none = absent-from S right s i c in
       ⊎_elim (λ b. let one = (a.consistent.incidence s h).all_right i b k in absurd (omega arith)) (λ b. (omega arith, omega arith)) (le_or_lt i S.n)
 

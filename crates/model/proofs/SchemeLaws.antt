@@ -16,7 +16,7 @@ use Rattle.base.specs.First.{least, some_if}
 use Rattle.base.proofs.TestLaws.{and_left, and_right, or_cases, true_or_false}
 use Rattle.base.proofs.BelowLaws.{all-at}
 use Rattle.base.proofs.FirstLaws.{first-same, least-none_of, least-same}
-use Rattle.base.proofs.ListLaws.{get_d_list}
+use Rattle.base.proofs.ListLaws.{get_or-list}
 use Rattle.model.specs.Bytes.{on_side, byte, names_second, dimension_of, places_of, nodes_of, has_donor, kind_at}
 use Rattle.model.specs.Bytes.{word_at, donor_of, hook_bytes, second_of, arc_count, arc_byte}
 use Rattle.model.specs.Bytes.{up_to}
@@ -96,15 +96,15 @@ module _ (b : List ℕ) (q : in_form b ≡ true) where
   value-orbit p h =
       let few = places-few in
       let n3 = small in
-      get_d_list 4 p _ 0 (omega arith) ∙ up-to _ _ _ _ h
+      get_or-list 4 p _ 0 (omega arith) ∙ up-to _ _ _ _ h
 
   pub value-kind : (s : ℕ) → s < nodes_of b → kind (scheme_of b) s ≡ kind_at b s
   unfolding scheme_of
-  value-kind s h = let few = nodes-few in get_d_list 16 s _ 0 (omega arith) ∙ up-to _ _ _ _ h
+  value-kind s h = let few = nodes-few in get_or-list 16 s _ 0 (omega arith) ∙ up-to _ _ _ _ h
 
   value-donor : (s : ℕ) → s < nodes_of b → donor (scheme_of b) s ≡ donor_of b s
   unfolding scheme_of
-  value-donor s h = let few = nodes-few in get_d_list 16 s _ 0 (omega arith) ∙ up-to _ _ _ _ h
+  value-donor s h = let few = nodes-few in get_or-list 16 s _ 0 (omega arith) ∙ up-to _ _ _ _ h
 
   words-at : (side : Side) (s p : ℕ) → s < nodes_of b → p < places_of b → get_or (words_of b side) (4 * s + p) 255 ≡ word_at b side s p
   unfolding words_of
@@ -114,7 +114,7 @@ module _ (b : List ℕ) (q : in_form b ≡ true) where
       let c16 = nodes-few in
       let at-s : (4 * s + p) / 4 ≡ s = omega arith in
       let at_p : (4 * s + p) % 4 ≡ p = omega arith in
-      get_d_list 64 (4 * s + p) _ 255 (omega arith)
+      get_or-list 64 (4 * s + p) _ 255 (omega arith)
       ∙ ap₂ (λ (x y : ℕ). up_to (nodes_of b) x (up_to (places_of b) y (word_at b side x y) 255) 255) at-s at_p
       ∙ up-to _ _ _ _ h ∙ up-to _ _ _ _ l
 
@@ -122,7 +122,7 @@ module _ (b : List ℕ) (q : in_form b ≡ true) where
   unfolding words_of
   words-out side s p h l k =
       let at-s : (4 * s + p) / 4 ≡ s = omega arith in
-      get_d_list 64 (4 * s + p) _ 255 (omega arith)
+      get_or-list 64 (4 * s + p) _ 255 (omega arith)
       ∙ ap (λ (x : ℕ). up_to (nodes_of b) x (up_to (places_of b) ((4 * s + p) % 4) (word_at b side x ((4 * s + p) % 4)) 255) 255) at-s
       ∙ ap (λ (c : Bool). cond c (up_to (places_of b) ((4 * s + p) % 4) (word_at b side s ((4 * s + p) % 4)) 255) 255) (le-ltb s (nodes_of b) h)
 
@@ -143,7 +143,7 @@ module _ (b : List ℕ) (q : in_form b ≡ true) where
       let few = arcs-few side in
       let at_a : (3 * a + f) / 3 ≡ a = omega arith in
       let at_f : (3 * a + f) % 3 ≡ f = omega arith in
-      get_d_list 192 (3 * a + f) _ 0 (omega arith)
+      get_or-list 192 (3 * a + f) _ 0 (omega arith)
       ∙ ap₂ (λ (x y : ℕ). up_to (arc_count b side) x (arc_byte b side x y) 0) at_a at_f
       ∙ up-to _ _ _ _ h
 
@@ -189,7 +189,7 @@ module _ (b : List ℕ) (q : in_form b ≡ true) where
   targets-at side s i h l =
       let at-s : (4 * s + i) / 4 ≡ s = omega arith in
       let at_i : (4 * s + i) % 4 ≡ i = omega arith in
-      get_d_list 64 (4 * s + i) _ 0 (omega arith)
+      get_or-list 64 (4 * s + i) _ 0 (omega arith)
       ∙ ap₂ (λ (x y : ℕ). Option.get_or (far_end (arc_byte b side) (arc_count b side) x y) (placed_at b side (4 * s + i))) at-s at_i
       ∙ ap₂ (λ (o : Option ℕ) (p : ℕ). Option.get_or o p) (end_same side s i) (place_is_lem side s i h l)
       ∙ code_of (far_end (arc_part (scheme_of b) side) (arc_count b side) s i) (least (places_of b) (reads (scheme_of b) side s i))

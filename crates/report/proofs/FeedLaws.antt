@@ -7,7 +7,7 @@ use lib.ListN.{length, take, drop, length-replicate, length-drop}
 use lib.Seq.{take_all}
 use borrow.Author.Tests.{le-leb, lt-leb}
 use Rattle.base.specs.Digits.{number_at}
-use Rattle.base.proofs.ListLaws.{get_d_replicate-all}
+use Rattle.base.proofs.ListLaws.{get_or-replicate_all}
 use Rattle.model.specs.Calls.{count_size}
 use Rattle.numbers.proofs.PlaceLaws.{put_then}
 use Rattle.program.specs.Lines.{refused_line}
@@ -46,7 +46,7 @@ module _ (s : State) (sums p out : List ℕ) (r : Fed) (out' : List ℕ) where
 pub room-none : (left : ℕ) (sums : List ℕ) → sums ≡ none → left ≤ most_maps → SumsRoom left sums
 room-none left sums e h = rw e (record {
   six = length-replicate {A = ℕ} count_size 0;
-  few = λ i. omega (arith, get_d_replicate-all {A = ℕ} count_size i 0);
+  few = λ i. omega (arith, get_or-replicate_all {A = ℕ} count_size i 0);
 })
 
 module _ (sums p out : List ℕ) (r : Fed) (out' : List ℕ) where

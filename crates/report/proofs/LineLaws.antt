@@ -6,7 +6,7 @@ use native.Mathlib.Omega.{arith}
 use lib.ListN.{length, get_or, length-append}
 use lib.Seq.{ext_get_or}
 use Rattle.base.specs.Lists.{list, list_from, joined}
-use Rattle.base.proofs.ListLaws.{get_d_list, length-list}
+use Rattle.base.proofs.ListLaws.{get_or-list, length-list}
 use Rattle.model.specs.Calls.{count_size}
 use Rattle.numbers.specs.Places.{Put}
 use Rattle.program.specs.Lines.{fields, numbers_line}
@@ -21,7 +21,7 @@ module _ (c : List ℕ) (six : length c ≡ count_size) where
   count_numbers : count_line c ≡ numbers_line c
   unfolding count_line
   count_numbers = ap numbers_line (ext_get_or 0 _ _ (length-list count_size _ ∙ sym six)
-      (λ k l. get_d_list count_size k _ 0 (omega (arith, l, length-list count_size (λ i. get_or c i 0)))))
+      (λ k l. get_or-list count_size k _ 0 (omega (arith, l, length-list count_size (λ i. get_or c i 0)))))
 
   pub count_room : (at size : ℕ) → at + length (count_line c) ≤ size → at + length (numbers_line c) ≤ size
   count_room at size h = rw (← count_numbers) h

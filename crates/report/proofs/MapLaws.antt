@@ -10,7 +10,7 @@ use borrow.Author.Tests.{eq-eqb, ne_eqb, eqb-true, le-ltb}
 use Rattle.base.specs.First.{some_if, ◌or_else◌, there}
 use Rattle.base.proofs.TestLaws.{and_of, true_or_false}
 use Rattle.base.proofs.BelowLaws.{le_or_lt}
-use Rattle.base.proofs.ListLaws.{get_d_list, length-list}
+use Rattle.base.proofs.ListLaws.{get_or-list, length-list}
 use Rattle.model.specs.Answer.{number}
 use Rattle.model.specs.Map.{Map, view, table_size}
 use Rattle.model.specs.Count.{counts}
@@ -92,7 +92,7 @@ module _ (f : List ℕ) (k : ℕ) (no : (k ≡ number (open_answer f)) × (k ≡
 
 sum-at : (a c : List ℕ) (i : ℕ) → length a ≡ count_size → length c ≡ count_size → get_or (sum a c) i 0 ≡ get_or a i 0 + get_or c i 0
 unfolding sum
-sum-at a c i x y = ⊎_elim (λ h. rw (past a x h, past c y h, past (sum a c) (length-list count_size _) h) refl) (λ h. get_d_list count_size i _ 0 h)
+sum-at a c i x y = ⊎_elim (λ h. rw (past a x h, past c y h, past (sum a c) (length-list count_size _) h) refl) (λ h. get_or-list count_size i _ 0 h)
     (le_or_lt count_size i)
   where
     past : (l : List ℕ) → length l ≡ count_size → count_size ≤ i → get_or l i 0 ≡ 0

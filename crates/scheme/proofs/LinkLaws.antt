@@ -19,7 +19,7 @@ use Rattle.base.specs.Lists.{list}
 use Rattle.base.proofs.TestLaws.{and_left, and_right, and_of, and_no_right, impossible}
 use Rattle.base.proofs.BelowLaws.{any_at, any_of, count-step, any_same}
 use Rattle.base.proofs.FirstLaws.{some_not_none, or_else_cases, or_else_none, when-at, when-none, first_step, least_at}
-use Rattle.base.proofs.ListLaws.{get_d_list, length-list}
+use Rattle.base.proofs.ListLaws.{get_or-list, length-list}
 use Rattle.base.proofs.FilledLaws.{list_same, list_all}
 use Rattle.model.specs.Bytes.{places_of, nodes_of, word_at}
 use Rattle.model.specs.Arc.{touching, far_end}
@@ -67,9 +67,9 @@ flags_set n f g {l} s e hs gs others =
     ext_get_or false _ _ (length-set l s true ∙ long ∙ sym (length-list n g)) (λ k h.
     let h' : k < n = omega (arith, length-set l s true) in
     by_cases (ℕ_discrete k s)
-    (λ q. ap (λ (j : ℕ). get_or (set l s true) j false) q ∙ get_or-set_same l s true false (omega arith) ∙ sym (get_d_list n k g false h' ∙ ap g q ∙ gs))
-    (λ ne. get_or-set_other l s k true false ne ∙ ap (λ (m : List Bool). get_or m k false) e ∙ get_d_list n k f false h' ∙ others k ne
-    ∙ sym (get_d_list n k g false h')))
+    (λ q. ap (λ (j : ℕ). get_or (set l s true) j false) q ∙ get_or-set_same l s true false (omega arith) ∙ sym (get_or-list n k g false h' ∙ ap g q ∙ gs))
+    (λ ne. get_or-set_other l s k true false ne ∙ ap (λ (m : List Bool). get_or m k false) e ∙ get_or-list n k f false h' ∙ others k ne
+    ∙ sym (get_or-list n k g false h')))
 
 -- ---- targets by ends and counts
 

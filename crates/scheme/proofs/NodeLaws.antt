@@ -14,7 +14,7 @@ use Rattle.base.specs.Filled.{filled}
 use Rattle.base.specs.Lists.{list}
 use Rattle.base.proofs.TestLaws.{and_left, and_right, and_of, refuted, same_test}
 use Rattle.base.proofs.BelowLaws.{all-at, all_none, all_more}
-use Rattle.base.proofs.ListLaws.{get_d_list}
+use Rattle.base.proofs.ListLaws.{get_or-list}
 use Rattle.base.proofs.FilledLaws.{filled_none, filled_more, filled-all, same-ltb}
 use Rattle.model.specs.Bytes.{on_side, places_of, nodes_of, node_at, kind_at, up_to}
 use Rattle.model.specs.Codes.{placed, placed_at}
@@ -113,7 +113,7 @@ module _ (b : List ℕ) where
 module _ (b : List ℕ) {kinds : List ℕ} (few : nodes_of b ≤ 16) (same : kinds ≡ (scheme_of b).kinds) where
   pub kind-at : (s : ℕ) → s < nodes_of b → get_or kinds s 0 ≡ kind_at b s
   unfolding scheme_of
-  kind-at s h = ap (λ (m : List ℕ). get_or m s 0) same ∙ get_d_list 16 s _ 0 (omega arith) ∙ ap (λ (t : Bool). cond t (kind_at b s) 0) (lt-ltb _ _ h)
+  kind-at s h = ap (λ (m : List ℕ). get_or m s 0) same ∙ get_or-list 16 s _ 0 (omega arith) ∙ ap (λ (t : Bool). cond t (kind_at b s) 0) (lt-ltb _ _ h)
 
   -- a node in the form is on a side unless it is of the kind that may not occur there
   pub held-side : all_below (nodes_of b) (node_form b) ≡ true → {other : ℕ} → (other ≡ 3) ⊎ (other ≡ 1) → (s : ℕ) → s < nodes_of b

@@ -17,7 +17,7 @@ use Rattle.base.specs.First.{some_if, ◌or_else◌}
 use Rattle.base.specs.Lists.{list}
 use Rattle.base.proofs.TestLaws.{and_left, and_right, and_of, impossible}
 use Rattle.base.proofs.FirstLaws.{or_else_last}
-use Rattle.base.proofs.ListLaws.{get_d_list, length-list}
+use Rattle.base.proofs.ListLaws.{get_or-list, length-list}
 use Rattle.base.proofs.FilledLaws.{list_same}
 use Rattle.scheme.specs.Targets.{aimed}
 
@@ -64,7 +64,7 @@ module _ (E : ℕ → ℕ → Option ℕ) (D : ℕ → ℕ) where
   ends_at d s e hs hd =
       let same : (4 * s + d) / 4 ≡ s = omega arith in
       let dim : (4 * s + d) % 4 ≡ d = omega arith in
-      ap (λ (m : List ℕ). get_or m (4 * s + d) 0) e ∙ get_d_list 64 (4 * s + d) _ 0 (omega arith)
+      ap (λ (m : List ℕ). get_or m (4 * s + d) 0) e ∙ get_or-list 64 (4 * s + d) _ 0 (omega arith)
       ∙ ap₂ (λ (u i : ℕ). Option.get_or (E u i) (D (4 * s + d))) same dim
 
   -- the end at an entry is that of its node and dimension
@@ -91,12 +91,12 @@ module _ (E : ℕ → ℕ → Option ℕ) (D : ℕ → ℕ) where
       here k h q =
           let none' : E (k / 4) (k % 4) ≡ none = sym (same_end d s k hd q) ∙ empty in
           ap (λ (j : ℕ). get_or (set l (4 * s + d) to) j 0) q ∙ get_or-set_same l (4 * s + d) to 0 (omega (arith, long))
-          ∙ sym (get_d_list 64 k _ 0 h ∙ ap₂ (λ (o : Option ℕ) (t : Bool). Option.get_or (o or_else some_if t to) (D k)) none' (hits-here d s k hd q))
+          ∙ sym (get_or-list 64 k _ 0 h ∙ ap₂ (λ (o : Option ℕ) (t : Bool). Option.get_or (o or_else some_if t to) (D k)) none' (hits-here d s k hd q))
 
       kept : (k : ℕ) → k < 64 → (k ≡ 4 * s + d → ⊥)
           → get_or (set l (4 * s + d) to) k 0 ≡ get_or (list 64 (λ k. Option.get_or (more E d s to (k / 4) (k % 4)) (D k))) k 0
-      kept k h ne = get_or-set_other l (4 * s + d) k to 0 ne ∙ ap (λ (m : List ℕ). get_or m k 0) e ∙ get_d_list 64 k _ 0 h
-          ∙ sym (get_d_list 64 k _ 0 h ∙ ap (λ (t : Bool). Option.get_or (E (k / 4) (k % 4) or_else some_if t to) (D k)) (hits_else d s k ne)
+      kept k h ne = get_or-set_other l (4 * s + d) k to 0 ne ∙ ap (λ (m : List ℕ). get_or m k 0) e ∙ get_or-list 64 k _ 0 h
+          ∙ sym (get_or-list 64 k _ 0 h ∙ ap (λ (t : Bool). Option.get_or (E (k / 4) (k % 4) or_else some_if t to) (D k)) (hits_else d s k ne)
           ∙ ap (λ (o : Option ℕ). Option.get_or o (D k)) (or_else_last (E (k / 4) (k % 4))))
 
   -- if there was an end, nothing changes

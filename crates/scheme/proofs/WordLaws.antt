@@ -18,7 +18,7 @@ use Rattle.base.specs.Filled.{filled, stored}
 use Rattle.base.proofs.TestLaws.{and_left, and_right, and_of, or_left, or_right, or_rest, true_or_false, same_test}
 use Rattle.base.proofs.BelowLaws.{all-at, all_of}
 use Rattle.base.proofs.FirstLaws.{least-none_of, least-same}
-use Rattle.base.proofs.ListLaws.{get_d_list, length-list}
+use Rattle.base.proofs.ListLaws.{get_or-list, length-list}
 use Rattle.base.proofs.FilledLaws.{filled-over, stored-filled}
 use Rattle.model.specs.Bytes.{on_side, byte, dimension_of, places_of, nodes_of, kind_at, word_at, up_to}
 use Rattle.model.specs.Codes.{place_code, placed}
@@ -103,12 +103,12 @@ module _ (m : ℕ) (f : ℕ → ℕ) (z j : ℕ) {l : List ℕ} (e : l ≡ fille
   -- below the bound
   filled-low : (k : ℕ) → k < j → k < m → get_or l k 0 ≡ f k
   unfolding filled
-  filled-low k h u = ap (λ (x : List ℕ). get_or x k 0) e ∙ get_d_list m k _ 0 u ∙ ap (λ (t : Bool). cond t (f k) z) (lt-ltb _ _ h)
+  filled-low k h u = ap (λ (x : List ℕ). get_or x k 0) e ∙ get_or-list m k _ 0 u ∙ ap (λ (t : Bool). cond t (f k) z) (lt-ltb _ _ h)
 
   -- from the bound on
   filled_high : (k : ℕ) → j ≤ k → k < m → get_or l k 0 ≡ z
   unfolding filled
-  filled_high k h u = ap (λ (x : List ℕ). get_or x k 0) e ∙ get_d_list m k _ 0 u ∙ ap (λ (t : Bool). cond t (f k) z) (le-ltb _ _ h)
+  filled_high k h u = ap (λ (x : List ℕ). get_or x k 0) e ∙ get_or-list m k _ 0 u ∙ ap (λ (t : Bool). cond t (f k) z) (le-ltb _ _ h)
 
 -- ---- the kinds of a side
 

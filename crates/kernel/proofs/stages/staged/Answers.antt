@@ -15,7 +15,7 @@ use Rattle.conditions.specs.Verdict.{VerdictOf}
 use Rattle.conditions.specs.declared.Verdict.{Verdict}
 use Rattle.kernel.specs.Stages.{many_by}
 use Rattle.kernel.proofs.StageLaws.{form-refused, read-scheme, taken_is, fault_judged, judge_asks, found_none, found_some}
-use Rattle.kernel.proofs.StageLaws.{no_fault-accepted, no_fault-alone, stage_refused, stage_on}
+use Rattle.kernel.proofs.StageLaws.{no_fault_accepted, no_fault_alone, stage_refused, stage_on}
 use Rattle.kernel.proofs.stages.staged.Goals as goal
 
 -- what was read of bytes that the call takes
@@ -49,8 +49,8 @@ apply_at-requires c =
     let s = scheme-is D _ _ c.read-r.ensures _ c.taken.ensures t in
     let none = found_none _ (sym c.in_default.is ∙ fault-is D _ _ c.read-r.ensures _ c.taken.ensures t _ verdict) in record {
       fact = c.requires.fact;
-      accepted = no_fault-accepted D _ _ none s;
-      other_value = no_fault-alone D _ _ none s c.first.ensures c.second.ensures;
+      accepted = no_fault_accepted D _ _ none s;
+      other_value = no_fault_alone D _ _ none s c.first.ensures c.second.ensures;
       tree_of = verdict.tree;
       sized = c.requires.sized;
       store_len = c.requires.store_len;
