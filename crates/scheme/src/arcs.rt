@@ -54,6 +54,7 @@ fn arc_fits(n: u8, nodes: u8, kinds: &[u8; 16], other: u8, low: u32, d: u8, s: u
 
 // Enters an arc of dimension d from node s to `to`. It becomes the target unless an explicit arc is there. If any arc is there, explicit or implicit,
 // the node now has two.
+#[tactic(auto, unfolding(crate::specs::Targets::aimed, crate::specs::Targets::crowded))]
 fn aim(targets: &mut [u8; 64], twice: &mut [bool; 16], s: usize, d: usize, to: u8)
     requires { (s < 16) × (d < 4) }
     ensures targets_after { targets.new ≡ aimed targets.old (4 * s + d) to }

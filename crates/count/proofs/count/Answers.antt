@@ -1,10 +1,8 @@
 -- `count::count` meets its contract: each kind of cell is the orbits of the dimensions that are listed for it.
 use native.Mathlib.Omega.{arith}
-use borrow.Author.Rules.{rules}
 use Rattle.base.proofs.BelowLaws.{count_le}
 use Rattle.model.specs.Map.{view, live}
-use Rattle.count.proofs.CellKindLaws.{vertex_links, edge_links, face_links, vertices-listed, edges-listed, faces-listed}
-use Rattle.count.proofs.CellKindLaws.{kind-ready, pieces_ready, counts_are}
+use Rattle.count.proofs.CellKindLaws.{counts_are}
 use Rattle.count.proofs.count.Goals as goal
 
 pub overflow_cast-result : goal.overflow_cast-result
@@ -14,5 +12,5 @@ overflow_cast-result c =
 
 pub returns : goal.returns
 returns c =
-    counts_are _ _ c.requires.fact c.requires.well_formed c.wide-k.ensures c.requires.darts_value c.orbits-vertices.ensures c.orbits-edges.ensures
+    counts_are _ _ c.requires.fact c.wide-k.ensures c.requires.darts_value c.orbits-vertices.ensures c.orbits-edges.ensures
     c.orbits-faces.ensures c.orbits-pieces.ensures c.volumes-volumes.ensures

@@ -2,7 +2,6 @@
 use mathlib.Core.Path.{ap}
 use Prim.Native.Nat.{ℕ}
 use lib.Dec.{eqb}
-use borrow.Author.Rules.{rules}
 use Rattle.count.proofs.FreshLaws.{fresh-marked, fresh-free}
 use Rattle.count.proofs.fresh.Goals as goal
 

@@ -2,11 +2,10 @@
 use mathlib.Core.Path.{◌≡◌}
 use mathlib.Core.Logic.{⊎_elim}
 use native.Mathlib.Omega.{arith}
-use borrow.Author.Rules.{rules}
-use Rattle.count.proofs.CellKindLaws.{all_links, volumes-listed, kind-ready, kind-cells, volumes-none, volumes-some}
+use Rattle.count.proofs.CellKindLaws.{all_links, volumes-listed, kind-cells, volumes-some}
 use Rattle.count.proofs.volumes.Goals as goal
 
 pub returns : goal.returns
 returns c =
     let three : c.args.n ≡ 3 = ⊎_elim (λ e. absurd (omega (arith, c.if-n-eq2.false, e))) (λ e. e) c.requires.fact in
-    volumes-some _ _ three (kind-cells _ _ c.requires.fact c.requires.well_formed all_links 3 volumes-listed c.wide.ensures c.orbits.ensures)
+    volumes-some _ _ three (kind-cells _ _ c.requires.fact all_links 3 volumes-listed c.wide.ensures c.orbits.ensures)

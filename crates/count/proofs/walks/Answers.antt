@@ -1,11 +1,6 @@
 -- `count::walks` meets its contract.
-use Prim.Native.Nat.{◌-◌}
 use mathlib.Core.Path.{sym, ◌∙◌}
-use mathlib.Core.Logic.{⊎_elim}
-use native.Mathlib.Omega.{arith}
-use lib.ListN.{get_or}
-use Rattle.model.specs.Map.{view}
-use Rattle.count.proofs.WalksLaws.{Counting, counting-none, counting-begun, fresh-live, counting_more, counting-idle, counting-done}
+use Rattle.count.proofs.WalksLaws.{counting-none, counting-begun, fresh-live, counting_more, counting-idle, counting-done}
 use Rattle.count.proofs.walks.Goals as goal
 use Rattle.count.proofs.walks.Goals.{then-fresh, else-fresh}
 

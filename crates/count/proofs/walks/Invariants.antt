@@ -1,11 +1,8 @@
 -- The loop's invariant is `Counting`; the measure is the slots that are left.
 use Prim.Native.Nat.{◌-◌}
-use mathlib.Core.Path.{sym, ◌∙◌}
-use mathlib.Core.Logic.{⊎_elim}
-use native.Mathlib.Omega.{arith}
 use lib.ListN.{get_or}
 use Rattle.model.specs.Map.{view}
-use Rattle.count.proofs.WalksLaws.{Counting, counting-none, counting-begun, fresh-live, counting_more, counting-idle, counting-done}
+use Rattle.count.proofs.WalksLaws.{Counting}
 use Rattle.count.proofs.walks.Given as goal
 
 abbrev pub invariant-loop-x : goal.invariant-loop-x

@@ -1,6 +1,5 @@
 -- `exports::gmap_check_scheme` meets its contract.
 use mathlib.Core.List.{[]}
-use borrow.Author.Rules.{rules}
 use Rattle.model.specs.Sequence.{scheme_check}
 use Rattle.exports.proofs.PackLaws.{pack_ready, packed-is}
 use Rattle.exports.proofs.gmap_check_scheme.Goals as goal

@@ -1,5 +1,4 @@
 -- `exports::gmap_check_table` meets its contract.
-use borrow.Author.Rules.{rules}
 use Rattle.model.specs.Sequence.{table_check}
 use Rattle.exports.proofs.PackLaws.{pack_ready, packed-is}
 use Rattle.exports.proofs.gmap_check_table.Goals as goal

@@ -1,5 +1,4 @@
 -- `exports::gmap_count` meets its contract.
-use borrow.Author.Rules.{rules}
 use Rattle.model.specs.Sequence.{count}
 use Rattle.exports.proofs.PackLaws.{pack_ready, packed-is}
 use Rattle.exports.proofs.gmap_count.Goals as goal

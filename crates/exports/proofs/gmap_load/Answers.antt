@@ -1,5 +1,4 @@
 -- `exports::gmap_load` meets its contract.
-use borrow.Author.Rules.{rules}
 use Rattle.model.specs.Sequence.{load}
 use Rattle.exports.proofs.PackLaws.{pack_ready, packed-is}
 use Rattle.exports.proofs.gmap_load.Goals as goal

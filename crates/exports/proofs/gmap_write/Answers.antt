@@ -1,5 +1,4 @@
 -- `exports::gmap_write` meets its contract.
-use borrow.Author.Rules.{rules}
 use Rattle.model.specs.Sequence.{write}
 use Rattle.exports.proofs.PackLaws.{pack_ready, packed-is}
 use Rattle.exports.proofs.gmap_write.Goals as goal

@@ -1,5 +1,4 @@
 -- `exports::packed_edit` meets its contract.
-use borrow.Author.Rules.{rules}
 use Rattle.model.specs.Sequence.{edit}
 use Rattle.exports.proofs.PackLaws.{pack_ready, packed-is}
 use Rattle.exports.proofs.packed_edit.Goals as goal

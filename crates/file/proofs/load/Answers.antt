@@ -3,7 +3,6 @@ use Prim.Native.Nat.{ℕ}
 use mathlib.Core.Path.{refl, ap, ◌∙◌}
 use mathlib.Core.Logic.{inl}
 use lib.ListN.{replicate}
-use borrow.Author.Rules.{rules}
 use Rattle.model.specs.File.{width}
 use Rattle.file.proofs.FormLaws.{three_le}
 use Rattle.file.proofs.LoadLaws.{load-broken, load_unordered, load-formed, load-done, load-file, darts_are, darts_fit_lem}

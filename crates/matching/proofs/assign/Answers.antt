@@ -1,7 +1,5 @@
 -- `matching::assign` meets its contract.
 use mathlib.Core.Path.{◌∙◌}
-use borrow.Author.Rules.{rules}
-use borrow.Author.Tests.{not-true, not-false}
 use Rattle.matching.proofs.AssignLaws.{firm, ready, matched-at, unmatched}
 use Rattle.matching.proofs.assign.Goals as goal
 

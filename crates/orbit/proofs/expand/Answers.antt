@@ -1,12 +1,11 @@
 -- `orbit::expand` meets its contract.
-use Prim.Native.Nat.{◌-◌, ◌≤◌, ◌<◌}
+use Prim.Native.Nat.{◌<◌}
 use mathlib.Core.Path.{◌≡◌, ap, ◌∙◌}
 use native.Mathlib.Omega.{arith}
 use lib.ListN.{get_or}
 use Rattle.model.specs.Map.{view}
 use Rattle.orbit.specs.Store.{place}
-use Rattle.orbit.specs.Walk.{Expanded}
-use Rattle.orbit.proofs.WalkLaws.{expanded_none, expanded_more}
+use Rattle.orbit.proofs.WalkLaws.{expanded_more}
 use Rattle.orbit.proofs.expand.Goals as goal
 
 pub returns-then-p-k : goal.returns-then-p-k

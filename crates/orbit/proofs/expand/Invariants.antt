@@ -1,12 +1,8 @@
 -- The loop's invariant is the contract itself, at the first p links.
-use Prim.Native.Nat.{◌-◌, ◌≤◌, ◌<◌}
-use mathlib.Core.Path.{◌≡◌, ap, ◌∙◌}
-use native.Mathlib.Omega.{arith}
+use Prim.Native.Nat.{◌-◌, ◌≤◌}
 use lib.ListN.{get_or}
 use Rattle.model.specs.Map.{view}
-use Rattle.orbit.specs.Store.{place}
 use Rattle.orbit.specs.Walk.{Expanded}
-use Rattle.orbit.proofs.WalkLaws.{expanded_none, expanded_more}
 use Rattle.orbit.proofs.expand.Given as goal
 
 abbrev pub invariant-loop-p : goal.invariant-loop-p

@@ -1,9 +1,6 @@
 -- `orbit::follow` meets its contract: y has a place already (`followed-old`), or takes the next (`followed-new`).
 use mathlib.Core.Path.{sym, ◌∙◌}
-use native.Mathlib.Omega.{arith}
-use borrow.Author.Rules.{rules}
 use Rattle.orbit.specs.Store.{mark}
-use Rattle.orbit.proofs.StoreLaws.{mark_le}
 use Rattle.orbit.proofs.WalkLaws.{followed-old, followed-new}
 use Rattle.orbit.proofs.follow.Goals as goal
 

@@ -1,9 +1,5 @@
 -- `orbit::walk` meets its contract.
-use Prim.Native.Nat.{◌-◌}
-use native.Mathlib.Omega.{arith}
-use lib.ListN.{get_or}
-use Rattle.model.specs.Map.{view}
-use Rattle.orbit.proofs.WalkLaws.{Walking, walking-first, walking-more, walking-live, walking-done}
+use Rattle.orbit.proofs.WalkLaws.{walking-first, walking-more, walking-live, walking-done}
 use Rattle.orbit.proofs.walk.Goals as goal
 
 pub loop-head-init : goal.loop-head-init

@@ -1,10 +1,9 @@
 -- The loop's invariant is `Walking`, over the store in which d took its place; the measure is
 -- the slots less `head`, which is below `tail`, and there are no more places than slots.
 use Prim.Native.Nat.{◌-◌}
-use native.Mathlib.Omega.{arith}
 use lib.ListN.{get_or}
 use Rattle.model.specs.Map.{view}
-use Rattle.orbit.proofs.WalkLaws.{Walking, walking-first, walking-more, walking-live, walking-done}
+use Rattle.orbit.proofs.WalkLaws.{Walking}
 use Rattle.orbit.proofs.walk.Given as goal
 
 abbrev pub invariant-loop-head : goal.invariant-loop-head

@@ -1,6 +1,5 @@
 -- `file::form::counts` meets its contract.
 use mathlib.Core.Path.{ap, ◌∙◌}
-use borrow.Author.Rules.{rules}
 use Rattle.base.specs.Digits.{number_at}
 use Rattle.file.specs.Form.{counts_ok}
 use Rattle.file.proofs.FormLaws.{pair_no, pair_is}

@@ -3,7 +3,6 @@ use mathlib.Core.Path.{sym, ◌∙◌}
 use native.Mathlib.Omega.{arith}
 use Rattle.numbers.proofs.PlaceLaws.{wide-few}
 use Rattle.file.proofs.FormLaws.{frame_short, frame_head, frame_size, frame_counts, frame_is}
-use borrow.Author.Rules.{rules}
 use Rattle.file.proofs.form.frame.Goals as goal
 
 pub overflow_mul-w : goal.overflow_mul-w

@@ -22,12 +22,17 @@ unfolding all_below rises
 loop-k-init c = (omega arith, omega arith, refl)
 
 pub number-low-requires : goal.number-low-requires
-number-low-requires c =
-    record { width = c.requires.0; w_in_bounds = omega (arith, c.requires.1, c.loop-k.invariant.1, mul-le-mul_left c.args.w c.loop-k.invariant.0) }
+number-low-requires c = record {
+  width = c.requires.0;
+  w_in_bounds = omega (arith, c.requires.1, c.loop-k.invariant.1, mul-le-mul_left c.args.w c.loop-k.invariant.0);
+}
 
 pub number-high-requires : goal.number-high-requires
 number-high-requires c =
-    let more : c.loop-k.k + 1 ≤ c.args.pairs = omega arith in record { width = c.requires.0; w_in_bounds = omega (arith, c.number-low.ensures.next, c.requires.1, c.loop-k.invariant.1, mul-le-mul_left c.args.w more) }
+    let more : c.loop-k.k + 1 ≤ c.args.pairs = omega arith in record {
+      width = c.requires.0;
+      w_in_bounds = omega (arith, c.number-low.ensures.next, c.requires.1, c.loop-k.invariant.1, mul-le-mul_left c.args.w more);
+    }
 
 pub loop-k-preserved : goal.loop-k-preserved
 loop-k-preserved c =
@@ -39,7 +44,7 @@ loop-k-preserved c =
       omega arith,
       at,
       elim c.if-high-low.branch [
-          then-high-low y ↦ y.good-is ∙ rise_stops _ _ _ _ _ low high y.if-high-low.true
+        | then-high-low y ↦ y.good-is ∙ rise_stops _ _ _ _ _ low high y.if-high-low.true
         | else-high-low y ↦ y.good-is ∙ rise_more _ _ _ _ _ low high _ inv.2 y.if-high-low.false
       ],
     )

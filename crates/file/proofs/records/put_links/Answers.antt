@@ -1,6 +1,5 @@
 -- `file::records::put_links` meets its contract.
 use Rattle.file.proofs.RecordLaws.{links-put}
-use borrow.Author.Rules.{rules}
 use Rattle.file.proofs.records.put_links.Goals as goal
 
 pub returns : goal.returns

@@ -1,12 +1,13 @@
 -- `file::sections::dart` meets its contract.
 use native.Mathlib.Omega.{arith}
 use Rattle.file.proofs.SectionLaws.{part-slot, part-tag, part-links, size-slot, size-tag, size-links}
-use borrow.Author.Rules.{rules}
 use Rattle.file.proofs.sections.dart.Goals as goal
 
 pub put-requires : goal.put-requires
-put-requires c =
-    record { width = c.requires.kind.width; w_in_bounds = omega (arith, c.requires.x_lt_slots.1, size-slot c.args.w c.args.n c.args.part c.in-Slots.is) }
+put-requires c = record {
+  width = c.requires.kind.width;
+  w_in_bounds = omega (arith, c.requires.x_lt_slots.1, size-slot c.args.w c.args.n c.args.part c.in-Slots.is);
+}
 
 pub put_four-requires : goal.put_four-requires
 put_four-requires c =
@@ -15,7 +16,11 @@ put_four-requires c =
 
 pub links-requires : goal.links-requires
 links-requires c =
-    let a = c.args in record { kind = search rules; sized = search rules; x_lt_slots = (search rules, omega (arith, size-links a.w a.n a.part c.in-Links.is)) }
+    let a = c.args in record {
+      kind = c.requires.kind;
+      sized = c.requires.sized;
+      x_lt_slots = (c.requires.x_lt_slots.0, omega (arith, size-links a.w a.n a.part c.in-Links.is));
+    }
 
 pub returns-in-Slots : goal.returns-in-Slots
 returns-in-Slots c = part-slot _ _ _ _ _ _ _ _ _ c.in-Slots.is c.put.ensures

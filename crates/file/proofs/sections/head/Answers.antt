@@ -2,7 +2,6 @@
 use native.Mathlib.Omega.{arith}
 use Rattle.file.specs.Sections.{head_bytes}
 use Rattle.numbers.proofs.PlaceLaws.{put_then, put-room}
-use borrow.Author.Rules.{rules}
 use Rattle.file.proofs.sections.head.Goals as goal
 
 pub put-requires : goal.put-requires

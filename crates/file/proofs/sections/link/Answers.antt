@@ -1,6 +1,5 @@
 -- `file::sections::link` meets its contract.
 use Rattle.numbers.proofs.PlaceLaws.{put-value}
-use borrow.Author.Rules.{rules}
 use Rattle.file.proofs.sections.link.Goals as goal
 
 pub returns : goal.returns

@@ -2,7 +2,6 @@
 use Prim.Native.Nat.{◌-◌, ◌≤◌}
 use mathlib.Core.Path.{◌∙◌}
 use native.Mathlib.Omega.{arith}
-use borrow.Author.Rules.{rules}
 use Rattle.model.specs.Map.{view}
 use Rattle.numbers.specs.Places.{Put}
 use Rattle.file.specs.Sections.{darts_bytes}
@@ -22,24 +21,22 @@ loop-x-init c = (omega arith, darts-none _ _ _ _ _ _)
 
 pub dart-at-requires : goal.dart-at-requires
 dart-at-requires c =
-    record { kind = c.requires.kind; sized = c.requires.sized; x_lt_slots = (
-          c.loop-x-test.true,
-          darts-room _ _ _ _ _ _ _ _ _ c.loop-x.invariant.1 _ c.state.ensures c.if-state-eq1.true
-              c.loop-x-test.true _ c.requires.live_value (put-room _ _ _ _ _ _ c.put-at.ensures _ (omega arith)),
-        ) }
+    let room = put-room _ _ _ _ _ _ c.put-at.ensures _ (omega arith) in
+    let part = darts-room _ _ _ _ _ _ _ _ _ c.loop-x.invariant.1 _ c.state.ensures c.if-state-eq1.true c.loop-x-test.true _ c.requires.live_value room in
+    record { kind = c.requires.kind; sized = c.requires.sized; x_lt_slots = (c.loop-x-test.true, part) }
 
 pub loop-x-preserved : goal.loop-x-preserved
 loop-x-preserved c =
     let inv = c.loop-x.invariant in
     elim c.if-state-eq1.branch [
-        then-state-eq1 y ↦ (
-          omega arith,
-          rw (y.out-is, y.at-is) (darts-live _ _ _ _ _ _ _ _ _ inv.1 _ c.state.ensures y.if-state-eq1.true _ _ y.dart-at.ensures),
-        )
+      | then-state-eq1 y ↦ (
+        omega arith,
+        rw (y.out-is, y.at-is) (darts-live _ _ _ _ _ _ _ _ _ inv.1 _ c.state.ensures y.if-state-eq1.true _ _ y.dart-at.ensures),
+      )
       | else-state-eq1 y ↦ (
-          omega arith,
-          rw (y.out-is, y.at-is) (darts-dead _ _ _ _ _ _ _ _ _ inv.1 _ c.state.ensures y.if-state-eq1.false),
-        )
+        omega arith,
+        rw (y.out-is, y.at-is) (darts-dead _ _ _ _ _ _ _ _ _ inv.1 _ c.state.ensures y.if-state-eq1.false),
+      )
     ]
 
 pub shape_of-out : goal.shape_of-out

@@ -1,9 +1,6 @@
 -- `matching::arcs::arc` meets its contract.
-use Prim.Native.Nat.{◌<◌}
 use mathlib.Core.Path.{refl}
-use native.Mathlib.Omega.{arith}
-use borrow.Author.Rules.{rules}
-use Rattle.matching.proofs.ArcTestLaws.{code-none, code-explicit, code-hook, code-implicit, arc-read, firm-node, firm-explicit, firm-implicit}
+use Rattle.matching.proofs.ArcTestLaws.{code-none, code-explicit, code-hook, code-implicit, arc-read}
 use Rattle.matching.proofs.arcs.arc.Goals as goal
 
 pub returns-then-code-eq255 : goal.returns-then-code-eq255

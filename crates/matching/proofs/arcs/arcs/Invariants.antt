@@ -2,12 +2,8 @@
 use Prim.Native.Nat.{◌*◌, ◌-◌, ◌≤◌}
 use mathlib.Core.Path.{◌≡◌}
 use mathlib.Core.Bool.{true}
-use native.Mathlib.Omega.{arith}
-use borrow.Author.Rules.{rules}
-use borrow.Author.Tests.{not-true, not-false}
 use Rattle.model.specs.Map.{view}
 use Rattle.matching.specs.ArcTests.{arcs_test}
-use Rattle.matching.proofs.ArcTestLaws.{arcs-none, arcs-more, arcs_stop, arcs-done}
 use Rattle.matching.proofs.arcs.arcs.Given as goal
 
 abbrev pub invariant-loop-k : goal.invariant-loop-k

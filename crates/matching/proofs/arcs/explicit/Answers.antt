@@ -1,6 +1,5 @@
 -- `matching::arcs::explicit` meets its contract.
 use mathlib.Core.Path.{refl, ◌∙◌}
-use borrow.Author.Rules.{rules}
 use Rattle.matching.proofs.ArcTestLaws.{explicit-later, explicit-tree, explicit_tested}
 use Rattle.matching.proofs.arcs.explicit.Goals as goal
 

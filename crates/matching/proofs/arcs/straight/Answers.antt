@@ -1,13 +1,8 @@
 -- `matching::arcs::straight` meets its contract.
-use Prim.Native.Nat.{◌-◌, ◌≤◌}
-use mathlib.Core.Path.{◌≡◌}
 use mathlib.Core.Bool.{true}
 use native.Mathlib.Omega.{arith}
-use borrow.Author.Rules.{rules}
 use borrow.Author.Tests.{ne_eqb}
-use Rattle.model.specs.Map.{view}
-use Rattle.matching.specs.ArcTests.{follows}
-use Rattle.matching.proofs.ArcTestLaws.{follows-none, follows-more, follows_stop, follows-done, dart-read}
+use Rattle.matching.proofs.ArcTestLaws.{follows-none, follows-more, follows_stop, dart-read}
 use Rattle.matching.proofs.arcs.straight.Goals as goal
 
 pub loop-r-init : goal.loop-r-init

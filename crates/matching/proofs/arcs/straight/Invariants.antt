@@ -2,12 +2,8 @@
 use Prim.Native.Nat.{◌-◌, ◌≤◌}
 use mathlib.Core.Path.{◌≡◌}
 use mathlib.Core.Bool.{true}
-use native.Mathlib.Omega.{arith}
-use borrow.Author.Rules.{rules}
-use borrow.Author.Tests.{ne_eqb}
 use Rattle.model.specs.Map.{view}
 use Rattle.matching.specs.ArcTests.{follows}
-use Rattle.matching.proofs.ArcTestLaws.{follows-none, follows-more, follows_stop, follows-done, dart-read}
 use Rattle.matching.proofs.arcs.straight.Given as goal
 
 abbrev pub invariant-loop-r : goal.invariant-loop-r

@@ -2,13 +2,9 @@
 use Prim.Native.Nat.{◌-◌, ◌≤◌}
 use mathlib.Core.Path.{◌≡◌}
 use mathlib.Core.Bool.{true}
-use native.Mathlib.Omega.{arith}
-use borrow.Author.Rules.{rules}
-use borrow.Author.Tests.{ne_eqb}
 use Rattle.model.specs.Map.{view}
 use Rattle.orbit.specs.Store.{next}
 use Rattle.matching.specs.ArcTests.{follows}
-use Rattle.matching.proofs.ArcTestLaws.{follows-none, follows-done, turned_more, turned_stop, dart-read, turn_below}
 use Rattle.matching.proofs.arcs.turned.Given as goal
 
 abbrev pub invariant-loop-r : goal.invariant-loop-r

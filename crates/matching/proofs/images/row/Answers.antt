@@ -1,9 +1,6 @@
 -- `matching::images::row` meets its contract.
-use Prim.Native.Nat.{◌-◌, ◌≤◌, ◌<◌}
+use Prim.Native.Nat.{◌<◌}
 use native.Mathlib.Omega.{arith}
-use borrow.Author.Rules.{rules}
-use Rattle.model.specs.Map.{view}
-use Rattle.matching.specs.Images.{Row}
 use Rattle.matching.proofs.ImageRowLaws.{mark-read, row-none, row-slot, row_below, row-clash, row_more, row_done}
 use Rattle.matching.proofs.images.row.Goals as goal
 
@@ -18,8 +15,8 @@ link-y-requires-clause-x_lt_slots c =
 pub word-requires-in-loop-r : goal.word-requires-in-loop-r
 word-requires-in-loop-r c =
     let below : c.link-y.result < c.args.slots =
-        row_below _ _ _ _ _ _ _ c.loop-r.invariant.1 c.requires.i_bound.2 (omega arith) _ _ c.word.ensures c.link-y.ensures _ c.loop-r-test.true
-        c.requires.row_linked in
+    row_below _ _ _ _ _ _ _ c.loop-r.invariant.1 c.requires.i_bound.2 (omega arith) _ _ c.word.ensures c.link-y.ensures _ c.loop-r-test.true
+    c.requires.row_linked in
     omega arith
 
 pub returns-then-word-ne0 : goal.returns-then-word-ne0
@@ -39,8 +36,8 @@ pub loop-r-preserved : goal.loop-r-preserved
 loop-r-preserved c =
     let inside = c.requires.i_bound in
     let below : c.link-y.result < c.args.slots =
-        row_below _ _ _ _ _ _ _ c.loop-r.invariant.1 inside.2 (omega arith) _ _ c.word.ensures c.link-y.ensures _ c.loop-r-test.true
-        c.requires.row_linked in (
+    row_below _ _ _ _ _ _ _ c.loop-r.invariant.1 inside.2 (omega arith) _ _ c.word.ensures c.link-y.ensures _ c.loop-r-test.true
+    c.requires.row_linked in (
       omega arith,
       row_more _ _ _ _ _ _ _ c.loop-r.invariant.1 inside.2 (omega arith) _ _ c.word.ensures c.link-y.ensures _ below c.push.ensures,
     )

@@ -1,10 +1,7 @@
 -- The loop's invariant: the first r darts of the row have their places.
-use Prim.Native.Nat.{◌-◌, ◌≤◌, ◌<◌}
-use native.Mathlib.Omega.{arith}
-use borrow.Author.Rules.{rules}
+use Prim.Native.Nat.{◌-◌, ◌≤◌}
 use Rattle.model.specs.Map.{view}
 use Rattle.matching.specs.Images.{Row}
-use Rattle.matching.proofs.ImageRowLaws.{mark-read, row-none, row-slot, row_below, row-clash, row_more, row_done}
 use Rattle.matching.proofs.images.row.Given as goal
 
 abbrev pub invariant-loop-r : goal.invariant-loop-r

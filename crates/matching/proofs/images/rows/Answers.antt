@@ -1,13 +1,8 @@
 -- `matching::images::rows` meets its contract.
-use Prim.Native.Nat.{◌*◌, ◌-◌, ◌≤◌, ◌<◌}
-use mathlib.Core.Path.{◌≡◌, refl}
-use native.Mathlib.Nat.{mul-le-mul_right}
+use Prim.Native.Nat.{◌<◌}
+use mathlib.Core.Path.{refl}
 use native.Mathlib.Omega.{arith}
-use borrow.Author.Rules.{rules}
-use borrow.Author.Tests.{not-true, not-false}
-use Rattle.model.specs.Map.{view}
-use Rattle.matching.specs.Images.{RowsGrown}
-use Rattle.matching.proofs.RowTreeLaws.{hooks-some, hooks-few, grown-hooks, node-below, node-fits, parent-fits, row_asks, rows_more}
+use Rattle.matching.proofs.RowTreeLaws.{grown-hooks, parent-fits, row_asks, rows_more}
 use Rattle.matching.proofs.RowTreeLaws.{rows-clash, rows-done}
 use Rattle.matching.proofs.images.rows.Goals as goal
 

@@ -1,14 +1,8 @@
 -- The loop's invariant: the first k entries of the trees have their rows, of which the last ends at `end`.
-use Prim.Native.Nat.{◌*◌, ◌-◌, ◌≤◌, ◌<◌}
-use mathlib.Core.Path.{◌≡◌, refl}
-use native.Mathlib.Nat.{mul-le-mul_right}
-use native.Mathlib.Omega.{arith}
-use borrow.Author.Rules.{rules}
-use borrow.Author.Tests.{not-true, not-false}
+use Prim.Native.Nat.{◌*◌, ◌-◌, ◌≤◌}
+use mathlib.Core.Path.{◌≡◌}
 use Rattle.model.specs.Map.{view}
 use Rattle.matching.specs.Images.{RowsGrown}
-use Rattle.matching.proofs.RowTreeLaws.{hooks-some, hooks-few, grown-hooks, node-below, node-fits, parent-fits, row_asks, rows_more}
-use Rattle.matching.proofs.RowTreeLaws.{rows-clash, rows-done}
 use Rattle.matching.proofs.images.rows.Given as goal
 
 abbrev pub invariant-loop-k : goal.invariant-loop-k

@@ -1,13 +1,8 @@
 -- `matching::retrace::expand` meets its contract.
-use Prim.Native.Nat.{◌+◌, ◌*◌, ◌-◌, ◌≤◌, ◌<◌}
-use mathlib.Core.Path.{◌≡◌}
+use Prim.Native.Nat.{◌<◌}
 use native.Mathlib.Omega.{arith}
-use lib.ListN.{length}
-use borrow.Author.Rules.{rules}
-use Rattle.model.specs.Map.{view}
-use Rattle.orbit.specs.At.{site}
-use Rattle.matching.specs.Retrace.{Longer, Standing, Retracing}
-use Rattle.matching.proofs.RetraceLaws.{few_positions, x_slot, dim-low, y_slot, q_next, expand_first, expand_more, expand_none, expand_done}
+use Rattle.matching.specs.Retrace.{Retracing}
+use Rattle.matching.proofs.RetraceLaws.{few_positions, x_slot, dim-low, y_slot, q_next, expand_more, expand_none, expand_done}
 use Rattle.matching.proofs.retrace.expand.Goals as goal
 
 pub returns-then-p-k : goal.returns-then-p-k
@@ -50,9 +45,9 @@ loop-p-preserved c =
     let v = c.loop-p.invariant in
     let position : c.loop-p.p < c.args.k = omega (arith, c.loop-p.invariant.0, c.if-p-k.false) in
     let more : (T : Retracing _ _ _ _ _ _ _) → _ = λ T.
-        let O = v.3 T in
-        expand_more T _ c.word-x.ensures _ _ position c.wide.ensures.0 O.0 O.1 v.1 _ _ c.link-y.ensures c.word-q.ensures c.meet-end.ensures
-        c.if-end-eq0.false in
+    let O = v.3 T in
+    expand_more T _ c.word-x.ensures _ _ position c.wide.ensures.0 O.0 O.1 v.1 _ _ c.link-y.ensures c.word-q.ensures c.meet-end.ensures
+    c.if-end-eq0.false in
     let T₀ = c.requires.retracing in
     (omega arith, (more T₀).0, (more T₀).1.0.taken.long, λ T. (more T).1)
 

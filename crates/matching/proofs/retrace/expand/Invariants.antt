@@ -1,13 +1,10 @@
 -- The loop's invariant: the links at the first p positions were followed.
-use Prim.Native.Nat.{◌+◌, ◌*◌, ◌-◌, ◌≤◌, ◌<◌}
+use Prim.Native.Nat.{◌+◌, ◌*◌, ◌-◌, ◌≤◌}
 use mathlib.Core.Path.{◌≡◌}
-use native.Mathlib.Omega.{arith}
 use lib.ListN.{length}
-use borrow.Author.Rules.{rules}
 use Rattle.model.specs.Map.{view}
 use Rattle.orbit.specs.At.{site}
 use Rattle.matching.specs.Retrace.{Longer, Standing, Retracing}
-use Rattle.matching.proofs.RetraceLaws.{few_positions, x_slot, dim-low, y_slot, q_next, expand_first, expand_more, expand_none, expand_done}
 use Rattle.matching.proofs.retrace.expand.Given as goal
 
 abbrev pub invariant-loop-p : goal.invariant-loop-p

@@ -1,9 +1,5 @@
 -- `matching::retrace::hang` meets its contract.
-use Prim.Native.Nat.{◌+◌}
-use mathlib.Core.Path.{◌≡◌}
-use native.Mathlib.Omega.{arith}
-use borrow.Author.Rules.{rules}
-use Rattle.matching.proofs.RetraceLaws.{other-slot, hung-single, ready, hung-none, hung-all}
+use Rattle.matching.proofs.RetraceLaws.{ready, hung-none, hung-all}
 use Rattle.matching.proofs.retrace.hang.Goals as goal
 
 pub returns-then-tail-eq0 : goal.returns-then-tail-eq0

@@ -2,7 +2,6 @@
 use mathlib.Core.Path.{refl, sym, ◌∙◌}
 use mathlib.Core.Logic.{inl, inr}
 use native.Mathlib.Omega.{arith}
-use borrow.Author.Rules.{rules}
 use Rattle.matching.proofs.ImageRowLaws.{mark-read}
 use Rattle.matching.proofs.RetraceLaws.{row_read, mark-some}
 use Rattle.matching.proofs.retrace.meet.Goals as goal

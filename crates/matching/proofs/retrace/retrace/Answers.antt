@@ -1,13 +1,7 @@
 -- `matching::retrace::retrace` meets its contract.
-use Prim.Native.Nat.{◌*◌, ◌-◌, ◌≤◌}
-use mathlib.Core.Path.{◌≡◌, ◌∙◌}
+use mathlib.Core.Path.{◌∙◌}
 use native.Mathlib.Omega.{arith}
-use lib.ListN.{length}
-use borrow.Author.Rules.{rules}
-use Rattle.model.specs.Map.{view}
-use Rattle.orbit.specs.At.{site}
-use Rattle.matching.specs.Retrace.{Retracing, Retraced}
-use Rattle.matching.proofs.RetraceLaws.{retrace_first, retracing, retrace_more, retrace_done, retrace_none}
+use Rattle.matching.proofs.RetraceLaws.{retracing, retrace_more, retrace_done, retrace_none}
 use Rattle.matching.proofs.retrace.retrace.Goals as goal
 
 pub expand-end-requires-clause-retracing : goal.expand-end-requires-clause-retracing

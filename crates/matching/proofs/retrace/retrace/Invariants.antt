@@ -1,13 +1,10 @@
 -- The loop's invariant: the links of the darts for the first `head` places were followed.
 use Prim.Native.Nat.{◌*◌, ◌-◌, ◌≤◌}
-use mathlib.Core.Path.{◌≡◌, ◌∙◌}
-use native.Mathlib.Omega.{arith}
+use mathlib.Core.Path.{◌≡◌}
 use lib.ListN.{length}
-use borrow.Author.Rules.{rules}
 use Rattle.model.specs.Map.{view}
 use Rattle.orbit.specs.At.{site}
 use Rattle.matching.specs.Retrace.{Retracing, Retraced}
-use Rattle.matching.proofs.RetraceLaws.{retrace_first, retracing, retrace_more, retrace_done, retrace_none}
 use Rattle.matching.proofs.retrace.retrace.Given as goal
 
 abbrev pub invariant-loop-head : goal.invariant-loop-head

@@ -1,5 +1,4 @@
 -- `orbit::store::push` meets its contract.
-use borrow.Author.Rules.{rules}
 use Rattle.orbit.proofs.StoreLaws.{push_done}
 use Rattle.orbit.proofs.store.push.Goals as goal
 

@@ -1,10 +1,9 @@
 -- `orbit::store::unmark` meets its contract.
-use mathlib.Core.Path.{sym, ap, ◌∙◌}
+use mathlib.Core.Path.{ap, ◌∙◌}
 use mathlib.Core.List.{List, ◌++◌}
 use Prim.Native.Nat.{ℕ}
 use lib.ListN.{drop, replicate}
 use lib.Seq.{length-take-le}
-use borrow.Author.Rules.{rules}
 use Rattle.orbit.specs.Places.{unmarked}
 use Rattle.orbit.proofs.store.unmark.Goals as goal
 
