@@ -17,6 +17,7 @@ use model::{Fault, Refusal};
 use tree::{Tree, reach_of};
 
 // The node that breaks the condition of hooks, if there is one: node 0, else the second hook, else `out`, the least left node that no hook reaches.
+#[tactic(auto, unfolding(crate::specs::Hook::hook_by))]
 fn hook_fault<'a>(
     places: usize,
     orbit: &'a [u8; 4],
@@ -41,6 +42,7 @@ fn hook_fault<'a>(
 
 // The first of refusals 3, 4 and 5 that applies. `out` is the least left node that no hook reaches, if there is one; it has been found already, while
 // the trees were grown.
+#[tactic(auto, unfolding(crate::specs::Verdict::fault_by))]
 fn fault<'a>(
     n: u8,
     places: usize,

@@ -29,6 +29,7 @@ fn apart(p: usize, q: usize) -> bool
 // - t is a node: s is on a cycle if explicit arcs i, j, i, j lead back to it.
 // - t is a position: s is on a cycle if its own j-arc has the same code.
 // - t is none: s is on no cycle.
+#[tactic(auto, unfolding(crate::specs::Cycles::from_node, crate::specs::Cycles::goes_round))]
 fn from_node(codes: &[u8; 64], s: usize, i: usize, j: usize, t: usize) -> bool
     requires { (s < 16) × (i < 4) × (j < 4) }
     ensures { result ≡ from_node codes.now s i j t }
@@ -50,6 +51,7 @@ fn from_node(codes: &[u8; 64], s: usize, i: usize, j: usize, t: usize) -> bool
 // - b is a node: it is on a cycle if the i-arc of b has the code a too.
 // - b is a position: it is on a cycle if the orbit type's dimensions at both positions differ by at least 2.
 // - b is none: it is on no cycle.
+#[tactic(auto, unfolding(crate::specs::Cycles::from_place))]
 fn from_place<'a>(orbit: &'a [u8; 4], codes: &'a [u8; 64], i: usize, a: usize, b: usize) -> bool
     requires i_bound { (i < 4) × (16 ≤ a) × (a < 20) }
     requires b_bound { (b ≡ 255 → ⊥) → b < 20 }
@@ -67,6 +69,7 @@ fn from_place<'a>(orbit: &'a [u8; 4], codes: &'a [u8; 64], i: usize, a: usize, b
 }
 
 // Whether node s is on an ij-cycle.
+#[tactic(auto, unfolding(crate::specs::Cycles::cycle_by))]
 fn on_cycle<'a>(orbit: &'a [u8; 4], codes: &'a [u8; 64], s: usize, i: usize, j: usize) -> bool
     requires s_bound { (s < 16) × (i < 4) × (j < 4) }
     requires by_index { (k : ℕ) → k < 4 → (entry codes.now s k ≡ 255 → ⊥) → entry codes.now s k < 20 }
@@ -83,6 +86,7 @@ fn on_cycle<'a>(orbit: &'a [u8; 4], codes: &'a [u8; 64], s: usize, i: usize, j: 
 }
 
 // Whether node s, of this kind, meets the condition of cycles at the pair i, j.
+#[tactic(auto, unfolding(crate::specs::Cycles::pair_by))]
 fn pair_ok<'a>(
     kind: u8,
     orbit: &'a [u8; 4],

@@ -21,6 +21,7 @@ pub enum Found {
 
 // Whether a node of this kind may have these codes at a dimension: l on the left and r on the right, 255 for no arc. A second arc there is found
 // apart.
+#[tactic(auto, unfolding(crate::specs::Incidence::paired))]
 fn allowed(kind: u8, l: u8, r: u8) -> bool
     ensures { result ≡ paired kind l r }
 {

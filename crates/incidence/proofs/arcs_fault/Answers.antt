@@ -1,6 +1,5 @@
 -- `incidence::arcs_fault` meets its contract.
 use Rattle.incidence.proofs.FaultLaws.{fault-incidence, fault_cycle}
-use borrow.Author.Rules.{rules}
 use Rattle.incidence.proofs.arcs_fault.Goals as goal
 
 pub returns-in-Node : goal.returns-in-Node

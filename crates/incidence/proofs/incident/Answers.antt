@@ -1,13 +1,9 @@
 -- `incidence::incident` meets its contract.
-use Prim.Native.Nat.{◌≤◌, ◌-◌}
-use mathlib.Core.Path.{◌≡◌, refl, sym, ◌∙◌}
-use mathlib.Core.Bool.{true}
+use mathlib.Core.Path.{refl, sym, ◌∙◌}
 use native.Mathlib.Omega.{arith}
-use borrow.Author.Rules.{rules}
-use borrow.Author.Tests.{not-false}
 use Rattle.base.specs.Below.{all_below}
 use Rattle.base.proofs.BelowLaws.{all_more}
-use Rattle.incidence.proofs.IncidenceLaws.{AtDim, incident_not, incident_three, incident_four}
+use Rattle.incidence.proofs.IncidenceLaws.{incident_not, incident_three, incident_four}
 use Rattle.incidence.proofs.incident.Goals as goal
 
 pub loop-i-init : goal.loop-i-init

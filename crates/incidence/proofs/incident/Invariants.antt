@@ -1,13 +1,9 @@
 -- The loop's invariant: the node is right at the dimensions passed, of the first three.
 use Prim.Native.Nat.{◌≤◌, ◌-◌}
-use mathlib.Core.Path.{◌≡◌, refl, sym, ◌∙◌}
+use mathlib.Core.Path.{◌≡◌}
 use mathlib.Core.Bool.{true}
-use native.Mathlib.Omega.{arith}
-use borrow.Author.Rules.{rules}
-use borrow.Author.Tests.{not-false}
 use Rattle.base.specs.Below.{all_below}
-use Rattle.base.proofs.BelowLaws.{all_more}
-use Rattle.incidence.proofs.IncidenceLaws.{AtDim, incident_not, incident_three, incident_four}
+use Rattle.incidence.proofs.IncidenceLaws.{AtDim}
 use Rattle.incidence.proofs.incident.Given as goal
 
 abbrev pub invariant-loop-i : goal.invariant-loop-i

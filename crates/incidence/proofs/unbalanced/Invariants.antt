@@ -1,13 +1,9 @@
 -- The loop's invariant: none of the nodes passed offends.
 use Prim.Native.Nat.{◌≤◌, ◌-◌}
-use mathlib.Core.Path.{◌≡◌, refl, ◌∙◌}
+use mathlib.Core.Path.{◌≡◌}
 use mathlib.Core.Option.{none}
-use native.Mathlib.Omega.{arith}
-use Rattle.base.specs.First.{least, first}
-use Rattle.base.proofs.FirstLaws.{least_more}
+use Rattle.base.specs.First.{least}
 use Rattle.incidence.specs.Incidence.{offends}
-use Rattle.incidence.proofs.FoundLaws.{found_none, found_at}
-use Rattle.incidence.proofs.IncidenceLaws.{offends-left, offends-right, offends_not}
 use Rattle.incidence.proofs.unbalanced.Given as goal
 
 abbrev pub invariant-loop-s : goal.invariant-loop-s

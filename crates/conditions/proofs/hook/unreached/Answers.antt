@@ -5,7 +5,7 @@ use native.Mathlib.Omega.{arith}
 use Rattle.base.specs.First.{least, first}
 use Rattle.base.proofs.FirstLaws.{least_more}
 use Rattle.conditions.specs.Hook.{left_out}
-use Rattle.incidence.proofs.FoundLaws.{found_none, found_at}
+use Rattle.incidence.proofs.FoundLaws.{found_at}
 use Rattle.conditions.proofs.HookLaws.{out-added, out-left}
 use Rattle.conditions.proofs.hook.unreached.Goals as goal
 use Rattle.conditions.proofs.hook.unreached.Goals.{then-kinds-s-ne3+else-not-reached-s, else-kinds-s-ne3}
@@ -26,6 +26,3 @@ loop-s-preserved c =
       | else-kinds-s-ne3 w ↦ out-added _ _ _ w.if-kinds-s-ne3.false
     ] in
     (omega arith, least_more _ _ l.1 not_out)
-
-pub returns : goal.returns
-returns c = let l = c.loop-s.invariant in found_none _ _ _ l.0 c.loop-s-test.false l.1

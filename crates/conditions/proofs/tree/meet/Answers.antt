@@ -5,7 +5,8 @@ use Rattle.conditions.proofs.tree.meet.Goals as goal
 
 pub push-requires : goal.push-requires
 push-requires c =
-    (room _ _ _ _ _ _ _ c.requires.reaching.tree _ c.if-t-ge16.false c.if-reached-t.false, c.requires.s_bound.1, c.requires.s_bound.0, c.if-t-ge16.false)
+    let s = c.requires.s_bound in
+    (room _ _ _ _ _ _ _ c.requires.reaching.tree _ c.if-t-ge16.false c.if-reached-t.false, s.1, s.0, c.if-t-ge16.false)
 
 pub overflow_add-result : goal.overflow_add-result
 overflow_add-result c = omega (arith, room _ _ _ _ _ _ _ c.requires.reaching.tree _ c.if-t-ge16.false c.if-reached-t.false)

@@ -4,7 +4,6 @@ use mathlib.Core.Path.{◌≡◌}
 use mathlib.Core.List.{List}
 use native.Mathlib.Nat.{mul-le-mul_left}
 use native.Mathlib.Omega.{arith}
-use lib.ListN.{length}
 use Rattle.numbers.specs.Places.{NumberRead}
 use Rattle.numbers.specs.declared.Number.{Number}
 use Rattle.table.proofs.SlotLaws.{two_le, not_two}

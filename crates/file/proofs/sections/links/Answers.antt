@@ -4,7 +4,6 @@ use mathlib.Core.Path.{sym, ap}
 use mathlib.Core.List.{List}
 use native.Mathlib.Nat.{mul-le-mul_left}
 use native.Mathlib.Omega.{arith}
-use lib.ListN.{length}
 use Rattle.base.specs.Digits.{bytes_of}
 use Rattle.model.specs.Map.{Map, view}
 use Rattle.table.proofs.SlotLaws.{two_le, not_two}

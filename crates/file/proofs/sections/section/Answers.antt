@@ -1,10 +1,7 @@
 -- `file::sections::section` meets its contract.
-use Prim.Native.Nat.{◌-◌, ◌≤◌}
 use mathlib.Core.Path.{◌∙◌}
 use native.Mathlib.Omega.{arith}
 use Rattle.model.specs.Map.{view}
-use Rattle.numbers.specs.Places.{Put}
-use Rattle.file.specs.Sections.{darts_bytes}
 use Rattle.numbers.proofs.PlaceLaws.{put-length, put-room}
 use Rattle.file.proofs.SectionLaws.{darts-none, darts-dead, darts-live, darts-room, darts-all, few-live}
 use Rattle.file.proofs.sections.section.Goals as goal

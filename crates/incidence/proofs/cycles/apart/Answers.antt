@@ -1,10 +1,13 @@
 -- `incidence::cycles::apart` meets its contract.
-use Rattle.incidence.proofs.CycleTestLaws.{apart-up, apart_down}
 use borrow.Author.Rules.{rules}
+use Rattle.base.specs.Test.{◌or◌}
+use Rattle.incidence.specs.Cycles.{far_apart}
 use Rattle.incidence.proofs.cycles.apart.Goals as goal
 
 pub returns-then-p-q : goal.returns-then-p-q
-returns-then-p-q c = apart-up _ _ c.if-p-q.true
+unfolding far_apart ◌or◌
+returns-then-p-q c = search rules
 
 pub returns : goal.returns
-returns c = apart_down _ _ c.if-p-q.false
+unfolding far_apart ◌or◌
+returns c = search rules

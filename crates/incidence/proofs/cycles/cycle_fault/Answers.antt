@@ -1,14 +1,9 @@
 -- `incidence::cycles::cycle_fault` meets its contract.
-use Prim.Native.Nat.{◌≤◌, ◌-◌}
-use mathlib.Core.Path.{◌≡◌, refl, ◌∙◌}
-use mathlib.Core.Option.{none}
+use mathlib.Core.Path.{refl, ◌∙◌}
 use native.Mathlib.Omega.{arith}
-use borrow.Author.Rules.{rules}
 use Rattle.base.specs.First.{first}
 use Rattle.base.proofs.FirstLaws.{first_more}
-use Rattle.model.specs.declared.Fault.TheVariants.{Clean}
-use Rattle.incidence.specs.Cycles.{at_node}
-use Rattle.incidence.proofs.CycleSearchLaws.{Passed, passed_none, passed-pair, passed-dimension, passed-node}
+use Rattle.incidence.proofs.CycleSearchLaws.{passed_none, passed-pair, passed-dimension, passed-node}
 use Rattle.incidence.proofs.CycleSearchLaws.{found-at-node, found-pair, found_no_pair}
 use Rattle.incidence.proofs.cycles.cycle_fault.Goals as goal
 
@@ -18,17 +13,6 @@ nodes-init c = (omega arith, refl, refl)
 
 pub loop-j-init : goal.loop-j-init
 loop-j-init c = (passed_none, c.nodes.invariant.2)
-
-pub loop-i-init : goal.loop-i-init
-loop-i-init c = let v = c.loop-j.invariant in (v.0, omega arith, v.1)
-
-pub pair_ok-requires : goal.pair_ok-requires
-pair_ok-requires c =
-    record {
-      s_bound = (omega arith, omega arith, omega arith);
-      by_index = λ i h. c.requires.coding.small _ i c.nodes-test.true h;
-      by_index_2 = λ i h. c.requires.coding_2.small _ i c.nodes-test.true h;
-    }
 
 pub loop-i-preserved : goal.loop-i-preserved
 loop-i-preserved c =

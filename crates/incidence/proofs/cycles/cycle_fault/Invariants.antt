@@ -1,15 +1,11 @@
 -- Each invariant: nothing is found at what the loops have passed.
 use Prim.Native.Nat.{◌≤◌, ◌-◌}
-use mathlib.Core.Path.{◌≡◌, refl, ◌∙◌}
+use mathlib.Core.Path.{◌≡◌}
 use mathlib.Core.Option.{none}
-use native.Mathlib.Omega.{arith}
-use borrow.Author.Rules.{rules}
 use Rattle.base.specs.First.{first}
-use Rattle.base.proofs.FirstLaws.{first_more}
 use Rattle.model.specs.declared.Fault.TheVariants.{Clean}
 use Rattle.incidence.specs.Cycles.{at_node}
-use Rattle.incidence.proofs.CycleSearchLaws.{Passed, passed_none, passed-pair, passed-dimension, passed-node}
-use Rattle.incidence.proofs.CycleSearchLaws.{found-at-node, found-pair, found_no_pair}
+use Rattle.incidence.proofs.CycleSearchLaws.{Passed}
 use Rattle.incidence.proofs.cycles.cycle_fault.Given as goal
 
 abbrev pub invariant-loop-i : goal.invariant-loop-i
