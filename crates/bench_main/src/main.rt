@@ -2,10 +2,14 @@
 // Both buffers are longer than the longest input and output. So an input that does not fit is a framing fault, and what is read of it is one too.
 #![tactic(auto)]
 
-fn main() {
-    let mut input = io::large_buffer();
-    let mut out = io::large_buffer();
-    let read = io::read_full(0, &mut input);
+use program::input::fill;
+use std::io;
+use std::io::Write;
+
+fn main(rt: HostRuntime) -> io::Result<()> {
+    let mut input = [0u8; 65536];
+    let mut out = [0u8; 65536];
+    let read = fill(&mut rt.stdin(), &mut input)?;
     let written = bench::run(&input[..read], &mut out);
-    io::write_all(1, &out[..written]);
+    rt.stdout().write_all(&out[..written])
 }

@@ -16,7 +16,8 @@ use Rattle.model.specs.Alike.{Alike}
 use Rattle.model.specs.File.{file, darts, slot_at, file_form, file_map}
 use Rattle.model.specs.WellFormed.{WellFormed}
 use Rattle.model.specs.Answer.{number}
-use Rattle.model.specs.Calls.{sizes_ok, table_fault, check_table, load_fault_at, load_fault, load_answer, load_table, output_fault_at, write_fault, write_answer, write_out}
+use Rattle.model.specs.Calls.{sizes_ok, table_fault, check_table, load_fault_at, load_fault, load_answer, load_table, output_fault_at}
+use Rattle.model.specs.Calls.{write_fault, write_answer, write_out}
 use Rattle.model.specs.Sequence.{Holds, AlikeTables, write, Lent, outcome_of, written}
 use Rattle.model.specs.declared.Answer.TheVariants.{Written}
 use Rattle.model.proofs.MapLaws.{field_at_lem, field_none, field_words, length-words}

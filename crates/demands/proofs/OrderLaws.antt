@@ -179,7 +179,8 @@ module _ (n N : ℕ) (t b : List ℕ) (d : Darts) (l : Lent) where
 
   -- refusals 9 and 10
   fit_order : Sound (site_of N t b d)
-      → FirstOf (when (Matched N t b d → ⊥) NoMatch ∷ when (Crowded N t b d) NoRoom ∷ []) D (answered (site_done (site_of N t b d)) (fit_fault (site_of N t b d)))
+      → FirstOf (when (Matched N t b d → ⊥) NoMatch ∷ when (Crowded N t b d) NoRoom ∷ []) D
+      (answered (site_done (site_of N t b d)) (fit_fault (site_of N t b d)))
   unfolding fit_fault site_done
   fit_order g =
       let E = site_of N t b d in

@@ -293,7 +293,8 @@ unfolding field_at
 not_idle D = let link : ◌≡◌ {A = ℕ} 1 2 = ap (λ (t : List ℕ). field_at t (Link 0) 0) (p8_done idle D _ refl).1 in omega arith
 
 -- dart 1, the second of the orbit, is as it was
-first-table : cond (there (edit_fault 2 8 e8 store8 v_bytes (One 0))) e8 (table_of (edited (site_over 8 e8 v_bytes (One 0) (eqb 0)))) ≡ v_darts ++ unused_slots 4 → ⊥
+first-table : cond (there (edit_fault 2 8 e8 store8 v_bytes (One 0))) e8 (table_of (edited (site_over 8 e8 v_bytes (One 0) (eqb 0))))
+    ≡ v_darts ++ unused_slots 4 → ⊥
 unfolding computes
 first-table e = let link : ◌≡◌ {A = ℕ} 0 3 = ap (λ (t : List ℕ). field_at t (Link 0) 1) e in omega arith
 

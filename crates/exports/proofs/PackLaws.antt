@@ -6,8 +6,8 @@ use lib.ListN.{length}
 use Rattle.model.specs.Map.{view}
 use Rattle.model.specs.Scheme.{in_form}
 use Rattle.model.specs.File.{file}
-use Rattle.model.specs.Calls.{table_fault, check_table, bytes_fault, check_scheme, site_done, edit_fault, edit_answer, count_fault, count_answer, load_fault, load_answer}
-use Rattle.model.specs.Calls.{write_fault, write_answer}
+use Rattle.model.specs.Calls.{table_fault, check_table, bytes_fault, check_scheme, site_done, edit_fault, edit_answer, count_fault, count_answer}
+use Rattle.model.specs.Calls.{load_fault, load_answer, write_fault, write_answer}
 use Rattle.model.specs.Sequence.{Request, table_check, scheme_check, edit, count, load, write, Lent, Outcome, outcome_of}
 use Rattle.model.specs.declared.Answer.TheVariants.{Written}
 use Rattle.demands.specs.Promises.{Promised}

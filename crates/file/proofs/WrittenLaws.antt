@@ -36,7 +36,8 @@ module _ (w n : ℕ) (m : Map) where
   length_before Links = rw (length-append, length-append, length-append, length-section, length-section, length-bytes, length-bytes) (omega arith)
 
   -- the k-th byte of a section
-  in_section : (part : Part) (k : ℕ) → k < length (section_bytes w n m part) → get_or (file_in w n m) (start w L part + k) 0 ≡ get_or (section_bytes w n m part) k 0
+  in_section : (part : Part) (k : ℕ) → k < length (section_bytes w n m part)
+      → get_or (file_in w n m) (start w L part + k) 0 ≡ get_or (section_bytes w n m part) k 0
   in_section part k l = rw (file_split w n m part, ← length_before part)
       (get_or-append (file_before w n m part ++ section_bytes w n m part) _ 0 (length (file_before w n m part) + k) (rw length-append (omega arith))
       ∙ get_or-append-add (file_before w n m part) (section_bytes w n m part) k 0)

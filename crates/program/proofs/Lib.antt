@@ -3,3 +3,4 @@ pub mod WriterLaws
 pub mod LineLaws
 pub mod OpeningLaws
 pub mod AcceptLaws
+pub mod InputLaws

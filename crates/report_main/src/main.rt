@@ -1,25 +1,27 @@
 // The report program: pieces of standard input go to `report::feed` as it wants them, and what it prints goes to standard output.
 #![tactic(auto)]
 
+use program::input::fill;
 use program::opening::{STORE, TABLE};
 use report::State;
+use std::io;
+use std::io::Write;
 
-fn main() {
-    let mut input = io::large_buffer();
-    let mut out = io::buffer();
+fn main(rt: HostRuntime) -> io::Result<()> {
+    let mut input = [0u8; 65536];
+    let mut out = [0u8; 4096];
     let mut table = [0u32; TABLE];
     let mut store = [0u32; STORE];
     let mut state = State::Start;
     let mut sums = [0u32; 6];
     let mut want = report::wanted(state);
     while want != 0 {
-        let got = io::read_full(0, &mut input[..want]);
+        let got = fill(&mut rt.stdin(), &mut input[..want])?;
         let fed = report::feed(state, sums, &input[..got], &mut table, &mut store, &mut out);
-        if !io::write_all(1, &out[..fed.printed]) {
-            return;
-        }
+        rt.stdout().write_all(&out[..fed.printed])?;
         state = fed.state;
         sums = fed.sums;
         want = report::wanted(state);
     }
+    Ok(())
 }

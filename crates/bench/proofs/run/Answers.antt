@@ -4,7 +4,6 @@ use mathlib.Core.Path.{◌≡◌, sym}
 use native.Mathlib.Omega.{arith}
 use lib.ListN.{length, length-replicate}
 use lib.Seq.{length-take-le}
-use borrow.Author.Rules.{rules}
 use Rattle.model.specs.Answer.{number}
 use Rattle.model.specs.Map.{table_size}
 use Rattle.model.specs.declared.Answer.{Answer}
@@ -17,17 +16,24 @@ use Rattle.bench.proofs.FramingLaws.{fault_of_lem, laid_of}
 use Rattle.bench.proofs.PrintedLaws.{printed-fault, printed-refused, refused-room, wrote_refused, printed_of}
 use Rattle.bench.proofs.SessionLaws.{map-part, stands_open, blank_part, blank-length}
 use Rattle.bench.proofs.run.Goals as goal
+use Rattle.bench.proofs.run.Goals.{In-Map}
 
 few : (a : Answer) (k : ℕ) → k ≡ number a → k < 100
 few a k e = omega (arith, e, number-few a)
+
+-- the map is open, with the number of slots that it names
+laid : (c : In-Map) → Laid c.args.input.now c.in-Framed.layout
+laid c = laid_of _ _ _ c.in-Framed.is c.frame.ensures
+
+opened : (c : In-Map) → MapOpen (map_bytes c.args.input.now) c.in-Map.n c.in-Map.slots
+opened c = open_of _ _ _ _ _ (map-part _ _ (laid c)) c.in-Map.is c.«open».ensures.opened_as
 
 pub refused_line-requires : goal.refused_line-requires
 refused_line-requires c = refused-room c.args.input.now c.args.out.now 11 (omega arith) c.requires
 
 pub returns-in_default : goal.returns-in_default
 returns-in_default c =
-    printed_of _ _ _ _ c.requires (wrote_refused _ _ 11 _ _ (omega arith)
-    (printed-fault _ (fault_of_lem _ _ c.in_default.is c.frame.ensures))
+    printed_of _ _ _ _ c.requires (wrote_refused _ _ 11 _ _ (omega arith) (printed-fault _ (fault_of_lem _ _ c.in_default.is c.frame.ensures))
     c.refused_line.ensures)
 
 pub overflow_add-end : goal.overflow_add-end
@@ -38,52 +44,47 @@ overflow_add-end c =
 pub refused_line-requires-in-Refused : goal.refused_line-requires-in-Refused
 refused_line-requires-in-Refused c =
     let laid : Laid c.args.input.now c.in-Framed.layout = laid_of _ _ _ c.in-Framed.is c.frame.ensures in
-    let refused : let k = c.in-Refused.k in
-        (k ≡ number (map_answer c.args.input.now)) × (k ≡ 0 → ⊥) = refused_of _ _ _ _ (map-part _ _ (laid)) c.in-Refused.is c.«open».ensures.0 in
+    let refused = refused_of _ _ _ _ (map-part _ _ laid) c.in-Refused.is c.«open».ensures.opened_as in
     refused-room c.args.input.now c.args.out.now _ (few (map_answer c.args.input.now) _ refused.0) c.requires
 
 pub returns-in-Refused : goal.returns-in-Refused
 returns-in-Refused c =
     let laid : Laid c.args.input.now c.in-Framed.layout = laid_of _ _ _ c.in-Framed.is c.frame.ensures in
-    let refused : let k = c.in-Refused.k in
-        (k ≡ number (map_answer c.args.input.now)) × (k ≡ 0 → ⊥) = refused_of _ _ _ _ (map-part _ _ (laid)) c.in-Refused.is c.«open».ensures.0 in
-    printed_of _ _ _ _ c.requires (wrote_refused _ _ _ _ _ (few (map_answer c.args.input.now) _ refused.0)
-        (printed-refused _ _ (laid) _ (refused)) c.refused_line-in-Refused.ensures)
+    let refused = refused_of _ _ _ _ (map-part _ _ laid) c.in-Refused.is c.«open».ensures.opened_as in
+    printed_of _ _ _ _ c.requires (wrote_refused _ _ _ _ _ (few (map_answer c.args.input.now) _ refused.0) (printed-refused _ _ laid _ refused)
+    c.refused_line-in-Refused.ensures)
 
 pub slice_bounds-table-end : goal.slice_bounds-table-end
 slice_bounds-table-end c =
-    let laid : Laid c.args.input.now c.in-Framed.layout = laid_of _ _ _ c.in-Framed.is c.frame.ensures in
-    let opened : MapOpen (map_bytes c.args.input.now) c.in-Map.n c.in-Map.slots = open_of _ _ _ _ _ (map-part _ _ (laid)) c.in-Map.is c.«open».ensures.0 in
-    let within : c.size-words.result ≤ length c.«open».new.1.0 = omega (arith, c.size-words.ensures, opened.few, c.«open».auto.1.0) in
-    within
+    let m = opened (goal.at.slice_bounds-table-end c).In-Map in
+    omega (arith, c.size-words.ensures, m.few, c.«open».auto.table)
 
 pub slice_bounds-session-end : goal.slice_bounds-session-end
 slice_bounds-session-end c =
-    let laid : Laid c.args.input.now c.in-Framed.layout = laid_of _ _ _ c.in-Framed.is c.frame.ensures in
-    let opened : MapOpen (map_bytes c.args.input.now) c.in-Map.n c.in-Map.slots = open_of _ _ _ _ _ (map-part _ _ (laid)) c.in-Map.is c.«open».ensures.0 in
-    let within : c.size-words.result ≤ length c.«open».new.1.0 = omega (arith, c.size-words.ensures, opened.few, c.«open».auto.1.0) in
-    sym (length-take-le _ c.«open».new.1.0 (within))
+    let m = opened (goal.at.slice_bounds-session-end c).In-Map in
+    let within : c.size-words.result ≤ length c.«open».new.table = omega (arith, c.size-words.ensures, m.few, c.«open».auto.table) in
+    sym (length-take-le _ c.«open».new.table within)
 
 pub slice_bounds-store-end : goal.slice_bounds-store-end
-slice_bounds-store-end c =
-    let laid : Laid c.args.input.now c.in-Framed.layout = laid_of _ _ _ c.in-Framed.is c.frame.ensures in
-    let opened : MapOpen (map_bytes c.args.input.now) c.in-Map.n c.in-Map.slots = open_of _ _ _ _ _ (map-part _ _ (laid)) c.in-Map.is c.«open».ensures.0 in
-    omega (arith, opened.few)
+slice_bounds-store-end c = let m = opened (goal.at.slice_bounds-store-end c).In-Map in omega (arith, m.few)
 
 pub slice_bounds-session-end-in-Map : goal.slice_bounds-session-end-in-Map
 slice_bounds-session-end-in-Map c =
-    let laid : Laid c.args.input.now c.in-Framed.layout = laid_of _ _ _ c.in-Framed.is c.frame.ensures in
-    let opened : MapOpen (map_bytes c.args.input.now) c.in-Map.n c.in-Map.slots = open_of _ _ _ _ _ (map-part _ _ (laid)) c.in-Map.is c.«open».ensures.0 in
-    let m = opened in blank-length _ (16 * most_slots) (omega (arith, m.few))
+    let m = opened (goal.at.slice_bounds-session-end-in-Map c).In-Map in
+    blank-length _ (16 * most_slots) (omega (arith, m.few))
 
 pub session-requires : goal.session-requires
 session-requires c =
-    let laid : Laid c.args.input.now c.in-Framed.layout = laid_of _ _ _ c.in-Framed.is c.frame.ensures in
-    let opened : MapOpen (map_bytes c.args.input.now) c.in-Map.n c.in-Map.slots = open_of _ _ _ _ _ (map-part _ _ (laid)) c.in-Map.is c.«open».ensures.0 in
-    let m = opened in
-        let blank = blank_part (16 * c.in-Map.slots) (16 * most_slots) (omega (arith, m.few)) in
-        let table = stands_open _ _ _ m _ _ _ _ _ (map-part _ _ (laid)) (length-replicate {A = ℕ} (table_size most_slots) 0)
-        c.«open».ensures.1 c.size-words.ensures blank in record { laid = laid; map_open = m; stands = table; longest_in_bounds = c.requires }
+    let i = (goal.at.session-requires c).In-Map in
+    let m = opened i in
+    let blank = blank_part (16 * c.in-Map.slots) (16 * most_slots) (omega (arith, m.few)) in
+    record {
+      laid = laid i;
+      map_open = m;
+      stands = stands_open _ _ _ m _ _ _ _ _ (map-part _ _ (laid i)) (length-replicate {A = ℕ} (table_size most_slots) 0) c.«open».ensures.table_after
+          c.size-words.ensures blank;
+      longest_in_bounds = c.requires;
+    }
 
 pub returns-in-Map : goal.returns-in-Map
 returns-in-Map c = printed_of _ _ _ _ c.requires c.session.ensures

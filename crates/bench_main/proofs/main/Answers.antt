@@ -10,5 +10,5 @@ use Rattle.bench_main.proofs.main.Goals as goal
 pub slice_bounds-write_all-end : goal.slice_bounds-write_all-end
 slice_bounds-write_all-end c =
     let r = c.run-written in
-    let fits : r.result ≤ length r.new.1.0 = omega (arith, r.ensures.few, r.auto.1.0) in
-    sym (length-take-le _ r.new.1.0 fits)
+    let fits : r.result ≤ length r.new.out = omega (arith, r.ensures.few, r.auto.out) in
+    sym (length-take-le _ r.new.out fits)

@@ -5,13 +5,18 @@ use Rattle.report.proofs.feed.Goals as goal
 
 pub begin-requires : goal.begin-requires
 begin-requires c =
-    let p = (c.requires.ready, (c.requires.table_len, (c.requires.store_len, c.requires.longest_line_in_bounds))) in record { sums_value = ready_in _ _ c.in-Start.is _ p.0; longest_line_in_bounds = p.1.1.1 }
+    record { sums_value = ready_in _ _ c.in-Start.is _ c.requires.ready; longest_line_in_bounds = c.requires.longest_line_in_bounds }
 
 pub file-requires : goal.file-requires
 file-requires c =
-    let asked = let p = (c.requires.ready, (c.requires.table_len, (c.requires.store_len, c.requires.longest_line_in_bounds))) in
-    let ready = ready_in _ _ c.in-File.is _ p.0 in
-    (ready.1, (ready.0, p.1)) in record { sums_room = asked.0; long_le_longest_file = asked.1.0; table_len = asked.1.1.0; store_len = asked.1.1.1.0; longest_line_in_bounds = asked.1.1.1.1 }
+    let ready = ready_in _ _ c.in-File.is _ c.requires.ready in
+    record {
+      sums_room = ready.1;
+      long_le_longest_file = ready.0;
+      table_len = c.requires.table_len;
+      store_len = c.requires.store_len;
+      longest_line_in_bounds = c.requires.longest_line_in_bounds;
+    }
 
 pub returns-in-Start : goal.returns-in-Start
 returns-in-Start c =

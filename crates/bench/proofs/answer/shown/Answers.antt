@@ -13,8 +13,8 @@ use Rattle.bench.specs.Bench.{shown}
 use Rattle.bench.proofs.answer.shown.Goals as goal
 
 -- what is shown of an answer that is known
-  known : (i v : ℕ) → v ≡ shown b i → v ≡ shown a i
-  known i v e = e ∙ sym (ap (λ (x : Answer). shown x i) is)
+known : {a b : Answer} → a ≡ b → (i v : ℕ) → v ≡ shown b i → v ≡ shown a i
+known is i v e = e ∙ sym (ap (λ (x : Answer). shown x i) is)
 
 -- a refusal shows nothing
 refused-shown : (f : Refusal) (i : ℕ) → 0 ≡ shown (Refused f) i

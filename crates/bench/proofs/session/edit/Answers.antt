@@ -5,4 +5,5 @@ use Rattle.bench.proofs.session.edit.Goals as goal
 
 pub returns : goal.returns
 returns c =
-    let asked = edit-part _ _ _ _ _ _ _ _ _ _ (scheme-part _ _ c.requires) c.edit.ensures in record { value = asked.0; table_after = asked.1.0; store_after = asked.1.1 }
+    let edited = edit-part _ _ _ _ _ _ _ _ _ _ (scheme-part _ _ c.requires) c.edit.ensures in
+    record { value = edited.0; table_after = edited.1.0; store_after = edited.1.1 }

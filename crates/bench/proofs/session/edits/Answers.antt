@@ -48,6 +48,10 @@ loop-k-preserved c =
 
 pub returns : goal.returns
 returns c =
-    let asked = let q = c.loop-k in
+    let q = c.loop-k in
     let end : q.k ≡ c.args.layout.darts = omega arith in
-    rw (← end) (q.invariant.2.lines, (q.invariant.2.short, q.invariant.2.stands.table)) in record { put = asked.0; upper_bound = asked.1.0; table_after = asked.1.1 }
+    record {
+      put = rw (← end) q.invariant.2.lines;
+      upper_bound = rw (← end) q.invariant.2.short;
+      table_after = rw (← end) q.invariant.2.stands.table;
+    }

@@ -4,7 +4,6 @@ use mathlib.Core.Path.{◌∙◌}
 use native.Mathlib.Omega.{arith}
 use lib.ListN.{length}
 use borrow.Author.Rules.{rules}
-use Rattle.table.specs.Words.{Sized}
 use Rattle.bench.proofs.PrintedLaws.{printed_session, edits-room, tally_few, last-room, wrote_run}
 use Rattle.bench.proofs.SessionLaws.{stands-long}
 use Rattle.bench.specs.Session.{longest}
@@ -12,17 +11,26 @@ use Rattle.bench.proofs.session.session.Goals as goal
 
 pub edits-at-requires : goal.edits-at-requires
 edits-at-requires c =
-    record { laid = c.requires.laid; map_open = c.requires.map_open; stands = c.requires.stands; darts_in_bounds = edits-room _ _ c.args.out.now c.requires.laid c.requires.longest_in_bounds }
+    record {
+      laid = c.requires.laid;
+      map_open = c.requires.map_open;
+      stands = c.requires.stands;
+      darts_in_bounds = edits-room _ _ c.args.out.now c.requires.laid c.requires.longest_in_bounds;
+    }
 
 pub tally-live-requires : goal.tally-live-requires
 tally-live-requires c =
-    let sized : Sized c.args.slots c.edits-at.new.table = record { few = omega (arith, c.requires.map_open.few); long = c.edits-at.auto.table ∙ stands-long _ _ _ c.requires.map_open _ _ c.requires.stands } in
-    sized
+    record {
+      few = omega (arith, c.requires.map_open.few);
+      long = c.edits-at.auto.table ∙ stands-long _ _ _ c.requires.map_open _ _ c.requires.stands;
+    }
 
 pub tally-unused-requires : goal.tally-unused-requires
 tally-unused-requires c =
-    let sized : Sized c.args.slots c.edits-at.new.table = record { few = omega (arith, c.requires.map_open.few); long = c.edits-at.auto.table ∙ stands-long _ _ _ c.requires.map_open _ _ c.requires.stands } in
-    sized
+    record {
+      few = omega (arith, c.requires.map_open.few);
+      long = c.edits-at.auto.table ∙ stands-long _ _ _ c.requires.map_open _ _ c.requires.stands;
+    }
 
 pub last_line-requires : goal.last_line-requires
 last_line-requires c =
@@ -37,4 +45,4 @@ returns c =
     let x = c.tally-live.ensures in
     let y = c.tally-unused.ensures in
     wrote_run _ _ _ _ _ c.args.layout.darts _ _ _ _ c.edits-at.ensures.upper_bound c.requires.laid.darts_fit (tally_few _ _ _ x small) (tally_few _ _ _ y small)
-    (printed_session _ _ c.requires.laid _ _ _ _ _ c.requires.map_open c.edits-at.ensures.table_after x y) c.edits-at.ensures.put c.last_Line.ensures
+    (printed_session _ _ c.requires.laid _ _ _ _ _ c.requires.map_open c.edits-at.ensures.table_after x y) c.edits-at.ensures.put c.last_line.ensures

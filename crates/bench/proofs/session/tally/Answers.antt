@@ -11,6 +11,7 @@ use Rattle.base.specs.Below.{count_below}
 use Rattle.model.specs.Map.{view}
 use Rattle.bench.proofs.SessionLaws.{tally_hit, tally_miss}
 use Rattle.bench.proofs.session.tally.Goals as goal
+use Rattle.bench.proofs.session.tally.Goals.{then-state-s, else-state-s}
 
 pub loop-x-init : goal.loop-x-init
 unfolding count_below
@@ -29,10 +30,10 @@ pub loop-x-preserved : goal.loop-x-preserved
 loop-x-preserved c =
     let inv = c.loop-x.invariant in (
       omega arith,
-      ⊎_elim
-          (λ w. rw w.1 (tally_hit _ _ _ (eq-eqb _ _ (sym c.state.ensures ∙ w.0.taken)) inv.1))
-          (λ w. rw w.1 (tally_miss _ _ _ (ne_eqb _ _ (λ e. w.0.left (c.state.ensures ∙ e))) inv.1))
-          c.if-state-s.branch,
+      elim c.if-state-s.branch [
+        then-state-s w ↦ rw w.found-is (tally_hit _ _ _ (eq-eqb _ _ (sym c.state.ensures ∙ w.if-state-s.true)) inv.1)
+        | else-state-s w ↦ rw w.found-is (tally_miss _ _ _ (ne_eqb _ _ (λ e. w.if-state-s.false (c.state.ensures ∙ e))) inv.1)
+      ],
     )
 
 pub returns : goal.returns

@@ -28,5 +28,5 @@ pub returns : goal.returns
 returns c =
     let a = c.args in
     let p = last_place a.w a.darts c.if-darts-eq0.false in
-    let slot = here _ _ _ _ _ (omega (arith, p)) c.number-slot.ensures.value in
-    c.rising.ensures ∙ slots_rise _ _ _ _ _ _ (last a.darts c.if-darts-eq0.false) slot (omega (arith, c.if-slots-slot.false))
+    c.rising.ensures
+    ∙ slots_rise _ _ _ _ _ _ (last a.darts c.if-darts-eq0.false) (here _ _ _ _ _ (omega (arith, p)) c.number-slot.ensures.value) c.if-slots-slot.false

@@ -10,7 +10,7 @@ use Rattle.program.proofs.LineLaws.{fields-none, fields-more, fields-room, end-r
 use Rattle.program.proofs.lines.numbers_line.Given as goal
 
 abbrev pub invariant-loop-k : goal.invariant-loop-k
-invariant-loop-k l = (k + 1 ≤ length l.values) × Put l.initial.out l.initial.next (fields l.values k) l.k next
+invariant-loop-k l = (l.k + 1 ≤ length l.values) × Put l.initial.out l.initial.next (fields l.values l.k) l.out l.next
 
 abbrev pub decreases-loop-k : goal.decreases-loop-k
-decreases-loop-k l = length l.values - k
+decreases-loop-k l = length l.values - l.k
