@@ -25,7 +25,7 @@ all: $(ARCHIVE) $(STORED)
 
 $(BUILT)/libkernel.a: $(SOURCES) tools/archive
 	mkdir -p $(BUILT)
-	rt check exports
+	cd crates/exports && rt check
 	tools/archive $@
 
 $(BUILT)/schemes/%.bytes: schemes/%.scheme

@@ -181,13 +181,13 @@ class Programs(Case):
         for name in ("tools/gmap", "include"):
             shutil.copytree(os.path.join(ROOT, name), os.path.join(root, name))
         shutil.copy(REPORT, os.path.join(root, "tools"))
-        os.makedirs(os.path.join(root, "target", "bin"))
+        os.makedirs(os.path.join(root, "crates", "report_main", "out"))
 
     def setUp(self):
         super().setUp()
         self.file("a.gmap", E)
         self.report = os.path.join(self.copy.name, "tools", "report")
-        self.main = os.path.join(self.copy.name, "target", "bin", "report_main")
+        self.main = os.path.join(self.copy.name, "crates", "report_main", "out", "report_main")
         open(self.main, "w").close()
 
     def program(self, script):
@@ -199,7 +199,7 @@ class Programs(Case):
     def test_not_there(self):
         os.remove(self.main)
         done = run(self.report, self.path("a.gmap"))
-        self.assertEqual((done.returncode, done.stdout, done.stderr), (2, "", f"report: {self.main} is not there; run rt check\n"))
+        self.assertEqual((done.returncode, done.stdout, done.stderr), (2, "", f"report: {self.main} is not there; run rt ci\n"))
         self.assertEqual(run(self.report, self.path("a.gmap"), "-o", self.path("input")).returncode, 0)
 
     def test_wrong_ends(self):
