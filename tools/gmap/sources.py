@@ -6,7 +6,7 @@ import re
 # A public function: its name with the type that has it, its line, and its promise as `parameters`, `requires` and `ensures`.
 Function = collections.namedtuple("Function", "name line parts")
 
-FUNCTION = re.compile(r'\bpub\s+(?:extern\s+"C"\s+)?fn\s+(\w+)')
+FUNCTION = re.compile(r'\bpub\s+(?:(?:const|unsafe)\s+)*(?:extern\s+"C"\s+)?fn\s+(\w+)')
 OPEN, CLOSE = "([{", ")]}"
 
 
