@@ -199,7 +199,7 @@ class Programs(Case):
     def test_not_there(self):
         os.remove(self.main)
         done = run(self.report, self.path("a.gmap"))
-        self.assertEqual((done.returncode, done.stdout, done.stderr), (2, "", f"report: {self.main} is not there; run rt ci\n"))
+        self.assertEqual((done.returncode, done.stdout, done.stderr), (2, "", f"report: {self.main} is not there; run rt all test\n"))
         self.assertEqual(run(self.report, self.path("a.gmap"), "-o", self.path("input")).returncode, 0)
 
     def test_wrong_ends(self):
