@@ -193,7 +193,7 @@ module _ {M : Map} {s : List ℕ} {size : ℕ} {nodes parents dims : List ℕ} {
               steps = λ j r a b c. by_cases (ℕ_discrete j k)
                   (λ e. subst (λ (z : ℕ). dart_at s'' (get_or rows' (node z) 0) r ≡ m.link (dim z) (dart_at s'' (get_or rows' (parent z) 0) r)) (sym e)
                   (dart-place N s'' (k * size) r (get_or rows' (node k) 0) col_new ∙ C.darts r c
-                      ∙ ap (m.link (dim k)) (sym (source-old k r l (omega arith) c))))
+                  ∙ ap (m.link (dim k)) (sym (source-old k r l (omega arith) c))))
                   (λ ne. let o : j < k = omega arith in
                   dart-old j r o c ∙ G.steps j r a o c ∙ ap (m.link (dim j)) (sym (source-old j r a b c)));
             }

@@ -12,5 +12,5 @@ overflow_cast-result c =
 
 pub returns : goal.returns
 returns c =
-    counts_are _ _ c.requires.fact c.wide-k.ensures c.requires.darts_value c.orbits-vertices.ensures c.orbits-edges.ensures
+    counts_are _ _ c.requires.fact c.requires.well_formed c.wide-k.ensures c.requires.darts_value c.orbits-vertices.ensures c.orbits-edges.ensures
     c.orbits-faces.ensures c.orbits-pieces.ensures c.volumes-volumes.ensures

@@ -8,4 +8,4 @@ use Rattle.count.proofs.volumes.Goals as goal
 pub returns : goal.returns
 returns c =
     let three : c.args.n ≡ 3 = ⊎_elim (λ e. absurd (omega (arith, c.if-n-eq2.false, e))) (λ e. e) c.requires.fact in
-    volumes-some _ _ three (kind-cells _ _ c.requires.fact all_links 3 volumes-listed c.wide.ensures c.orbits.ensures)
+    volumes-some _ _ three (kind-cells _ _ c.requires.fact c.requires.well_formed all_links 3 volumes-listed c.wide.ensures c.orbits.ensures)

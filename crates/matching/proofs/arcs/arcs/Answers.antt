@@ -1,5 +1,4 @@
 -- `matching::arcs::arcs` meets its contract.
-use mathlib.Core.Bool.{true}
 use native.Mathlib.Omega.{arith}
 use Rattle.matching.proofs.ArcTestLaws.{arcs-none, arcs-more, arcs_stop}
 use Rattle.matching.proofs.arcs.arcs.Goals as goal

@@ -1,5 +1,4 @@
 -- `matching::arcs::straight` meets its contract.
-use mathlib.Core.Bool.{true}
 use native.Mathlib.Omega.{arith}
 use borrow.Author.Tests.{ne_eqb}
 use Rattle.matching.proofs.ArcTestLaws.{follows-none, follows-more, follows_stop, dart-read}

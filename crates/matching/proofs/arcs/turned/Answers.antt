@@ -1,5 +1,4 @@
 -- `matching::arcs::turned` meets its contract.
-use mathlib.Core.Bool.{true}
 use native.Mathlib.Omega.{arith}
 use borrow.Author.Tests.{ne_eqb}
 use Rattle.matching.proofs.ArcTestLaws.{follows-none, turned_more, turned_stop, dart-read, turn_below}
