@@ -1,7 +1,6 @@
 -- `edit::nodes::of_kind` meets its contract.
 use mathlib.Core.Path.{◌≡◌}
 use native.Mathlib.Omega.{arith}
-use Rattle.edit.specs.Nodes.{Listed}
 use Rattle.edit.proofs.NodeLaws.{listed-none, listed-few, listed_skip, listed_more}
 use Rattle.edit.proofs.nodes.of_kind.Goals as goal
 use Rattle.edit.proofs.nodes.of_kind.Goals.{then-kinds-s, else-kinds-s}

@@ -1,10 +1,6 @@
 -- The loop's invariant is the contract at the nodes passed.
 use Prim.Native.Nat.{◌≤◌, ◌-◌}
-use mathlib.Core.Path.{◌≡◌}
-use mathlib.Core.Logic.{⊎_elim}
-use native.Mathlib.Omega.{arith}
 use Rattle.edit.specs.Nodes.{Listed}
-use Rattle.edit.proofs.NodeLaws.{listed-none, listed-few, listed_skip, listed_more}
 use Rattle.edit.proofs.nodes.of_kind.Given as goal
 
 abbrev pub invariant-loop-s : goal.invariant-loop-s

@@ -1,11 +1,7 @@
 -- `edit::site::apply_at` meets its contract.
-use Prim.Native.Nat.{◌-◌, ◌≤◌}
-use mathlib.Core.Path.{◌≡◌, sym, ◌∙◌}
-use mathlib.Core.Bool.{true}
-use Rattle.base.specs.Below.{count_below}
+use mathlib.Core.Path.{sym, ◌∙◌}
 use Rattle.base.proofs.TestLaws.{and_no_left, and_no_right}
-use Rattle.model.specs.Map.{Map, view, live, unused}
-use Rattle.model.specs.WellFormed.{well_formed}
+use Rattle.model.specs.Map.{view}
 use Rattle.table.proofs.SurveyLaws.{survey_live, survey_broken}
 use Rattle.edit.proofs.SiteLaws.{other-dimension, bad-table, no_dart, sound, applied, unused-left}
 use Rattle.edit.proofs.site.apply_at.Goals as goal

@@ -1,5 +1,4 @@
 -- `edit::site::is_dart` meets its contract.
-use borrow.Author.Rules.{rules}
 use Rattle.model.specs.Map.{view}
 use Rattle.edit.proofs.SiteLaws.{dart-out, dart_in}
 use Rattle.edit.proofs.site.is_dart.Goals as goal

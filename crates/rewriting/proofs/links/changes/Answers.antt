@@ -1,10 +1,6 @@
 -- `rewriting::links::changes` meets its contract.
-use Prim.Native.Nat.{ℕ, ◌-◌, ◌≤◌, ◌<◌}
-use mathlib.Core.Path.{◌≡◌}
 use native.Mathlib.Omega.{arith}
-use lib.ListN.{length, get_or, length-set}
-use borrow.Author.Rules.{rules}
-use Rattle.rewriting.specs.Links.{changed}
+use lib.ListN.{length-set}
 use Rattle.rewriting.proofs.LinkLaws.{changes_more}
 use Rattle.rewriting.proofs.links.changes.Goals as goal
 

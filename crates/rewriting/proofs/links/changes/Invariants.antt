@@ -1,11 +1,8 @@
 -- The loop's invariant: the first k codes are as they are to be.
 use Prim.Native.Nat.{ℕ, ◌-◌, ◌≤◌, ◌<◌}
 use mathlib.Core.Path.{◌≡◌}
-use native.Mathlib.Omega.{arith}
-use lib.ListN.{length, get_or, length-set}
-use borrow.Author.Rules.{rules}
+use lib.ListN.{length, get_or}
 use Rattle.rewriting.specs.Links.{changed}
-use Rattle.rewriting.proofs.LinkLaws.{changes_more}
 use Rattle.rewriting.proofs.links.changes.Given as goal
 
 abbrev pub invariant-loop-k : goal.invariant-loop-k

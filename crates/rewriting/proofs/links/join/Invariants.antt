@@ -1,15 +1,10 @@
 -- The loop's invariant: the links are written for the first r darts.
-use Prim.Native.Nat.{◌-◌, ◌<◌}
-use mathlib.Core.Path.{ap, ◌∙◌}
-use native.Mathlib.Omega.{arith}
-use borrow.Author.Rules.{rules}
+use Prim.Native.Nat.{◌-◌}
 use Rattle.model.specs.Map.{Link, view}
 use Rattle.table.specs.Writes.{set_at, with_field}
-use Rattle.table.proofs.StageLaws.{Stage, stage_none, stage_more, stage_length, stage_done}
-use Rattle.table.proofs.WriteLaws.{put_view, links-steps}
+use Rattle.table.proofs.StageLaws.{Stage}
 use Rattle.orbit.specs.Store.{dart_at}
-use Rattle.rewriting.specs.Links.{place_by, overwritten}
-use Rattle.rewriting.proofs.LinkLaws.{put-at, slot_at, place-below}
+use Rattle.rewriting.specs.Links.{place_by}
 use Rattle.rewriting.proofs.links.join.Given as goal
 
 abbrev pub invariant-loop-r : goal.invariant-loop-r

@@ -1,5 +1,4 @@
 -- `rewriting::links::place` meets its contract.
-use native.Mathlib.Omega.{arith}
 use Rattle.rewriting.proofs.LinkLaws.{place_same, place-by}
 use Rattle.rewriting.proofs.links.place.Goals as goal
 

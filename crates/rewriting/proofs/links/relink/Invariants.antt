@@ -1,13 +1,10 @@
 -- The loop's invariant: the first k arcs are followed.
 use Prim.Native.Nat.{◌*◌, ◌-◌, ◌/◌, ◌%◌}
-use native.Mathlib.Omega.{arith}
 use lib.ListN.{get_or}
-use borrow.Author.Rules.{rules}
 use Rattle.model.specs.Map.{Link, view}
 use Rattle.table.specs.Writes.{with_field}
-use Rattle.rewriting.specs.Links.{followed, relinked}
-use Rattle.table.proofs.StageLaws.{Stage, stage_none, stage_more, stage_length, stage_done}
-use Rattle.rewriting.proofs.LinkLaws.{followed-at}
+use Rattle.rewriting.specs.Links.{followed}
+use Rattle.table.proofs.StageLaws.{Stage}
 use Rattle.rewriting.proofs.links.relink.Given as goal
 
 abbrev pub invariant-loop-k : goal.invariant-loop-k

@@ -1,13 +1,9 @@
 -- The loop's invariant: the first v nodes are cleared where they are deleted.
 use Prim.Native.Nat.{◌-◌}
-use mathlib.Core.Path.{ap, ◌∙◌}
-use mathlib.Core.Logic.{⊎_elim}
-use lib.ListN.{length, get_or}
-use borrow.Author.Rules.{rules}
+use lib.ListN.{get_or}
 use Rattle.model.specs.Map.{view}
-use Rattle.rewriting.specs.Room.{cleared_by, cleared}
-use Rattle.table.proofs.StageLaws.{Stage, stage_none, stage_more, stage_length, stage_done}
-use Rattle.rewriting.proofs.ClearLaws.{by-deleted, by-other}
+use Rattle.rewriting.specs.Room.{cleared_by}
+use Rattle.table.proofs.StageLaws.{Stage}
 use Rattle.rewriting.proofs.room.clear.Given as goal
 
 abbrev pub invariant-loop-v : goal.invariant-loop-v

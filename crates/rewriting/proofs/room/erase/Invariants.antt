@@ -1,14 +1,9 @@
 -- The loop's invariant: the records of the first r darts are zero.
-use Prim.Native.Nat.{◌-◌, ◌<◌}
-use borrow.Author.Rules.{rules}
+use Prim.Native.Nat.{◌-◌}
 use Rattle.model.specs.Map.{view}
 use Rattle.table.specs.Writes.{zeroed}
 use Rattle.orbit.specs.Store.{dart_at}
-use Rattle.rewriting.specs.Room.{erased}
-use Rattle.table.proofs.StageLaws.{Stage, stage_none, stage_more, stage_length, stage_done}
-use Rattle.table.proofs.WriteLaws.{blank-view}
-use Rattle.rewriting.proofs.LinkLaws.{slot_at}
-use Rattle.rewriting.proofs.ClearLaws.{zeroed-at}
+use Rattle.table.proofs.StageLaws.{Stage}
 use Rattle.rewriting.proofs.room.erase.Given as goal
 
 abbrev pub invariant-loop-r : goal.invariant-loop-r

@@ -1,11 +1,7 @@
 -- The loop's invariant: the tags for the first a added nodes are gathered.
-use Prim.Native.Nat.{◌+◌, ◌*◌, ◌-◌, ◌≤◌, ◌<◌}
-use native.Mathlib.Omega.{arith}
-use lib.ListN.{get_or}
-use borrow.Author.Rules.{rules}
-use Rattle.model.specs.Map.{view, max_slots}
+use Prim.Native.Nat.{◌-◌, ◌≤◌}
+use Rattle.model.specs.Map.{view}
 use Rattle.rewriting.specs.Room.{Gathered}
-use Rattle.rewriting.proofs.RoomLaws.{gathered_none, gathered_more, gathered_all, giver-slots, giver-before, next_fits}
 use Rattle.rewriting.proofs.room.gather.Given as goal
 
 abbrev pub invariant-loop-a : goal.invariant-loop-a

@@ -1,11 +1,7 @@
 -- The loop's invariant: the tags of the first r darts are noted.
-use Prim.Native.Nat.{◌+◌, ◌-◌, ◌≤◌, ◌<◌}
-use native.Mathlib.Omega.{arith}
-use lib.ListN.{length}
-use borrow.Author.Rules.{rules}
+use Prim.Native.Nat.{◌-◌, ◌≤◌}
 use Rattle.model.specs.Map.{view}
 use Rattle.rewriting.specs.Room.{Noted}
-use Rattle.rewriting.proofs.RoomLaws.{noted-none, noted_more, noted-all, noted-slot}
 use Rattle.rewriting.proofs.room.note.Given as goal
 
 abbrev pub invariant-loop-r : goal.invariant-loop-r

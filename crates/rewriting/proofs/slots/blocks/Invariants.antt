@@ -1,16 +1,10 @@
 -- The loop's invariant: the pairs of the orbit darts below 64 × w have their slots.
-use Prim.Native.Nat.{◌*◌, ◌-◌, ◌≤◌, ◌<◌}
-use mathlib.Core.Path.{◌≡◌, sym, ◌∙◌}
-use native.Mathlib.Omega.{arith}
-use lib.ListN.{length}
-use borrow.Author.Rules.{rules}
+use Prim.Native.Nat.{◌*◌, ◌-◌, ◌≤◌}
 use Rattle.base.specs.Below.{count_below}
-use Rattle.model.specs.Map.{view, max_slots}
+use Rattle.model.specs.Map.{view}
 use Rattle.table.specs.Words.{Sized}
-use Rattle.table.proofs.WordLaws.{sized_same}
 use Rattle.orbit.specs.At.{site}
-use Rattle.rewriting.specs.Slots.{Granting, block_count, BeforeBlocks}
-use Rattle.rewriting.proofs.SlotGiveLaws.{granting-start, block_of, next_block}
+use Rattle.rewriting.specs.Slots.{Granting, BeforeBlocks}
 use Rattle.rewriting.proofs.slots.blocks.Given as goal
 
 abbrev pub invariant-loop-w : goal.invariant-loop-w

@@ -1,9 +1,9 @@
 -- `rewriting::slots::clear_bits` meets its contract.
-use Prim.Native.Nat.{◌-◌, ◌≤◌, ◌<◌}
+use Prim.Native.Nat.{◌<◌}
 use mathlib.Core.Path.{◌≡◌}
 use native.Mathlib.Omega.{arith}
-use Rattle.rewriting.specs.Slots.{digit_words, NoDigits}
-use Rattle.rewriting.proofs.SlotBlockLaws.{bits_more, word-inside}
+use Rattle.rewriting.specs.Slots.{digit_words}
+use Rattle.rewriting.proofs.SlotBlockLaws.{bits_more}
 use Rattle.rewriting.proofs.slots.clear_bits.Goals as goal
 
 pub loop-i-preserved : goal.loop-i-preserved

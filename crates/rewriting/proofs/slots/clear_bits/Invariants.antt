@@ -1,9 +1,6 @@
 -- The loop's invariant: the first i words of digits are 0.
-use Prim.Native.Nat.{◌-◌, ◌≤◌, ◌<◌}
-use mathlib.Core.Path.{◌≡◌}
-use native.Mathlib.Omega.{arith}
-use Rattle.rewriting.specs.Slots.{digit_words, NoDigits}
-use Rattle.rewriting.proofs.SlotBlockLaws.{bits_more, word-inside}
+use Prim.Native.Nat.{◌-◌, ◌≤◌}
+use Rattle.rewriting.specs.Slots.{NoDigits}
 use Rattle.rewriting.proofs.slots.clear_bits.Given as goal
 
 abbrev pub invariant-loop-i : goal.invariant-loop-i

@@ -1,11 +1,8 @@
 -- The loop's invariant is `Scanned`: no slot from `from` to before y is unused. Each test that fails
 -- takes it one slot on.
-use Prim.Native.Nat.{ℕ, ◌+◌, ◌-◌, ◌≤◌, ◌<◌}
-use mathlib.Core.Path.{refl}
-use native.Mathlib.Omega.{arith}
-use Rattle.model.specs.Map.{view, max_slots}
-use Rattle.table.specs.Words.{Sized}
-use Rattle.rewriting.proofs.SlotTurnLaws.{Scanned, scan_inside, scan_more, scan_found}
+use Prim.Native.Nat.{◌-◌}
+use Rattle.model.specs.Map.{view}
+use Rattle.rewriting.proofs.SlotTurnLaws.{Scanned}
 use Rattle.rewriting.proofs.slots.lowest.Given as goal
 
 abbrev pub invariant-loop-slots : goal.invariant-loop-slots

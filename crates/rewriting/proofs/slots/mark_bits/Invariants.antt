@@ -1,10 +1,6 @@
 -- The loop's invariant: the darts at the first r places have their digits.
-use Prim.Native.Nat.{◌+◌, ◌*◌, ◌-◌, ◌/◌, ◌%◌, ◌^◌, ◌≤◌, ◌<◌}
-use mathlib.Core.Path.{◌≡◌}
-use native.Mathlib.Omega.{arith}
-use lib.ListN.{length}
+use Prim.Native.Nat.{◌-◌, ◌≤◌}
 use Rattle.rewriting.specs.Slots.{Digits}
-use Rattle.rewriting.proofs.SlotBlockLaws.{digits-none, mark-word, mark-room, mark-more}
 use Rattle.rewriting.proofs.slots.mark_bits.Given as goal
 
 abbrev pub invariant-loop-r : goal.invariant-loop-r

@@ -1,10 +1,7 @@
 -- `rewriting::slots::row_starts` meets its contract.
-use Prim.Native.Nat.{◌-◌, ◌≤◌}
 use mathlib.Core.Path.{◌≡◌, ◌∙◌}
 use native.Mathlib.Omega.{arith}
-use borrow.Author.Rules.{rules}
-use Rattle.rewriting.specs.Slots.{RowsBegin}
-use Rattle.rewriting.proofs.SlotRowLaws.{rows_none, rows_more}
+use Rattle.rewriting.proofs.SlotRowLaws.{rows_more}
 use Rattle.rewriting.proofs.slots.row_starts.Goals as goal
 
 pub loop-a-preserved : goal.loop-a-preserved

@@ -1,10 +1,6 @@
 -- The loop's invariant: the first a added nodes have their rows.
 use Prim.Native.Nat.{◌-◌, ◌≤◌}
-use mathlib.Core.Path.{◌≡◌, ◌∙◌}
-use native.Mathlib.Omega.{arith}
-use borrow.Author.Rules.{rules}
 use Rattle.rewriting.specs.Slots.{RowsBegin}
-use Rattle.rewriting.proofs.SlotRowLaws.{rows_none, rows_more}
 use Rattle.rewriting.proofs.slots.row_starts.Given as goal
 
 abbrev pub invariant-loop-a : goal.invariant-loop-a

@@ -1,18 +1,12 @@
 -- The loop's invariant: whatever was given before, the first a pairs of the dart have their slots too, where
 -- a and `rest` are together `many`, and `base` is the begin of the next row.
-use Prim.Native.Nat.{ℕ, ◌+◌, ◌*◌, ◌≤◌, ◌<◌}
-use mathlib.Core.Path.{◌≡◌, refl, ◌∙◌, sym}
-use native.Mathlib.Nat.{add-zero}
-use native.Mathlib.Omega.{arith}
-use lib.ListN.{length}
-use borrow.Author.Rules.{rules}
+use Prim.Native.Nat.{ℕ, ◌+◌, ◌*◌}
+use mathlib.Core.Path.{◌≡◌}
 use Rattle.base.specs.Below.{count_below}
-use Rattle.model.specs.Map.{view, max_slots}
+use Rattle.model.specs.Map.{view}
 use Rattle.table.specs.Words.{Sized}
-use Rattle.table.proofs.WordLaws.{sized_same}
 use Rattle.orbit.specs.At.{site}
 use Rattle.rewriting.specs.Slots.{Turn, Granting}
-use Rattle.rewriting.proofs.SlotTurnLaws.{turn-size, turn-done, turn-cell, turn-room, turn_more}
 use Rattle.rewriting.proofs.slots.turn.Given as goal
 
 abbrev pub invariant-loop-rest : goal.invariant-loop-rest
