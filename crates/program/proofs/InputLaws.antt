@@ -13,5 +13,5 @@ pub take_behind : (k n : ℕ) (l b : List ℕ) → k ≤ length l → n ≤ leng
 take_behind k n l b within fits =
     let after = post_of k (length l - k) l in
     take-add k n (put_mid k (length l - k) l b) ∙ ap (λ (f : List ℕ). f ++ take n (drop k (put_mid k (length l - k) l b))) (take_put k (length l - k) l b within)
-        ∙ ap (λ (r : List ℕ). take k l ++ take n r) (drop_at (take k l) (b ++ after) k (length-take-le k l within))
-        ∙ ap (λ (r : List ℕ). take k l ++ r) (take-append-le n b after fits)
+    ∙ ap (λ (r : List ℕ). take k l ++ take n r) (drop_at (take k l) (b ++ after) k (length-take-le k l within))
+    ∙ ap (λ (r : List ℕ). take k l ++ r) (take-append-le n b after fits)

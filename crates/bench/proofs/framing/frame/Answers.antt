@@ -24,33 +24,33 @@ returns-then-left-map-2 c =
 pub returns-then-left-map-3 : goal.returns-then-left-map-3
 returns-then-left-map-3 c =
     let ended : (c.two-map.result.value ≤ longest_file → c.two-scheme.result.value ≤ longest_scheme → c.two-darts.result.value ≤ most_darts
-        → length c.args.input.now ≡ 6 + c.two-map.result.value + c.two-scheme.result.value + 2 * c.two-darts.result.value → ⊥)
-        → framed c.args.input.now ≡ false = λ f. fault _ _ _ _ c.two-map.ensures.value c.two-scheme.ensures.value
-        c.two-darts.ensures.value f in
+    → length c.args.input.now ≡ 6 + c.two-map.result.value + c.two-scheme.result.value + 2 * c.two-darts.result.value → ⊥)
+    → framed c.args.input.now ≡ false = λ f. fault _ _ _ _ c.two-map.ensures.value c.two-scheme.ensures.value
+    c.two-darts.ensures.value f in
     ended (λ x y z w. absurd (omega arith))
 
 pub returns-then-map-gt-LONGEST_FILE : goal.returns-then-map-gt-LONGEST_FILE
 returns-then-map-gt-LONGEST_FILE c =
     let ended : (c.two-map.result.value ≤ longest_file → c.two-scheme.result.value ≤ longest_scheme → c.two-darts.result.value ≤ most_darts
-        → length c.args.input.now ≡ 6 + c.two-map.result.value + c.two-scheme.result.value + 2 * c.two-darts.result.value → ⊥)
-        → framed c.args.input.now ≡ false = λ f. fault _ _ _ _ c.two-map.ensures.value c.two-scheme.ensures.value
-        c.two-darts.ensures.value f in
+    → length c.args.input.now ≡ 6 + c.two-map.result.value + c.two-scheme.result.value + 2 * c.two-darts.result.value → ⊥)
+    → framed c.args.input.now ≡ false = λ f. fault _ _ _ _ c.two-map.ensures.value c.two-scheme.ensures.value
+    c.two-darts.ensures.value f in
     ended (λ x y z w. absurd (omega arith))
 
 pub returns-then-scheme-gt-LONGEST_SCHEME : goal.returns-then-scheme-gt-LONGEST_SCHEME
 returns-then-scheme-gt-LONGEST_SCHEME c =
     let ended : (c.two-map.result.value ≤ longest_file → c.two-scheme.result.value ≤ longest_scheme → c.two-darts.result.value ≤ most_darts
-        → length c.args.input.now ≡ 6 + c.two-map.result.value + c.two-scheme.result.value + 2 * c.two-darts.result.value → ⊥)
-        → framed c.args.input.now ≡ false = λ f. fault _ _ _ _ c.two-map.ensures.value c.two-scheme.ensures.value
-        c.two-darts.ensures.value f in
+    → length c.args.input.now ≡ 6 + c.two-map.result.value + c.two-scheme.result.value + 2 * c.two-darts.result.value → ⊥)
+    → framed c.args.input.now ≡ false = λ f. fault _ _ _ _ c.two-map.ensures.value c.two-scheme.ensures.value
+    c.two-darts.ensures.value f in
     ended (λ x y z w. absurd (omega arith))
 
 pub returns-then-darts-gt-MOST_DARTS : goal.returns-then-darts-gt-MOST_DARTS
 returns-then-darts-gt-MOST_DARTS c =
     let ended : (c.two-map.result.value ≤ longest_file → c.two-scheme.result.value ≤ longest_scheme → c.two-darts.result.value ≤ most_darts
-        → length c.args.input.now ≡ 6 + c.two-map.result.value + c.two-scheme.result.value + 2 * c.two-darts.result.value → ⊥)
-        → framed c.args.input.now ≡ false = λ f. fault _ _ _ _ c.two-map.ensures.value c.two-scheme.ensures.value
-        c.two-darts.ensures.value f in
+    → length c.args.input.now ≡ 6 + c.two-map.result.value + c.two-scheme.result.value + 2 * c.two-darts.result.value → ⊥)
+    → framed c.args.input.now ≡ false = λ f. fault _ _ _ _ c.two-map.ensures.value c.two-scheme.ensures.value
+    c.two-darts.ensures.value f in
     ended (λ x y z w. absurd (omega arith))
 
 pub returns : goal.returns

@@ -34,8 +34,7 @@ dart_line-at-requires c =
 
 pub loop-k-preserved : goal.loop-k-preserved
 loop-k-preserved c =
-    let q = c.loop-k in
-    (
+    let q = c.loop-k in (
       omega (arith, c.loop-k-test.true),
       refl,
       going_more _ _ c.requires.laid _ _ c.requires.map_open _ _ _ _ _ _ _ q.invariant.2 _ c.two-dart.ensures.value _ c.edit-answer.ensures.value

@@ -31,7 +31,7 @@ loop-x-preserved c =
     let inv = c.loop-x.invariant in (
       omega arith,
       elim c.if-state-s.branch [
-        then-state-s w ↦ rw w.found-is (tally_hit _ _ _ (eq-eqb _ _ (sym c.state.ensures ∙ w.if-state-s.true)) inv.1)
+        | then-state-s w ↦ rw w.found-is (tally_hit _ _ _ (eq-eqb _ _ (sym c.state.ensures ∙ w.if-state-s.true)) inv.1)
         | else-state-s w ↦ rw w.found-is (tally_miss _ _ _ (ne_eqb _ _ (λ e. w.if-state-s.false (c.state.ensures ∙ e))) inv.1)
       ],
     )

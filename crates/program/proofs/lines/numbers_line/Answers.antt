@@ -18,7 +18,7 @@ loop-k-init c = (omega arith, fields-none _ _ _)
 pub field-next-requires : goal.field-next-requires
 field-next-requires c =
     let room : let v = c.args.values.now in
-        c.decimal-next.result + length (fields v (length v - 1)) + 1 ≤ length c.decimal-next.new.out = rest-room _ _ _ c.requires.values_in_bounds _ _ c.decimal-next.ensures in
+    c.decimal-next.result + length (fields v (length v - 1)) + 1 ≤ length c.decimal-next.new.out = rest-room _ _ _ c.requires.values_in_bounds _ _ c.decimal-next.ensures in
     fields-room _ _ _ _ _ _ c.loop-k.invariant.1 (room) c.loop-k-test.true
 
 pub loop-k-preserved : goal.loop-k-preserved
@@ -27,7 +27,7 @@ loop-k-preserved c = (omega arith, fields-more _ _ _ _ _ _ c.loop-k.invariant.1 
 pub text-requires : goal.text-requires
 text-requires c =
     let room : let v = c.args.values.now in
-        c.decimal-next.result + length (fields v (length v - 1)) + 1 ≤ length c.decimal-next.new.out = rest-room _ _ _ c.requires.values_in_bounds _ _ c.decimal-next.ensures in
+    c.decimal-next.result + length (fields v (length v - 1)) + 1 ≤ length c.decimal-next.new.out = rest-room _ _ _ c.requires.values_in_bounds _ _ c.decimal-next.ensures in
     end-room _ _ _ _ _ _ c.loop-k.invariant.1 (room) (omega arith)
 
 pub returns : goal.returns

@@ -10,5 +10,8 @@ returns-then-loaded-ne0 c =
 
 pub returns : goal.returns
 returns c =
-    record { value = load-checked _ _ _ c.requires.named.0 _ c.requires.table_len c.requires.named.1 _ _ c.load.ensures _ c.number-loaded.ensures _ _ c.if-loaded-ne0.false
-          c.check_table.ensures c.number.ensures; table_after = table_of_lem c.load.ensures }
+    record {
+      value = load-checked _ _ _ c.requires.named.0 _ c.requires.table_len c.requires.named.1 _ _ c.load.ensures _ c.number-loaded.ensures _ _ c.if-loaded-ne0.false
+          c.check_table.ensures c.number.ensures;
+      table_after = table_of_lem c.load.ensures;
+    }

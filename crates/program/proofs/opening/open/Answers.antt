@@ -20,14 +20,14 @@ returns-then-slots-gt-MOST_SLOTS c =
 pub slice_bounds-load-end-2 : goal.slice_bounds-load-end-2
 slice_bounds-load-end-2 c =
     let lent : let w = c.size-words.result in
-        w ≡ length (take w c.args.table.now) = sym (length-take-le _ c.args.table.now (omega (arith, c.size-words.ensures, c.requires))) in
+    w ≡ length (take w c.args.table.now) = sym (length-take-le _ c.args.table.now (omega (arith, c.size-words.ensures, c.requires))) in
     lent
 
 pub load-k-requires : goal.load-k-requires
 load-k-requires c =
     let named : Named c.args.file.now c.one-first.result.value c.two-slots.result.value = named_of _ _ _ c.if-file-lt3.false c.one-first.ensures.value (rw c.one-first.ensures.next at c.two-slots.ensures.value) in
     let lent : let w = c.size-words.result in
-        w ≡ length (take w c.args.table.now) = sym (length-take-le _ c.args.table.now (omega (arith, c.size-words.ensures, c.requires))) in
+    w ≡ length (take w c.args.table.now) = sym (length-take-le _ c.args.table.now (omega (arith, c.size-words.ensures, c.requires))) in
     record { named = (named, c.if-slots-gt-MOST_SLOTS.false); table_len = sym (lent) ∙ c.size-words.ensures }
 
 pub returns-then-k-ne0 : goal.returns-then-k-ne0

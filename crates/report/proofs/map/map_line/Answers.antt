@@ -18,7 +18,7 @@ slice_bounds-counts-end c =
 pub slice_bounds-counts-end-in-Map : goal.slice_bounds-counts-end-in-Map
 slice_bounds-counts-end-in-Map c =
     let within : c.size-words.result ≤ length c.«open».new.table =
-            omega (arith, c.size-words.ensures, c.in-Map.ensures.opened_as.few, c.«open».auto.table, c.requires.table_len) in
+    omega (arith, c.size-words.ensures, c.in-Map.ensures.opened_as.few, c.«open».auto.table, c.requires.table_len) in
     sym (length-take-le _ c.«open».new.table within)
 
 pub slice_bounds-counts-end-in-Map-2 : goal.slice_bounds-counts-end-in-Map-2
@@ -49,7 +49,7 @@ returns-in-Refused c =
 pub count_line-requires : goal.count_line-requires
 count_line-requires c =
     let few : Few c.counts-c.result = map-few _ _ _ c.in-Map.ensures.opened_as _ _ c.requires.table_len c.«open».ensures.table_after
-            _ c.size-words.ensures _ c.counts-c.ensures.value in
+    _ c.size-words.ensures _ c.counts-c.ensures.value in
     omega (arith, c.requires.longest_line_in_bounds, few-short c.counts-c.result few)
 
 pub sum-requires : goal.sum-requires
