@@ -18,7 +18,6 @@ use Rattle.model.specs.Scheme.{left, has, first_hook, is_hook, orbit_dim, scheme
 use Rattle.model.specs.Shaped.{Shaped}
 use Rattle.model.specs.Conditions.{path_to, hook_ok, hook_fault, incidence_ok, incidence_fault, cycle_ok, cycle_fault}
 use Rattle.model.specs.Accepted.{Incident}
-use Rattle.model.specs.Orbit.{orbit}
 use Rattle.model.specs.Match.{matches, Assignment}
 use Rattle.model.specs.Site.{Site, LiveDart, Sound}
 use Rattle.model.specs.Calls.{first_dart, second_dart, as_many, takes, is_dart, site_of}

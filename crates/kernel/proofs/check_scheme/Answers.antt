@@ -1,5 +1,5 @@
 -- `kernel::check_scheme` meets its contract.
-use mathlib.Core.Path.{refl, sym, ◌∙◌}
+use mathlib.Core.Path.{sym, ◌∙◌}
 use Rattle.kernel.proofs.StageLaws.{form-bad, form-good, judge_asks, form-refused, fault_judged, found_none, found_some}
 use Rattle.kernel.proofs.StageLaws.{scheme-refused, scheme-done}
 use Rattle.kernel.proofs.check_scheme.Goals as goal
