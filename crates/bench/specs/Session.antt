@@ -1,5 +1,5 @@
 -- A run of the bench program, from its input b to its output.
-use Rattle.std.specs.Prelude.{ℕ, ◌+◌, ◌*◌, ◌≤◌, ◌≡◌, List, ◌++◌, length, drop, replicate}
+use Rattle.std.specs.Prelude.{ℕ, ◌*◌, ◌≤◌, ◌≡◌, List, ◌++◌, length, drop, replicate}
 use Rattle.base.specs.Lists.{joined}
 use Rattle.bench.specs.Bench.{dart_line, dart_at, answer_at, table_after, printed}
 use Rattle.numbers.specs.Places.{Put}

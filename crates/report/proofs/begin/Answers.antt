@@ -1,7 +1,6 @@
 -- `report::begin` meets its contract: the number of maps is missing, or what comes after it is read.
 use Prim.Native.Nat.{◌≤◌}
 use native.Mathlib.Omega.{arith}
-use borrow.Author.Rules.{rules}
 use Rattle.report.specs.Promises.{most_maps}
 use Rattle.report.proofs.FeedLaws.{behind, room-none, start-short, start-ahead}
 use Rattle.report.proofs.begin.Goals as goal

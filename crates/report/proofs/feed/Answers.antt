@@ -1,5 +1,4 @@
 -- `report::feed` meets its contract, state by state.
-use borrow.Author.Rules.{rules}
 use Rattle.report.proofs.FeedLaws.{fed_in, worked_in, ready_in, end-fed, start-worked, end-worked}
 use Rattle.report.proofs.feed.Goals as goal
 

@@ -2,7 +2,6 @@
 use mathlib.Core.Path.{refl, sym}
 use native.Mathlib.Omega.{arith}
 use lib.Seq.{length-take-le}
-use borrow.Author.Rules.{rules}
 use Rattle.report.proofs.FeedLaws.{behind, file-short, unworked, worked, room-one, room-file, file-ahead}
 use Rattle.report.proofs.file.Goals as goal
 

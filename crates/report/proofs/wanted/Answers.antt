@@ -1,7 +1,6 @@
 -- `report::wanted` meets its contract: a file that is wanted is within its limit.
 use mathlib.Core.Path.{sym, ap}
 use native.Mathlib.Omega.{arith}
-use borrow.Author.Rules.{rules}
 use Rattle.report.specs.Steps.{wants}
 use Rattle.report.proofs.FeedLaws.{within-file}
 use Rattle.report.proofs.wanted.Goals as goal

@@ -4,7 +4,6 @@ use mathlib.Core.Bool.{false}
 use mathlib.Core.Path.{◌≡◌, refl}
 use native.Mathlib.Omega.{arith}
 use lib.ListN.{length}
-use borrow.Author.Rules.{rules}
 use Rattle.program.specs.Opening.{longest_file}
 use Rattle.bench.specs.Bench.{framed, longest_scheme, most_darts}
 use Rattle.bench.proofs.FramingLaws.{fault}

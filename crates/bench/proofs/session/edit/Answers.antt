@@ -1,5 +1,4 @@
 -- `bench::session::edit` meets its contract: the part of the input that is lent is the scheme.
-use borrow.Author.Rules.{rules}
 use Rattle.bench.proofs.SessionLaws.{scheme-part, edit-part}
 use Rattle.bench.proofs.session.edit.Goals as goal
 

@@ -1,10 +1,9 @@
 -- `bench::session::edits` meets its contract.
-use Prim.Native.Nat.{◌*◌, ◌-◌, ◌≤◌, ◌<◌}
+use Prim.Native.Nat.{◌*◌, ◌≤◌, ◌<◌}
 use mathlib.Core.Path.{◌≡◌, refl, ◌∙◌}
 use native.Mathlib.Omega.{arith}
 use lib.ListN.{length}
-use borrow.Author.Rules.{rules}
-use Rattle.bench.proofs.SessionLaws.{Going, going_none, going_more, line-room}
+use Rattle.bench.proofs.SessionLaws.{going_none, going_more, line-room}
 use Rattle.bench.proofs.session.edits.Goals as goal
 
 pub overflow_add-from : goal.overflow_add-from

@@ -1,10 +1,8 @@
 -- The loop's invariant: the first k darts are edited, and their lines printed.
-use Prim.Native.Nat.{◌*◌, ◌-◌, ◌≤◌, ◌<◌}
-use mathlib.Core.Path.{◌≡◌, refl, ◌∙◌}
-use native.Mathlib.Omega.{arith}
+use Prim.Native.Nat.{◌-◌, ◌≤◌}
+use mathlib.Core.Path.{◌≡◌}
 use lib.ListN.{length}
-use borrow.Author.Rules.{rules}
-use Rattle.bench.proofs.SessionLaws.{Going, going_none, going_more, line-room}
+use Rattle.bench.proofs.SessionLaws.{Going}
 use Rattle.bench.proofs.session.edits.Given as goal
 
 abbrev pub invariant-loop-k : goal.invariant-loop-k

@@ -3,7 +3,6 @@ use Prim.Native.Nat.{◌≤◌}
 use mathlib.Core.Path.{◌∙◌}
 use native.Mathlib.Omega.{arith}
 use lib.ListN.{length}
-use borrow.Author.Rules.{rules}
 use Rattle.bench.proofs.PrintedLaws.{printed_session, edits-room, tally_few, last-room, wrote_run}
 use Rattle.bench.proofs.SessionLaws.{stands-long}
 use Rattle.bench.specs.Session.{longest}

@@ -1,15 +1,9 @@
 -- The loop's invariant: the slots below x are counted.
 use Prim.Native.Nat.{◌-◌, ◌≤◌}
-use mathlib.Core.Logic.{⊎_elim}
-use mathlib.Core.Path.{◌≡◌, refl, sym, ◌∙◌}
-use native.Mathlib.Omega.{arith}
+use mathlib.Core.Path.{◌≡◌}
 use lib.Dec.{eqb}
-use borrow.Author.Rules.{rules}
-use borrow.Author.Tests.{eq-eqb, ne_eqb}
-use Rattle.base.proofs.BelowLaws.{count_le}
 use Rattle.base.specs.Below.{count_below}
 use Rattle.model.specs.Map.{view}
-use Rattle.bench.proofs.SessionLaws.{tally_hit, tally_miss}
 use Rattle.bench.proofs.session.tally.Given as goal
 
 abbrev pub invariant-loop-x : goal.invariant-loop-x

@@ -1,6 +1,5 @@
 -- `bench::writer::dart_line` meets its contract: the numbers that it gets are those of the line.
 use native.Mathlib.Omega.{arith}
-use borrow.Author.Rules.{rules}
 use Rattle.bench.proofs.LineLaws.{dart-room, dart-put}
 use Rattle.bench.proofs.writer.dart_line.Goals as goal
 

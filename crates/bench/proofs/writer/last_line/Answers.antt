@@ -1,6 +1,5 @@
 -- `bench::writer::last_line` meets its contract: its three parts are the line.
 use native.Mathlib.Omega.{arith}
-use borrow.Author.Rules.{rules}
 use Rattle.bench.proofs.LineLaws.{last-length, last-put}
 use Rattle.bench.proofs.writer.last_line.Goals as goal
 

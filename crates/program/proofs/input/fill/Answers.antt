@@ -1,7 +1,5 @@
 -- `program::input::fill` meets its contract: what is read goes behind what was read before.
-use native.Mathlib.Omega.{arith}
 use borrow.Author.Rules.{rules}
-use Rattle.std.specs.Io.KnownBytes.{Consumes}
 use Rattle.std.proofs.KnownBytes.{Consumes-trans}
 use Rattle.program.proofs.InputLaws.{take_behind}
 use Rattle.program.proofs.input.fill.Goals as goal

@@ -1,5 +1,4 @@
 -- `program::lines::field` meets its contract.
-use borrow.Author.Rules.{rules}
 use Rattle.program.specs.Lines.{decimal}
 use Rattle.numbers.proofs.PlaceLaws.{put_then}
 use Rattle.program.proofs.WriterLaws.{room-first, room-left}

@@ -2,8 +2,6 @@
 use Prim.Native.Nat.{◌+◌, ◌-◌, ◌≤◌}
 use native.Mathlib.Omega.{arith}
 use lib.ListN.{length}
-use borrow.Author.Rules.{rules}
-use Rattle.numbers.specs.Places.{Put}
 use Rattle.numbers.proofs.PlaceLaws.{put-length}
 use Rattle.program.specs.Lines.{fields}
 use Rattle.program.proofs.LineLaws.{fields-none, fields-more, fields-room, end-room, first-room, rest-room, numbers_put}

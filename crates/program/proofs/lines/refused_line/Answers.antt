@@ -1,6 +1,5 @@
 -- `program::lines::refused_line` meets its contract: its two parts are the line.
 use native.Mathlib.Omega.{arith}
-use borrow.Author.Rules.{rules}
 use Rattle.program.proofs.LineLaws.{refused-length, refused-put}
 use Rattle.program.proofs.lines.refused_line.Goals as goal
 

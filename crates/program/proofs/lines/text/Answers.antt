@@ -1,10 +1,7 @@
 -- `program::lines::text` meets its contract.
-use Prim.Native.Nat.{◌-◌, ◌≤◌}
-use mathlib.Core.Path.{◌≡◌, refl}
+use mathlib.Core.Path.{refl}
 use native.Mathlib.Omega.{arith}
-use lib.ListN.{length, take, length-set}
-use lib.Seq.{sets}
-use borrow.Author.Rules.{rules}
+use lib.ListN.{length-set}
 use Rattle.program.proofs.WriterLaws.{text_more, text_all}
 use Rattle.program.proofs.lines.text.Goals as goal
 

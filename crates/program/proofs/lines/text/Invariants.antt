@@ -1,11 +1,8 @@
 -- The loop's invariant: the first i bytes are written.
 use Prim.Native.Nat.{◌-◌, ◌≤◌}
-use mathlib.Core.Path.{◌≡◌, refl}
-use native.Mathlib.Omega.{arith}
-use lib.ListN.{length, take, length-set}
+use mathlib.Core.Path.{◌≡◌}
+use lib.ListN.{length, take}
 use lib.Seq.{sets}
-use borrow.Author.Rules.{rules}
-use Rattle.program.proofs.WriterLaws.{text_more, text_all}
 use Rattle.program.proofs.lines.text.Given as goal
 
 abbrev pub invariant-loop-i : goal.invariant-loop-i

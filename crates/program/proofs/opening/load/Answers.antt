@@ -1,5 +1,4 @@
 -- `program::opening::load` meets its contract: a load that is refused is the answer, and else the check is.
-use borrow.Author.Rules.{rules}
 use Rattle.demands.proofs.OneOutcome.{table_of_lem}
 use Rattle.program.proofs.OpeningLaws.{load-refused, load-checked}
 use Rattle.program.proofs.opening.load.Goals as goal

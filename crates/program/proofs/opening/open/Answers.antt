@@ -3,7 +3,6 @@ use mathlib.Core.Path.{◌≡◌, sym, ◌∙◌}
 use native.Mathlib.Omega.{arith}
 use lib.ListN.{length, take}
 use lib.Seq.{length-take-le}
-use borrow.Author.Rules.{rules}
 use Rattle.program.specs.Opening.{Named}
 use Rattle.program.proofs.OpeningLaws.{named_of, short-answer, short-table, many-answer, many-table, taken-table}
 use Rattle.program.proofs.opening.open.Goals as goal

@@ -3,7 +3,6 @@ use Prim.Native.Nat.{◌≤◌, ◌<◌}
 use mathlib.Core.Path.{◌≡◌}
 use native.Mathlib.Omega.{arith}
 use lib.ListN.{length}
-use borrow.Author.Rules.{rules}
 use Rattle.base.specs.Digits.{number_at}
 use Rattle.program.specs.Opening.{longest_file}
 use Rattle.report.proofs.AheadLaws.{none_left, room-left, ahead_missing, ahead-long, ahead-file}

@@ -1,6 +1,5 @@
 -- `report::ahead::last` meets its contract: a byte that comes after the last map is refused, and else the totals are printed.
 use native.Mathlib.Omega.{arith}
-use borrow.Author.Rules.{rules}
 use Rattle.report.proofs.AheadLaws.{last_extra, last_totals}
 use Rattle.report.proofs.LineLaws.{room-short}
 use Rattle.report.proofs.ahead.last.Goals as goal

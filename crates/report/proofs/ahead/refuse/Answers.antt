@@ -1,7 +1,6 @@
 -- `report::ahead::refuse` meets its contract: the line of refusal 11 is short.
 use mathlib.Core.Path.{refl}
 use native.Mathlib.Omega.{arith}
-use borrow.Author.Rules.{rules}
 use Rattle.report.proofs.AheadLaws.{eleven_short}
 use Rattle.report.proofs.ahead.refuse.Goals as goal
 

@@ -1,6 +1,5 @@
 -- `report::map::counts` meets its contract: a map that is well-formed is counted.
 use mathlib.Core.Path.{refl}
-use borrow.Author.Rules.{rules}
 use Rattle.report.proofs.MapLaws.{counted}
 use Rattle.report.proofs.map.counts.Goals as goal
 

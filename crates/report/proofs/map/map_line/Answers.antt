@@ -1,6 +1,6 @@
 -- `report::map::map_line` meets its contract: the line of the refusal, or the counts of the map that is open.
 use Prim.Native.Nat.{◌*◌, ◌≤◌}
-use mathlib.Core.Path.{◌≡◌, sym}
+use mathlib.Core.Path.{sym}
 use native.Mathlib.Omega.{arith}
 use lib.ListN.{length}
 use lib.Seq.{length-take-le}

@@ -1,12 +1,10 @@
 -- `report::map::sum` meets its contract.
-use Prim.Native.Nat.{ℕ, ◌+◌, ◌-◌, ◌≤◌}
-use mathlib.Core.Path.{◌≡◌, refl}
+use Prim.Native.Nat.{ℕ, ◌+◌}
+use mathlib.Core.Path.{refl}
 use mathlib.Core.List.{List}
 use native.Mathlib.Omega.{arith}
 use lib.ListN.{get_or}
-use borrow.Author.Rules.{rules}
 use borrow.Author.Tests.{lt-ltb}
-use Rattle.base.specs.Filled.{filled}
 use Rattle.base.proofs.FilledLaws.{filled_none, filled_more, filled-all}
 use Rattle.model.specs.Calls.{count_size}
 use Rattle.report.specs.Report.{sum}

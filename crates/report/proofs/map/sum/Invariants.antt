@@ -1,15 +1,10 @@
 -- The loop's invariant: the numbers below i are added.
 use Prim.Native.Nat.{ℕ, ◌+◌, ◌-◌, ◌≤◌}
-use mathlib.Core.Path.{◌≡◌, refl}
+use mathlib.Core.Path.{◌≡◌}
 use mathlib.Core.List.{List}
-use native.Mathlib.Omega.{arith}
 use lib.ListN.{get_or}
-use borrow.Author.Rules.{rules}
-use borrow.Author.Tests.{lt-ltb}
 use Rattle.base.specs.Filled.{filled}
-use Rattle.base.proofs.FilledLaws.{filled_none, filled_more, filled-all}
 use Rattle.model.specs.Calls.{count_size}
-use Rattle.report.specs.Report.{sum}
 use Rattle.report.proofs.map.sum.Given as goal
 
 abbrev added : List ℕ → List ℕ → ℕ → ℕ
