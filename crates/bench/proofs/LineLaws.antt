@@ -13,7 +13,8 @@ use Rattle.program.specs.Lines.{decimal, space, line_feed, fields, numbers_line}
 use Rattle.program.proofs.LineLaws.{digits}
 use Rattle.bench.specs.Bench.{live_word, unused_word, shown, dart_line, last_line}
 
-pub dart-length : (d : ℕ) (a : Answer) → length (dart_line d a) ≡ digits d + digits (number a) + digits (shown a 0) + digits (shown a 1) + digits (shown a 2) + 5
+pub dart-length : (d : ℕ) (a : Answer)
+    → length (dart_line d a) ≡ digits d + digits (number a) + digits (shown a 0) + digits (shown a 1) + digits (shown a 2) + 5
 unfolding dart_line numbers_line fields joined
 dart-length d a = simp length-append (omega arith)
 

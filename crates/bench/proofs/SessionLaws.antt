@@ -112,7 +112,8 @@ going_none b l N t s out x = record {
 module _ (b : List ℕ) (l : Layout) (laid : Laid b l) (n N : ℕ) (m : MapOpen (map_bytes b) n N) (k : ℕ) (t s out₀ out : List ℕ) (from at : ℕ)
     (g : Going b l N k t s out₀ out from at) (v : ℕ) (read : v ≡ number_at 2 b from) where
   moved : {A : Type 0} (f : ℕ → ℕ → List ℕ → List ℕ → List ℕ → Darts → A)
-      → f n N t s (scheme_bytes b) (One v) ≡ f (map_dimension b) (map_slots b) (table_after b k) (replicate (16 * map_slots b) 0) (scheme_bytes b) (One (dart_at b k))
+      → f n N t s (scheme_bytes b) (One v)
+      ≡ f (map_dimension b) (map_slots b) (table_after b k) (replicate (16 * map_slots b) 0) (scheme_bytes b) (One (dart_at b k))
   moved f =
       ap₂ (λ (x y : List ℕ). f n N x y (scheme_bytes b) (One v)) g.stands.table g.stands.store
       ∙ ap₂ (λ (i j : ℕ). f i j (table_after b k) (replicate (16 * j) 0) (scheme_bytes b) (One v)) m.named.dimension m.named.slots

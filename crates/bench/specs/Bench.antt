@@ -93,7 +93,8 @@ module _ (b : List ℕ) where
 
   unfoldable pub run_lines : List ℕ
   run_lines = joined dart_count (λ k. dart_line (dart_at k) (answer_at k))
-      ++ last_line (count_below map_slots (live (view map_slots (table_after dart_count)))) (count_below map_slots (unused (view map_slots (table_after dart_count))))
+      ++ last_line (count_below map_slots (live (view map_slots (table_after dart_count))))
+      (count_below map_slots (unused (view map_slots (table_after dart_count))))
 
   unfoldable pub printed : List ℕ
   printed = cond framed (cond (eqb (number map_answer) 0) run_lines (refused_line (number map_answer))) (refused_line 11)

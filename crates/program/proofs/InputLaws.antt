@@ -11,6 +11,7 @@ use Rattle.std.proofs.Common.{drop_at}
 pub take_behind : (k n : ℕ) (l b : List ℕ) → k ≤ length l → n ≤ length b → take (k + n) (put_mid k (length l - k) l b) ≡ take k l ++ take n b
 take_behind k n l b within fits =
     let after = post_of k (length l - k) l in
-    take-add k n (put_mid k (length l - k) l b) ∙ ap (λ (f : List ℕ). f ++ take n (drop k (put_mid k (length l - k) l b))) (take_put k (length l - k) l b within)
+    let put = put_mid k (length l - k) l b in
+    take-add k n put ∙ ap (λ (f : List ℕ). f ++ take n (drop k put)) (take_put k (length l - k) l b within)
     ∙ ap (λ (r : List ℕ). take k l ++ take n r) (drop_at (take k l) (b ++ after) k (length-take-le k l within))
     ∙ ap (λ (r : List ℕ). take k l ++ r) (take-append-le n b after fits)

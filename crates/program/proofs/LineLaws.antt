@@ -56,7 +56,8 @@ module _ (vs l : List ℕ) (p : ℕ) where
     fields-more l'' q y = rw joined_step (put_then l p _ l' p' _ l'' q x y)
 
     -- there is room for one number more, and at the end for the end of the line
-    pub fields-room : p + length (fields vs (length vs - 1)) + 1 ≤ length l → k + 1 < length vs → p' + length (space ++ decimal (get_or vs (k + 1) 0)) ≤ length l'
+    pub fields-room : p + length (fields vs (length vs - 1)) + 1 ≤ length l → k + 1 < length vs
+        → p' + length (space ++ decimal (get_or vs (k + 1) 0)) ≤ length l'
     unfolding fields
     fields-room room h =
         let more : List ℕ = space ++ decimal (get_or vs (k + 1) 0) in

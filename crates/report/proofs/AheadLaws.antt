@@ -31,7 +31,8 @@ pub ready-end : (s : State) (sums : List ℕ) → s ≡ End → Ready s sums
 ready-end s sums e = subst (λ (z : State). Ready z sums) (sym e) tt
 
 module _ (left : ℕ) (sums tail out : List ℕ) (at : ℕ) (r : Fed) (out' : List ℕ) where
-  ahead-refused : state_ahead left tail ≡ End → lines_ahead left sums tail ≡ refused_line 11 → RefusedAs sums out at r out' → AheadAs left sums tail out at r out'
+  ahead-refused : state_ahead left tail ≡ End → lines_ahead left sums tail ≡ refused_line 11 → RefusedAs sums out at r out'
+      → AheadAs left sums tail out at r out'
   ahead-refused s l x = record {
     state = rw s x.state;
     total = x.total;

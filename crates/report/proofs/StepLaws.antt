@@ -57,7 +57,8 @@ last-steps l k sums b = rw (steps-end k sums b) (append-nil l)
 
 -- the file of a map, if the steps after it print the maps after it
 file-steps : (left k : ℕ)
-    → ((sums rest : List ℕ) → lines_ahead left sums (take 2 rest) ++ steps_from k (state_ahead left (take 2 rest)) sums (drop 2 rest) ≡ maps_from left sums rest)
+    → ((sums rest : List ℕ)
+    → lines_ahead left sums (take 2 rest) ++ steps_from k (state_ahead left (take 2 rest)) sums (drop 2 rest) ≡ maps_from left sums rest)
     → (long : ℕ) (sums rest : List ℕ) → let p = take (long + 2) rest in
     lines_after (File left long) p sums ++ steps_from k (state_after (File left long) p) (sums_after (File left long) p sums) (drop (long + 2) rest)
     ≡ cond (leb long (length rest)) (map_line (take long rest) ++ maps_from left (summed (take long rest) sums) (drop long rest)) (refused_line 11)
@@ -81,7 +82,8 @@ none_tail : (rest : List ℕ) → eqb (length (take 2 rest)) 0 ≡ eqb (length r
 none_tail rest = eqb_same (length (take 2 rest)) 0 (length rest) 0 (λ e. omega (arith, e, length-take 2 rest)) (λ e. omega (arith, e, length-take 2 rest))
 
 -- if the length is there, the file is whole just if that many bytes come after it
-whole_is : (rest : List ℕ) → (leb 2 (length rest) and leb (number_at 2 rest 0) longest_file) ≡ true → whole rest ≡ leb (number_at 2 rest 0) (length (drop 2 rest))
+whole_is : (rest : List ℕ) → (leb 2 (length rest) and leb (number_at 2 rest 0) longest_file) ≡ true
+    → whole rest ≡ leb (number_at 2 rest 0) (length (drop 2 rest))
 unfolding whole
 whole_is rest t = same_test _ _
     (λ w.

@@ -29,7 +29,8 @@ dart_line-at-requires c =
     let q = c.loop-k in
     let more : q.k < c.args.layout.darts = omega (arith, c.loop-k-test.true) in
     let room : 23 * c.args.layout.darts ≤ length q.out = omega (arith, c.requires.darts_in_bounds, q.invariant.5) in
-    line-room _ _ c.requires.laid _ _ c.requires.map_open _ _ _ _ _ _ _ q.invariant.2 _ c.two-dart.ensures.value _ c.edit-answer.ensures.value c.two-dart.ensures.small more room
+    line-room _ _ c.requires.laid _ _ c.requires.map_open _ _ _ _ _ _ _ q.invariant.2 _ c.two-dart.ensures.value _ c.edit-answer.ensures.value
+    c.two-dart.ensures.small more room
 
 pub loop-k-preserved : goal.loop-k-preserved
 loop-k-preserved c =

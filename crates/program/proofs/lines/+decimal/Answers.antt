@@ -20,12 +20,14 @@ decimal-last-requires t c = (omega arith, tens_room c.args.out.now _ _ c.if-v-lt
 
 pub bounds-out-last : goal.bounds-out-last
 bounds-out-last t c =
-    let room : c.decimal-last.result + 1 ≤ length c.decimal-last.new.out = last-room _ _ _ c.if-v-lt10.false c.ranges.v.fits _ _ c.decimal-last.ensures c.requires in
+    let room : c.decimal-last.result + 1 ≤ length c.decimal-last.new.out =
+    last-room _ _ _ c.if-v-lt10.false c.ranges.v.fits _ _ c.decimal-last.ensures c.requires in
     omega arith
 
 pub overflow_add-result-2 : goal.overflow_add-result-2
 overflow_add-result-2 t c =
-    let room : c.decimal-last.result + 1 ≤ length c.decimal-last.new.out = last-room _ _ _ c.if-v-lt10.false c.ranges.v.fits _ _ c.decimal-last.ensures c.requires in
+    let room : c.decimal-last.result + 1 ≤ length c.decimal-last.new.out =
+    last-room _ _ _ c.if-v-lt10.false c.ranges.v.fits _ _ c.decimal-last.ensures c.requires in
     omega arith
 
 pub returns : goal.returns

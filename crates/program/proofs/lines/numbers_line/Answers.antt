@@ -1,9 +1,6 @@
 -- `program::lines::numbers_line` meets its contract.
-use Prim.Native.Nat.{◌+◌, ◌-◌, ◌≤◌}
 use native.Mathlib.Omega.{arith}
-use lib.ListN.{length}
 use Rattle.numbers.proofs.PlaceLaws.{put-length}
-use Rattle.program.specs.Lines.{fields}
 use Rattle.program.proofs.LineLaws.{fields-none, fields-more, fields-room, end-room, first-room, rest-room, numbers_put}
 use Rattle.program.proofs.lines.numbers_line.Goals as goal
 
@@ -15,18 +12,16 @@ loop-k-init c = (omega arith, fields-none _ _ _)
 
 pub field-next-requires : goal.field-next-requires
 field-next-requires c =
-    let room : let v = c.args.values.now in
-    c.decimal-next.result + length (fields v (length v - 1)) + 1 ≤ length c.decimal-next.new.out = rest-room _ _ _ c.requires.values_in_bounds _ _ c.decimal-next.ensures in
-    fields-room _ _ _ _ _ _ c.loop-k.invariant.1 (room) c.loop-k-test.true
+    let room = rest-room _ _ _ c.requires.values_in_bounds _ _ c.decimal-next.ensures in
+    fields-room _ _ _ _ _ _ c.loop-k.invariant.1 room c.loop-k-test.true
 
 pub loop-k-preserved : goal.loop-k-preserved
 loop-k-preserved c = (omega arith, fields-more _ _ _ _ _ _ c.loop-k.invariant.1 _ _ c.field-next.ensures)
 
 pub text-requires : goal.text-requires
 text-requires c =
-    let room : let v = c.args.values.now in
-    c.decimal-next.result + length (fields v (length v - 1)) + 1 ≤ length c.decimal-next.new.out = rest-room _ _ _ c.requires.values_in_bounds _ _ c.decimal-next.ensures in
-    end-room _ _ _ _ _ _ c.loop-k.invariant.1 (room) (omega arith)
+    let room = rest-room _ _ _ c.requires.values_in_bounds _ _ c.decimal-next.ensures in
+    end-room _ _ _ _ _ _ c.loop-k.invariant.1 room (omega arith)
 
 pub returns : goal.returns
 returns c =
