@@ -64,7 +64,8 @@ binary-none (suc n) p e (suc k) h = binary-none n (λ j. p (suc j)) (omega arith
 
 -- the lowest set digit
 pub binary_lowest : (n : ℕ) (p : ℕ → Bool) → 1 ≤ binary n p
-    → (count_trailing_zeros n (binary n p) < n) × (p (count_trailing_zeros n (binary n p)) ≡ true) × ((j : ℕ) → j < count_trailing_zeros n (binary n p) → p j ≡ false)
+    → (count_trailing_zeros n (binary n p) < n) × (p (count_trailing_zeros n (binary n p)) ≡ true)
+    × ((j : ℕ) → j < count_trailing_zeros n (binary n p) → p j ≡ false)
 unfolding binary count_trailing_zeros
 binary_lowest zero p h = absurd (omega arith)
 binary_lowest (suc n) p h = go (p 0) refl h (binary_lowest n (λ k. p (suc k)))

@@ -109,7 +109,8 @@ module _ {A : Type 0} (w : ℕ) (p : ℕ → Bool) (f : ℕ → List A) (each : 
       length-append (joined n (λ x. cond (p x) (f x) [])) (cond (p n) (f n) []) ∙ ap₂ ◌+◌ (length_chosen n) (length_picked n (p n))
       ∙ sym (mul-add w (count_below n p) (bit (p n)))
 
-  chosen_last : (n j : ℕ) (d : A) → p n ≡ true → get_or (joined n (λ y. cond (p y) (f y) []) ++ cond (p n) (f n) []) (w * count_below n p + j) d ≡ get_or (f n) j d
+  chosen_last : (n j : ℕ) (d : A) → p n ≡ true
+      → get_or (joined n (λ y. cond (p y) (f y) []) ++ cond (p n) (f n) []) (w * count_below n p + j) d ≡ get_or (f n) j d
   chosen_last n j d e =
       rw (e, ← length_chosen n) (get_or-append-add (joined n (λ y. cond (p y) (f y) [])) (f n) j d)
 

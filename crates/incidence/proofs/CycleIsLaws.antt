@@ -56,7 +56,8 @@ module _ (S : Scheme) (side : Side) (s i j : ℕ) where
       or at_places (arc_at S side s j) (arc_at S side t j) eqb) or b) (at_end_never (arc_at S side s j)) ∙ or_false _)
 
   on-place : (p : ℕ) → arc_at S side s i ≡ implicit p
-      → on_cycle S side s i j ≡ (at_end (arc_at S side s j) (λ t. at_places (implicit p) (arc_at S side t i) eqb) or at_places (implicit p) (arc_at S side s j) Apart)
+      → on_cycle S side s i j ≡ (at_end (arc_at S side s j) (λ t. at_places (implicit p) (arc_at S side t i) eqb)
+      or at_places (implicit p) (arc_at S side s j) Apart)
   unfolding on_cycle four_arcs one_arc both_implicit ◌or◌
   on-place p e = rw e
 

@@ -58,7 +58,8 @@ module _ (S : Scheme) (side : Side) where
   far-to a = ⊎_elim (λ e. rw e (sym (eqb-true _ _ e))) (λ e. rw e refl) (true_or_false (eqb (arc_part S side a 1) (arc_part S side a 2)))
 
   pub touches-from : (a : ℕ) → touches S side (arc_part S side a 1) (arc_part S side a 0) a ≡ true
-  touches-from a = and_of (eq-eqb (arc_part S side a 0) _ refl) (or_left (eqb (arc_part S side a 2) (arc_part S side a 1)) (eq-eqb (arc_part S side a 1) _ refl))
+  touches-from a = and_of (eq-eqb (arc_part S side a 0) _ refl)
+      (or_left (eqb (arc_part S side a 2) (arc_part S side a 1)) (eq-eqb (arc_part S side a 1) _ refl))
 
   pub touches-to : (a : ℕ) → touches S side (arc_part S side a 2) (arc_part S side a 0) a ≡ true
   touches-to a = and_of (eq-eqb (arc_part S side a 0) _ refl) (or_right (eqb (arc_part S side a 1) (arc_part S side a 2)) (eq-eqb (arc_part S side a 2) _ refl))

@@ -6,7 +6,8 @@ use mathlib.Core.Bool.{Bool, true, false≢true}
 use native.Mathlib.Omega.{arith}
 use borrow.Author.Tests.{eqb-true, eq-eqb, leb-true, le-leb}
 use Rattle.model.specs.Scheme.{Side}
-use Rattle.model.specs.Conditions.{Arc, absent, explicit, implicit, arc_at, same_arc, at_end, at_places, four_arcs, one_arc, both_implicit, on_cycle, Cycle, four}
+use Rattle.model.specs.Conditions.{Arc, absent, explicit, implicit, arc_at, same_arc, at_end, at_places, four_arcs}
+use Rattle.model.specs.Conditions.{one_arc, both_implicit, on_cycle, Cycle, four}
 use Rattle.model.specs.Conditions.{one_i, one_j, apart}
 use Rattle.model.specs.declared.Scheme.{Scheme}
 use Rattle.base.proofs.TestLaws.{or_cases, or_left, or_right}

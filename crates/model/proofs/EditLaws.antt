@@ -232,7 +232,8 @@ module _ {E : Site} (r : Ready E) where
       link-kept i n a = link-pair i ∙ rw (a, n) refl
 
       -- where both sides have the same arc
-      pub link-same : (i : ℕ) → i ≤ 3 → has S left s ≡ true → arc_at S left s i ≡ arc_at S right s i → (edited E).link i (dart_of E u s) ≡ m.link i (dart_of E u s)
+      pub link-same : (i : ℕ) → i ≤ 3 → has S left s ≡ true → arc_at S left s i ≡ arc_at S right s i
+          → (edited E).link i (dart_of E u s) ≡ m.link i (dart_of E u s)
       unfolding arc_holds
       link-same i low l same = go (arc_at S right s i) refl
         where

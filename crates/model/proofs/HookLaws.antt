@@ -67,7 +67,8 @@ module _ (S : Scheme) where
   unfolding left_arc some_if
   between_arc s t a h j = first_of (arcs S left) _ a (arc_part S left a 0) h (rw (joined j))
     where
-      joined : Joins S a s t → (eqb (arc_part S left a 1) s and eqb (arc_part S left a 2) t or eqb (arc_part S left a 1) t and eqb (arc_part S left a 2) s) ≡ true
+      joined : Joins S a s t
+          → (eqb (arc_part S left a 1) s and eqb (arc_part S left a 2) t or eqb (arc_part S left a 1) t and eqb (arc_part S left a 2) s) ≡ true
       joined (inl e) = or_left _ (and_of (eq-eqb _ _ e.0) (eq-eqb _ _ e.1))
       joined (inr e) = or_right _ (and_of (eq-eqb _ _ e.0) (eq-eqb _ _ e.1))
 

@@ -53,7 +53,8 @@ module _ (N : ℕ) (store : List ℕ) (size : ℕ) (rows kinds : List ℕ) (c : 
       → field_of (cleared_by store size (get_or rows v 0) (get_or kinds v 0) m) f y ≡ field_of m f y
   node-leaves v y f off m = ⊎_elim
       (λ a. let k = eqb-true _ _ a in
-      ap (λ (z : Map). field_of z f y) (sym (by-deleted store size (get_or rows v 0) (get_or kinds v 0) m _ k refl)) ∙ erased-leaves (pair_dart v) size f m y (off k))
+      ap (λ (z : Map). field_of z f y) (sym (by-deleted store size (get_or rows v 0) (get_or kinds v 0) m _ k refl))
+      ∙ erased-leaves (pair_dart v) size f m y (off k))
       (λ a. ap (λ (z : Map). field_of z f y) (sym (by-other store size (get_or rows v 0) (get_or kinds v 0) m _ (eqb-false _ _ a) refl)))
       (true_or_false (eqb (get_or kinds v 0) 1))
 

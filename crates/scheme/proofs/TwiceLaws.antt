@@ -75,7 +75,8 @@ module _ (b : List ℕ) (q : in_form b ≡ true) (side : Side) where
         each : {d d' x x' y y' : ℕ} → d' ≡ d → x' ≡ x → y' ≡ y → (eqb d i and (eqb x s or eqb y s)) ≡ (eqb d' i and (eqb x' s or eqb y' s))
         each e f g = rw (e, f, g)
 
-    number_same : count_below (arc_count b side) (touching (arc_byte b side) s i) + bit (ltb (placed_at b side (4 * s + i)) 255) ≡ arcs_of_dim (scheme_of b) side s i
+    number_same : count_below (arc_count b side) (touching (arc_byte b side) s i) + bit (ltb (placed_at b side (4 * s + i)) 255)
+        ≡ arcs_of_dim (scheme_of b) side s i
     unfolding arcs_of_dim
     number_same = ap₂ ◌+◌ touching-same (sym place-bit)
 

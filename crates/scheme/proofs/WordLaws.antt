@@ -120,7 +120,8 @@ pub on-side : {other kind : ℕ} → (other ≡ 3) ⊎ (other ≡ 1) → 1 ≤ k
 unfolding ◌or◌ ◌⇒◌
 on-side {other} {kind} w h k = ⊎_elim (both 1 refl refl) (λ v. ⊎_elim (both 2 refl refl) (both 3 refl refl) v) (one_of_three kind h k)
   where
-    both : (x : ℕ) → on_side left x ≡ (eqb x 3 ⇒ false) → on_side right x ≡ (eqb x 1 ⇒ false) → kind ≡ x → on_side (side_of other) kind ≡ (eqb kind other ⇒ false)
+    both : (x : ℕ) → on_side left x ≡ (eqb x 3 ⇒ false) → on_side right x ≡ (eqb x 1 ⇒ false) → kind ≡ x
+        → on_side (side_of other) kind ≡ (eqb kind other ⇒ false)
     both x p q e = rw e (⊎_elim (λ f. rw f p) (λ f. rw f q) w)
 
 -- ---- a word that was read fills the row of its node
