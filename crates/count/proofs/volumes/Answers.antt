@@ -7,5 +7,5 @@ use Rattle.count.proofs.volumes.Goals as goal
 
 pub returns : goal.returns
 returns c =
-    let three : c.args.n ≡ 3 = ⊎_elim (λ e. absurd (omega (arith, c.if-n-eq2.false, e))) (λ e. e) c.requires.fact in
+    let three : c.args.n ≡ 3 = ⊎_elim (λ e. absurd (omega arith)) (λ e. e) c.requires.fact in
     volumes-some _ _ three (kind-cells _ _ c.requires.fact c.requires.well_formed all_links 3 volumes-listed c.wide.ensures c.orbits.ensures)
