@@ -10,7 +10,7 @@ use native.Mathlib.Omega.{arith}
 use lib.ListN.{get_or}
 use lib.Dec.{leb}
 use borrow.Author.Count.{below_none, below_more}
-use borrow.Author.Tests.{le-leb, lt-leb}
+use borrow.Author.Tests.{not-true, le-leb, lt-leb}
 use Rattle.base.specs.Test.{◌and◌}
 use Rattle.base.specs.First.{first, some_if}
 use Rattle.base.proofs.TestLaws.{not_both}
@@ -63,11 +63,11 @@ module _ {orbit kinds lefts rights : List ℕ} {s : ℕ} where
       earlier : (x : ℕ) → x < i → (y : ℕ) → y < suc n → at_pair orbit kinds lefts rights s x y ≡ none
       earlier x m y o = below_more _ j (p.lower x) (p.before x m) y (omega arith)
 
-      pub found-at-node : (b : Bool) → b ≡ pair_by (get_or kinds s 0) orbit lefts rights s i j → b ≡ false
+      pub found-at-node : (b : Bool) → b ≡ pair_by (get_or kinds s 0) orbit lefts rights s i j → not b ≡ true
           → at_node orbit kinds lefts rights n s ≡ some (BadCycle s i j)
       unfolding at_node
       found-at-node b e f =
-          let here = pair-bad _ _ _ _ s i j (sym e ∙ f) h in
+          let here = pair-bad _ _ _ _ s i j (sym e ∙ not-true b f) h in
           first_hit (suc n) _ i _ (omega arith) (first-none_of i _ (λ x m. first-none_of (suc n) _ (earlier x m)))
           (first_hit (suc n) _ j _ (omega arith) (first-none_of j _ (p.lower i)) here)
 

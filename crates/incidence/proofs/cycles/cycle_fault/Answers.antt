@@ -1,5 +1,6 @@
 -- `incidence::cycles::cycle_fault` meets its contract.
-use mathlib.Core.Path.{refl, ◌∙◌}
+use mathlib.Core.Path.{refl, ap, ◌∙◌}
+use mathlib.Core.Bool.{not}
 use native.Mathlib.Omega.{arith}
 use Rattle.base.specs.First.{first}
 use Rattle.base.proofs.FirstLaws.{first_more}
@@ -33,4 +34,5 @@ returns-after-nodes c = let v = c.nodes.invariant in v.2 ∙ found_no_pair _ _ _
 pub returns-then-not-pair_ok : goal.returns-then-not-pair_ok
 returns-then-not-pair_ok c =
     found-pair _ _ _ _ _ _ _ c.nodes.invariant.1 _ c.nodes-test.true
-    (found-at-node c.loop-i.invariant.0 _ (omega arith) c.loop-i-test.true (omega arith) _ c.pair_ok.ensures c.if-not-pair_ok.true)
+    (found-at-node c.loop-i.invariant.0 _ (omega arith) c.loop-i-test.true (omega arith) _ c.pair_ok.ensures
+    (ap not c.if-not-pair_ok.true))
