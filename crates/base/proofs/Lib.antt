@@ -9,3 +9,4 @@ pub mod RowLaws
 pub mod BinaryLaws
 pub mod FilledLaws
 pub mod AscentLaws
+pub mod RangeLaws

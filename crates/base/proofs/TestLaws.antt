@@ -2,9 +2,10 @@
 use Prim.Native.Nat.{ℕ}
 use mathlib.Core.Path.{◌≡◌, refl, sym, ap, ◌∙◌}
 use mathlib.Core.Logic.{◌⊎◌, inl, inr, ⊎_elim}
-use mathlib.Core.Bool.{Bool, true, false, not, cond, ◌&&◌, false≢true, true≢false}
+use mathlib.Core.Bool.{Bool, true, false, not, cond, ◌&&◌, ◌||◌, false≢true, true≢false}
 use lib.Dec.{eqb}
 use borrow.Author.Tests.{eqb-true, eqb-false, eq-eqb, ne_eqb}
+use Rattle.std.proofs.lemmas.Grind.{common_steps}
 use Rattle.base.specs.Test.{◌and◌, ◌or◌, ◌⇒◌}
 
 pub and_left : (a b : Bool) → (a and b) ≡ true → a ≡ true
@@ -131,3 +132,23 @@ or_rest {a} {b} f e = ⊎_elim (λ w. absurd (true≢false (sym w ∙ f))) (λ w
 
 pub or_none : (a : Bool) {b : Bool} → b ≡ false → (a or b) ≡ a
 or_none a f = same_test _ _ (λ e. ⊎_elim (λ w. w) (λ w. absurd (true≢false (sym w ∙ f))) (or_cases a _ e)) (λ e. or_left _ e)
+
+-- ---- the same tests in the words of the standard library, in which the tactics know them
+
+pub and_is : (a b : Bool) → (a and b) ≡ (a && b)
+unfolding ◌and◌
+and_is true b = refl
+and_is false b = refl
+
+pub or_is : (a b : Bool) → (a or b) ≡ (a || b)
+unfolding ◌or◌
+or_is true b = refl
+or_is false b = refl
+
+pub implies_is : (a b : Bool) → (a ⇒ b) ≡ (not a || b)
+unfolding ◌⇒◌
+implies_is true b = refl
+implies_is false b = refl
+
+-- for functions whose code joins the tests that their contract joins: `#[tactic(auto, using(base::proofs::TestLaws::joins))]`
+pub ruleset joins = (and_is, or_is, implies_is, common_steps)

@@ -1,28 +1,28 @@
 -- What is found first: the first of several that is there, the least number below a bound, the k-th lowest.
 use Rattle.std.specs.Prelude.{ℕ, zero, suc, Bool, true, false, eqb}
-use Rattle.std.proofs.Math.Option.{Option, none, some}
+use Rattle.std.specs.Prelude.{Option, Some, None}
 use Rattle.base.specs.Test.{◌and◌}
 use Rattle.base.specs.Below.{count_below}
 
-module _ {ℓ} {A : Type ℓ} where
+module _ {A : Type 0} where
   -- a, where the test holds
   unfoldable pub some_if : Bool → A → Option A
-  some_if true a = some a
-  some_if false a = none
+  some_if true a = Some a
+  some_if false a = None
 
   -- the first of two that is there
   infixr 25 ◌or_else◌
   unfoldable pub ◌or_else◌ : Option A → Option A → Option A
-  some a or_else o = some a
-  none or_else o = o
+  Some a or_else o = Some a
+  None or_else o = o
 
   unfoldable pub there : Option A → Bool
-  there none = false
-  there (some a) = true
+  there None = false
+  there (Some a) = true
 
   -- what f gives at the least number below n at which it gives anything
   unfoldable pub first : ℕ → (ℕ → Option A) → Option A
-  first zero f = none
+  first zero f = None
   first (suc n) f = first n f or_else f n
 
 -- the least number below n that has p

@@ -2,18 +2,11 @@
 // nothing of maps.
 #![tactic(auto)]
 
-pub mod byte;
-pub mod words;
-
 ghost use Rattle.std.specs.Prelude.{◌≡◌, length, replicate};
 
 // Every word becomes 0.
 pub fn clear(words: &mut [u32])
     ensures { words.new ≡ replicate (length words.old) 0 }
 {
-    let mut i = 0;
-    while i < words.len() {
-        words[i] = 0;
-        i += 1;
-    }
+    words.fill(0);
 }

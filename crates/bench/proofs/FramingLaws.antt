@@ -3,6 +3,7 @@ use Prim.Native.Nat.{ℕ, ◌+◌, ◌*◌, ◌≤◌, ◌<◌}
 use mathlib.Core.Path.{◌≡◌, refl, sym, ap, ap₂, ◌∙◌, subst}
 use mathlib.Core.Logic.{⊎_elim}
 use mathlib.Core.Bool.{true, false}
+use Rattle.std.specs.Prelude.{Option, Some, None}
 use mathlib.Core.List.{List}
 use native.Mathlib.Omega.{arith}
 use lib.ListN.{length, take}
@@ -14,8 +15,6 @@ use Rattle.base.proofs.BelowLaws.{le_or_lt}
 use Rattle.program.specs.Opening.{longest_file}
 use Rattle.bench.specs.Bench.{map_length, scheme_length, dart_count, framed, longest_scheme, most_darts, longest_input, printed}
 use Rattle.bench.specs.Input.{Laid, FramingOf}
-use Rattle.bench.specs.declared.framing.Framing.{Framing}
-use Rattle.bench.specs.declared.framing.Framing.TheVariants.{Framed, Fault}
 use Rattle.bench.specs.declared.framing.Layout.{Layout}
 
 module _ (b : List ℕ) (map scheme darts : ℕ) (x : map ≡ number_at 2 b 0) (y : scheme ≡ number_at 2 b (2 + map))
@@ -53,10 +52,10 @@ module _ (b : List ℕ) (l : Layout) (k : Laid b l) where
 
 -- ---- what the framing was found to be
 
-pub fault_of_lem : (b : List ℕ) (f : Framing) → f ≡ Fault → FramingOf b f → framed b ≡ false
+pub fault_of_lem : (b : List ℕ) (f : Option Layout) → f ≡ None → FramingOf b f → framed b ≡ false
 fault_of_lem b f e x = subst (FramingOf b) e x
 
-pub laid_of : (b : List ℕ) (f : Framing) (l : Layout) → f ≡ Framed l → FramingOf b f → Laid b l
+pub laid_of : (b : List ℕ) (f : Option Layout) (l : Layout) → f ≡ Some l → FramingOf b f → Laid b l
 laid_of b f l e x = subst (FramingOf b) e x
 
 -- ---- how long an input is

@@ -20,7 +20,7 @@ use Rattle.bench.specs.Bench.{map_length, scheme_length, dart_line, dart_at, ans
 use Rattle.bench.specs.Bench.{table_after}
 use Rattle.model.specs.declared.Darts.{Darts}
 use Rattle.model.specs.declared.Darts.TheVariants.{One}
-use Rattle.model.specs.declared.Answer.{Answer}
+use Rattle.model.specs.Answer.{Answer}
 use Rattle.demands.proofs.OneOutcome.{answer_of, table_of_lem, store_of}
 use Rattle.numbers.specs.Places.{Put}
 use Rattle.numbers.proofs.PlaceLaws.{put_then}
@@ -57,11 +57,10 @@ module _ (b : List ℕ) (l : Layout) (k : Laid b l) where
       same = omega arith
 
   -- the reader comes to the k-th dart at its place
-  pub dart-here : (j v from : ℕ) → from ≡ 6 + l.map + l.scheme + 2 * j → v ≡ number_at 2 b from → v ≡ dart_at b j
+  pub dart-here : (j v : ℕ) → v ≡ number_at 2 b (6 + l.map + l.scheme + 2 * j) → v ≡ dart_at b j
   unfolding dart_at
-  dart-here j v from e f =
-      f ∙ ap (λ (i : ℕ). number_at 2 b i) e
-      ∙ ap₂ (λ (i m : ℕ). number_at 2 b (6 + i + m + 2 * j)) (sym is-map) (sym is-scheme)
+  dart-here j v f =
+      f ∙ ap₂ (λ (i m : ℕ). number_at 2 b (6 + i + m + 2 * j)) (sym is-map) (sym is-scheme)
 
 -- ---- the map is open
 
@@ -94,23 +93,21 @@ blank-stays true i s e = ap (λ (j : ℕ). replicate j 0) (ap length e ∙ lengt
 blank-stays false i s e = e
 
 -- the first k darts are edited, and their lines printed
-pub record Going (b : List ℕ) (l : Layout) (N k : ℕ) (t s out₀ out : List ℕ) (from at : ℕ) : Type 0 where
-  pub place : from ≡ 6 + l.map + l.scheme + 2 * k
+pub record Going (b : List ℕ) (l : Layout) (N k : ℕ) (t s out₀ out : List ℕ) (at : ℕ) : Type 0 where
   pub stands : Stands b N k t s
   pub lines : Put out₀ 0 (dart_lines b k) out at
   pub short : at ≤ 23 * k
 
-pub going_none : (b : List ℕ) (l : Layout) (N : ℕ) (t s out : List ℕ) → Stands b N 0 t s → Going b l N 0 t s out out (6 + l.map + l.scheme) 0
+pub going_none : (b : List ℕ) (l : Layout) (N : ℕ) (t s out : List ℕ) → Stands b N 0 t s → Going b l N 0 t s out out 0
 unfolding dart_lines joined
 going_none b l N t s out x = record {
-  place = omega arith;
   stands = x;
   lines = record { bytes = refl; after = refl };
   short = omega arith;
 }
 
-module _ (b : List ℕ) (l : Layout) (laid : Laid b l) (n N : ℕ) (m : MapOpen (map_bytes b) n N) (k : ℕ) (t s out₀ out : List ℕ) (from at : ℕ)
-    (g : Going b l N k t s out₀ out from at) (v : ℕ) (read : v ≡ number_at 2 b from) where
+module _ (b : List ℕ) (l : Layout) (laid : Laid b l) (n N : ℕ) (m : MapOpen (map_bytes b) n N) (k : ℕ) (t s out₀ out : List ℕ) (at : ℕ)
+    (g : Going b l N k t s out₀ out at) (v : ℕ) (read : v ≡ number_at 2 b (6 + l.map + l.scheme + 2 * k)) where
   moved : {A : Type 0} (f : ℕ → ℕ → List ℕ → List ℕ → List ℕ → Darts → A)
       → f n N t s (scheme_bytes b) (One v)
       ≡ f (map_dimension b) (map_slots b) (table_after b k) (replicate (16 * map_slots b) 0) (scheme_bytes b) (One (dart_at b k))
@@ -118,7 +115,7 @@ module _ (b : List ℕ) (l : Layout) (laid : Laid b l) (n N : ℕ) (m : MapOpen 
       ap₂ (λ (x y : List ℕ). f n N x y (scheme_bytes b) (One v)) g.stands.table g.stands.store
       ∙ ap₂ (λ (i j : ℕ). f i j (table_after b k) (replicate (16 * j) 0) (scheme_bytes b) (One v)) m.named.dimension m.named.slots
       ∙ ap (λ (d : ℕ). f (map_dimension b) (map_slots b) (table_after b k) (replicate (16 * map_slots b) 0) (scheme_bytes b) (One d))
-      (dart-here b l laid k v from g.place read)
+      (dart-here b l laid k v read)
 
   module _ (a : Answer) (edit : a ≡ edit_answer n N t s (scheme_bytes b) (One v)) (small : v < 65536) where
     line-few : length (dart_line v a) ≤ 23
@@ -128,12 +125,11 @@ module _ (b : List ℕ) (l : Layout) (laid : Laid b l) (n N : ℕ) (m : MapOpen 
     pub line-room : k < l.darts → 23 * l.darts ≤ length out → at + length (dart_line v a) ≤ length out
     line-room h r = omega (arith, line-few, g.short)
 
-    pub going_more : (t' s' out' : List ℕ) (from' at' : ℕ) → from' ≡ from + 2
+    pub going_more : (t' s' out' : List ℕ) (at' : ℕ)
         → t' ≡ edit_table n N t s (scheme_bytes b) (One v) → s' ≡ edit_store n N t s (scheme_bytes b) (One v)
-        → Put out at (dart_line v a) out' at' → Going b l N (k + 1) t' s' out₀ out' from' at'
+        → Put out at (dart_line v a) out' at' → Going b l N (k + 1) t' s' out₀ out' at'
     unfolding dart_lines answer_at table_after edit_store
-    going_more t' s' out' from' at' f x y p = record {
-      place = omega (arith, g.place, f);
+    going_more t' s' out' at' x y p = record {
       stands = record {
         table = rw (add-one k) (x ∙ moved edit_table);
         store = y ∙ blank-stays (sizes_ok n N t and eqb (length s) (16 * N)) (16 * N) s g.stands.store;
@@ -143,7 +139,7 @@ module _ (b : List ℕ) (l : Layout) (laid : Laid b l) (n N : ℕ) (m : MapOpen 
     }
       where
         line-is : dart_line v a ≡ dart_line (dart_at b k) (answer_at b k)
-        line-is = ap₂ dart_line (dart-here b l laid k v from g.place read) (edit ∙ moved edit_answer)
+        line-is = ap₂ dart_line (dart-here b l laid k v read) (edit ∙ moved edit_answer)
 
 -- ---- the slots of a state
 

@@ -1,7 +1,7 @@
 -- No line is long: the numbers of an edit's answer are small.
 use Prim.Native.Nat.{ℕ, ◌*◌, ◌≤◌, ◌<◌}
 use mathlib.Core.Path.{◌≡◌, refl, sym, subst}
-use mathlib.Core.Option.{Option, none, some}
+use Rattle.std.specs.Prelude.{Option, Some, None, Ok, Err}
 use mathlib.Core.List.{List}
 use native.Mathlib.Nat.{mul-le-mul_left}
 use native.Mathlib.Omega.{arith}
@@ -9,7 +9,7 @@ use lib.ListN.{length}
 use borrow.Author.Tests.{ne_eqb}
 use Rattle.base.specs.Below.{count_below}
 use Rattle.base.proofs.BelowLaws.{count_le}
-use Rattle.model.specs.Answer.{number, answered}
+use Rattle.model.specs.Answer.{Answer, number, answered}
 use Rattle.model.specs.Bytes.{nodes_of}
 use Rattle.model.specs.Scheme.{scheme_of, deleted}
 use Rattle.model.specs.Match.{image}
@@ -17,8 +17,7 @@ use Rattle.model.specs.Edit.{is_free, orbit_size, added_darts, deleted_darts}
 use Rattle.model.specs.Calls.{site_done, site_of, edit_fault, edit_answer}
 use Rattle.bench.specs.Bench.{shown, dart_line, last_line}
 use Rattle.model.specs.declared.Darts.TheVariants.{One}
-use Rattle.model.specs.declared.Answer.{Answer}
-use Rattle.model.specs.declared.Answer.TheVariants.{Edited, Refused}
+use Rattle.model.specs.declared.Reply.TheVariants.{Edited}
 use Rattle.model.specs.declared.Refusal.{Refusal}
 use Rattle.model.proofs.AnswerLaws.{number-few, number_bounds}
 use Rattle.model.proofs.CallLaws.{granted, ready}
@@ -37,11 +36,11 @@ refused-short d a h f =
     let one : (j : ℕ) → digits (shown a j) ≤ 1 = λ j. subst (λ (v : ℕ). digits v ≤ 1) (sym (none-shown j)) (decimal-short 0 0 (omega arith)) in
     omega (arith, dart-length d a, decimal-short 4 d h, decimal-short 1 (number a) (omega (arith, number-few a)), one 0, one 1, one 2)
 
-done-short : (d o e f : ℕ) → d < most_slots → o ≤ most_slots → e ≤ most_slots → f ≤ 16 * most_slots → length (dart_line d (Edited o e f)) ≤ 23
+done-short : (d o e f : ℕ) → d < most_slots → o ≤ most_slots → e ≤ most_slots → f ≤ 16 * most_slots → length (dart_line d (Ok (Edited o e f))) ≤ 23
 done-short d o e f h x y z =
     omega (
       arith,
-      dart-length d (Edited o e f),
+      dart-length d (Ok (Edited o e f)),
       decimal-short 3 d (omega arith),
       decimal-short 0 0 (omega arith),
       decimal-short 3 o (omega arith),
@@ -50,7 +49,7 @@ done-short d o e f h x y z =
     )
 
 module _ (n N : ℕ) (few : N ≤ most_slots) (t store b : List ℕ) (d : ℕ) where
-  granted-short : edit_fault n N t store b (One d) ≡ none → length (dart_line d (site_done (site_of N t b (One d)))) ≤ 23
+  granted-short : edit_fault n N t store b (One d) ≡ None → length (dart_line d (Ok (site_done (site_of N t b (One d))))) ≤ 23
   unfolding site_done orbit_size deleted_darts scheme_of
   granted-short q =
       let g = granted n N t store b (One d) q in
@@ -69,8 +68,8 @@ module _ (n N : ℕ) (few : N ≤ most_slots) (t store b : List ℕ) (d : ℕ) w
     where
       go : (o : Option Refusal) → edit_fault n N t store b (One d) ≡ o
           → length (dart_line d (answered (site_done (site_of N t b (One d))) (edit_fault n N t store b (One d)))) ≤ 23
-      go none q = rw q (granted-short q)
-      go (some f) q = rw q (refused-short d (Refused f) h (λ e. omega (arith, (number_bounds f).0)))
+      go None q = rw q (granted-short q)
+      go (Some f) q = rw q (refused-short d (Err f) h (λ e. omega (arith, (number_bounds f).0)))
 
 -- ---- the last line
 

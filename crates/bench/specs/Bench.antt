@@ -4,11 +4,10 @@ use Rattle.base.specs.Test.{◌and◌}
 use Rattle.base.specs.Below.{count_below}
 use Rattle.base.specs.Lists.{joined}
 use Rattle.base.specs.Digits.{number_at}
-use Rattle.model.specs.Answer.{number, values}
+use Rattle.model.specs.Answer.{Answer, number, values}
 use Rattle.model.specs.Map.{view, live, unused}
 use Rattle.model.specs.Calls.{edit_answer, edit_table}
 use Rattle.model.specs.declared.Darts.TheVariants.{One}
-use Rattle.model.specs.declared.Answer.{Answer}
 use Rattle.program.specs.Lines.{decimal, space, line_feed, numbers_line, refused_line}
 use Rattle.program.specs.Opening.{longest_file, file_dimension, file_slots, file_table, open_answer}
 

@@ -18,48 +18,25 @@ pub struct Layout {
     pub darts: usize,
 }
 
-#[derive(Clone, Copy)]
-pub enum Framing {
-    Framed(Layout),
-    Fault,
-}
-
-pub fn frame(input: &[u8]) -> Framing
+pub fn frame(input: &[u8]) -> Option<Layout>
     ensures { FramingOf input.now result }
 {
-    if input.len() < 6 {
-        return Framing::Fault;
-    }
-    let left = input.len() - 6;
+    let left = input.len().checked_sub(6)?;
     let first = Cursor { at: 0 };
-    let map = first.two(input).value as usize;
-    if left < map {
-        return Framing::Fault;
-    }
+    let (map, _) = first.number::<2>(input);
+    let map = map as usize;
+    let left = left.checked_sub(map)?;
     let second = Cursor { at: 2 + map };
-    let scheme = second.two(input).value as usize;
-    if left - map < scheme {
-        return Framing::Fault;
-    }
+    let (scheme, _) = second.number::<2>(input);
+    let scheme = scheme as usize;
+    let left = left.checked_sub(scheme)?;
     let third = Cursor {
         at: 4 + map + scheme,
     };
-    let darts = third.two(input).value as usize;
-    if left - map - scheme != 2 * darts {
-        return Framing::Fault;
+    let (darts, _) = third.number::<2>(input);
+    let darts = darts as usize;
+    if left != 2 * darts || LONGEST_FILE < map || LONGEST_SCHEME < scheme || MOST_DARTS < darts {
+        return None;
     }
-    if LONGEST_FILE < map {
-        return Framing::Fault;
-    }
-    if LONGEST_SCHEME < scheme {
-        return Framing::Fault;
-    }
-    if MOST_DARTS < darts {
-        return Framing::Fault;
-    }
-    Framing::Framed(Layout {
-        map: map,
-        scheme: scheme,
-        darts: darts,
-    })
+    Some(Layout { map, scheme, darts })
 }

@@ -9,9 +9,10 @@ mod writer;
 ghost use Rattle.std.specs.Prelude.{◌≤◌, length};
 ghost use Rattle.bench.specs.Session.{longest, Printed};
 
-use framing::{Framing, frame};
+use framing::frame;
+use program::answer::number;
 use program::lines::refused_line;
-use program::opening::{Opened, STORE, TABLE, open};
+use program::opening::{STORE, TABLE, open};
 use session::session;
 use table::words::size;
 
@@ -20,23 +21,23 @@ pub fn run(input: &[u8], out: &mut [u8]) -> usize
     requires { longest ≤ length out.old }
     ensures { Printed input.now out.old result out.new }
 {
-    let Framing::Framed(layout) = frame(input) else {
+    let Some(layout) = frame(input) else {
         return refused_line(out, 0, 11);
     };
     let end = 2 + layout.map;
     let file = &input[2..end];
     let mut table = [0u32; TABLE];
     match open(file, &mut table) {
-        Opened::Refused(k) => refused_line(out, 0, k),
-        Opened::Map { n, slots } => {
+        Err(f) => refused_line(out, 0, number(Err(f))),
+        Ok(map) => {
             let mut store = [0u32; STORE];
-            let words = size(slots);
-            let places = 16 * (slots as usize);
+            let words = size(map.slots);
+            let places = 16 * (map.slots as usize);
             session(
                 input,
                 layout,
-                n,
-                slots,
+                map.n,
+                map.slots,
                 &mut table[..words],
                 &mut store[..places],
                 out,

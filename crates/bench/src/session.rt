@@ -49,23 +49,18 @@ fn edits(
     requires laid { Laid input.now layout }
     requires map_open { MapOpen (map_bytes input.now) n slots }
     requires stands { Stands input.now slots 0 table.old store.old }
-    requires darts_in_bounds { 23 * layout.darts ≤ length out.old }
+    requires lines_in_bounds { 23 * layout.darts ≤ length out.old }
     ensures put { Put out.old 0 (dart_lines input.now layout.darts) out.new result }
     ensures upper_bound { result ≤ 23 * layout.darts }
     ensures table_after { table.new ≡ table_after input.now layout.darts }
 {
-    let darts = layout.darts;
-    let mut from = Cursor {
-        at: 6 + layout.map + layout.scheme,
-    };
+    let first = 6 + layout.map + layout.scheme;
     let mut at = 0;
-    let mut k = 0;
-    while k < darts {
-        let dart = from.two(input);
-        let answer = edit(input, layout, n, slots, table, store, dart.value);
-        at = dart_line(out, at, dart.value, answer);
-        from = dart.next;
-        k += 1;
+    for k in 0..layout.darts {
+        let place = Cursor { at: first + 2 * k };
+        let (dart, _) = place.number::<2>(input);
+        let answer = edit(input, layout, n, slots, table, store, dart);
+        at = dart_line(out, at, dart, answer);
     }
     at
 }
@@ -76,12 +71,10 @@ fn tally(slots: usize, table: &[u32], s: u32) -> u32
     ensures { result ≡ count_below slots (λ x. eqb ((view slots table.now).state x) s) }
 {
     let mut found = 0;
-    let mut x = 0;
-    while x < slots {
+    for x in 0..slots {
         if state(slots, table, x) == s {
             found += 1;
         }
-        x += 1;
     }
     found
 }

@@ -3,7 +3,7 @@ use Prim.Native.Nat.{ℕ, ◌≤◌, ◌<◌}
 use mathlib.Core.Path.{◌≡◌, refl, subst}
 use mathlib.Core.Logic.{inl, inr}
 use mathlib.Core.Bool.{Bool, true, false, cond}
-use mathlib.Core.Option.{Option, none, some}
+use Rattle.std.specs.Prelude.{Option, Some, None}
 use mathlib.Core.List.{List}
 use native.Mathlib.Omega.{arith}
 use lib.Dec.{eqb}
@@ -32,7 +32,7 @@ part-is S left = refl
 part-is S right = refl
 
 -- the far end of an arc is joined by that arc
-by-arc : (part : ℕ → ℕ → ℕ) (c s i t : ℕ) → far_end part c s i ≡ some t → ByArc part c i s t
+by-arc : (part : ℕ → ℕ → ℕ) (c s i t : ℕ) → far_end part c s i ≡ Some t → ByArc part c i s t
 unfolding far_end ◌or◌
 by-arc part c s i t e =
     let r = first-at c _ t e in
@@ -68,6 +68,6 @@ module _ (S : Scheme) (f : Shaped S) (side : Side) where
     where
       go : {s i e : ℕ} (o : Option ℕ) → far_end (arc_part S side) (arcs S side) s i ≡ o → (r : Option ℕ) → e ≡ arc_code (arc_of o r) → e < 16
           → ByArc (arc_part S side) (arcs S side) i s e
-      go none q none u l = absurd (omega arith)
-      go none q (some p) u l = absurd (omega arith)
-      go (some t) q r u l = rw u (by-arc (arc_part S side) (arcs S side) _ _ t q)
+      go None q None u l = absurd (omega arith)
+      go None q (Some p) u l = absurd (omega arith)
+      go (Some t) q r u l = rw u (by-arc (arc_part S side) (arcs S side) _ _ t q)

@@ -1,8 +1,8 @@
--- The faults of a scheme in their order, and how small their numbers are.
+-- The faults of a scheme in their order.
 use Prim.Native.Nat.{ℕ, ◌≤◌, ◌<◌}
-use mathlib.Core.Path.{◌≡◌, refl, sym, ap, ◌∙◌}
+use mathlib.Core.Path.{◌≡◌, refl, sym, ◌∙◌}
 use mathlib.Core.Bool.{Bool, true, false, not, cond}
-use mathlib.Core.Option.{Option, none, some}
+use Rattle.std.specs.Prelude.{Option, Some, None, Result, Ok, Err, ⊤}
 use mathlib.Core.List.{List}
 use native.Mathlib.Omega.{arith}
 use lib.ListN.{length}
@@ -15,19 +15,15 @@ use Rattle.model.specs.declared.Scheme.{Scheme}
 use Rattle.model.specs.Answer.{fault_of}
 use Rattle.model.specs.declared.Refusal.{Refusal}
 use Rattle.model.specs.declared.Refusal.TheVariants.{BadHook}
-use Rattle.model.specs.declared.Fault.{Fault}
-use Rattle.model.specs.declared.Fault.TheVariants.{Given}
 use Rattle.model.proofs.AcceptedLaws as AcceptedLaws
 use Rattle.model.proofs.HookLaws.{wrong-hook}
 use Rattle.model.specs.Shaped.{Coded}
 use Rattle.conditions.specs.Arcs.{Joining}
-use Rattle.conditions.specs.Tree.{roots_of, Aimed, Lefts, Spanning, TreeOf}
+use Rattle.conditions.specs.Tree.{Aimed, Lefts, Spanning, TreeOf}
 use Rattle.conditions.specs.Hook.{hooked_by, left_out, hook_by}
-use Rattle.incidence.specs.Incidence.{found_of, arcs_fault}
+use Rattle.incidence.specs.Incidence.{arcs_fault}
 use Rattle.incidence.specs.Cycles.{Coding}
-use Rattle.conditions.specs.Verdict.{hook_else, fault_by, Judging, VerdictOf}
-use Rattle.incidence.specs.declared.Found.{Found}
-use Rattle.incidence.specs.declared.Found.TheVariants.{Node, Nothing}
+use Rattle.conditions.specs.Verdict.{hook_else, fault_by}
 use Rattle.conditions.specs.declared.tree.Tree.{Tree}
 use Rattle.model.proofs.CodeLaws.{coded}
 use Rattle.conditions.proofs.AimLaws.{joins, aimed}
@@ -37,10 +33,9 @@ use Rattle.incidence.proofs.IncidenceLaws.{incidence-is}
 use Rattle.incidence.proofs.CycleIsLaws.{coding, cycle_is}
 
 -- what the trees of a scheme's left arcs are built from
-pub tree_asks : (S : Scheme) (f : Shaped S) (n h c : ℕ) → n ≡ S.nodes → h ≡ S.second → c ≡ S.lcount
-    → ((n ≤ 16) × (h < 16)) × (Joining S.larcs c × (Aimed S.ltargets S.larcs c × Lefts n S.kinds S.larcs c))
-tree_asks S f n h c en eh ec =
-    rw (ec, en, eh) ((f.nodes_few, AcceptedLaws.node-small S f S.second f.second_below), (joins S f left, (aimed S f left, lefts S f)))
+pub tree_asks : (S : Scheme) (f : Shaped S)
+    → ((S.nodes ≤ 16) × (S.second < 16)) × (Joining S.larcs S.lcount × (Aimed S.ltargets S.larcs S.lcount × Lefts S.nodes S.kinds S.larcs S.lcount))
+tree_asks S f = ((f.nodes_few, AcceptedLaws.node-small S f S.second f.second_below), (joins S f left, (aimed S f left, lefts S f)))
 
 -- ---- the first fault of a scheme, from its trees and tables
 
@@ -54,74 +49,62 @@ module _ (S : Scheme) (f : Shaped S) (lefts rights : List ℕ) (cl : Coded S lef
 
   module _ (long : length S.lwords ≡ 64) (t : Tree) (g : TreeOf S t) (ltwice rtwice : List Bool) (tl : ltwice ≡ twice_of S left)
       (tr : rtwice ≡ twice_of S right) where
-    hook-found : found_of (hook_fault S)
-        ≡ hook_by S.places S.orbit S.kinds S.lwords S.second (found_of (least S.nodes (left_out S.kinds t.reached)))
+    hook-found : hook_fault S ≡ hook_by S.places S.orbit S.kinds S.lwords S.second (least S.nodes (left_out S.kinds t.reached))
     unfolding hook_fault hook_by some_if ◌or_else◌
     hook-found = rw (wrong-hook S f, hook-is S f long first_hook f.nodes_some, hook-is S f long S.second f.second_below, unreached_is S f t g)
         (go (hooked_by S.places S.orbit S.kinds S.lwords first_hook) (hooked_by S.places S.orbit S.kinds S.lwords S.second)
         (least S.nodes (left_out S.kinds t.reached)))
       where
-        go : (h k : Bool) (o : Option ℕ) → found_of ((some_if (not h) first_hook or_else some_if (not k) S.second) or_else o)
-            ≡ cond h (cond k (found_of o) (Node S.second)) (Node first_hook)
+        go : (h k : Bool) (o : Option ℕ) → (some_if (not h) first_hook or_else some_if (not k) S.second) or_else o
+            ≡ cond h (cond k o (Some S.second)) (Some first_hook)
         go true true o = refl
         go true false o = refl
         go false k o = refl
 
-    pub fault-is : (out : Found) → out ≡ found_of (least S.nodes (left_out S.kinds t.reached))
-        → (r : Fault) → r ≡ fault_by S.n S.places S.nodes S.orbit S.kinds S.lwords S.second out lefts rights ltwice rtwice
+    pub fault-is : (out : Option ℕ) → out ≡ least S.nodes (left_out S.kinds t.reached)
+        → (r : Result ⊤ Refusal) → r ≡ fault_by S.n S.places S.nodes S.orbit S.kinds S.lwords S.second out lefts rights ltwice rtwice
         → r ≡ fault_of (scheme_fault S)
     unfolding scheme_fault fault_by arcs_fault ◌or_else◌
     fault-is out eo r e = rw (incidence-is S f lefts rights ltwice rtwice cl cr tl tr, cycle_is S f lefts rights cl cr)
         (rw (eo, sym hook-found) at e ∙ go (hook_fault S) _)
       where
-        go : (o : Option ℕ) (q : Option Refusal) → hook_else (found_of o) (fault_of q) ≡ fault_of (noted BadHook o or_else q)
-        go none q = refl
-        go (some x) q = refl
+        go : (o : Option ℕ) (q : Option Refusal) → hook_else o (fault_of q) ≡ fault_of (noted BadHook o or_else q)
+        go None q = refl
+        go (Some x) q = refl
+
+-- what a search for a refusal comes to in code tells what it finds
+pub fault_none : (o : Option Refusal) → Ok tt ≡ fault_of o → o ≡ None
+fault_none None e = refl
+fault_none (Some f) e = absurd (cc)
+
+pub fault_some : (o : Option Refusal) (f : Refusal) → Err f ≡ fault_of o → o ≡ Some f
+fault_some None f e = absurd (cc)
+fault_some (Some g) f e = cc
 
 -- ---- hook, then arcs
 
-module _ (n places nodes : ℕ) (orbit kinds words : List ℕ) (second : ℕ) (out : Found) (lefts rights : List ℕ) (ltwice rtwice : List Bool)
-    (h : Found) (eh : h ≡ hook_by places orbit kinds words second out) where
-  pub fault-hook : (x : ℕ) → h ≡ Node x → Given (BadHook x) ≡ fault_by n places nodes orbit kinds words second out lefts rights ltwice rtwice
+module _ (n places nodes : ℕ) (orbit kinds words : List ℕ) (second : ℕ) (out : Option ℕ) (lefts rights : List ℕ) (ltwice rtwice : List Bool)
+    (h : Option ℕ) (eh : h ≡ hook_by places orbit kinds words second out) where
+  pub fault-hook : (x : ℕ) → h ≡ Some x → Err (BadHook x) ≡ fault_by n places nodes orbit kinds words second out lefts rights ltwice rtwice
   unfolding fault_by
   fault-hook x e = let o = sym eh ∙ e in rw o
 
-  pub fault-arcs : h ≡ Nothing → (r : Fault) → r ≡ arcs_fault n nodes orbit kinds lefts rights ltwice rtwice
+  pub fault-arcs : h ≡ None → (r : Result ⊤ Refusal) → r ≡ arcs_fault n nodes orbit kinds lefts rights ltwice rtwice
       → r ≡ fault_by n places nodes orbit kinds words second out lefts rights ltwice rtwice
   unfolding fault_by
   fault-arcs e r g = let o = sym eh ∙ e in rw o g
 
--- ---- a scheme in its parts
+-- ---- what judging comes to
 
-module _ {n places nodes second : ℕ} {orbit kinds lwords ltargets rtargets : List ℕ} {lcount : ℕ} {larcs : List ℕ} {ltwice rtwice : List Bool}
-    (J : Judging n places nodes second orbit kinds lwords ltargets rtargets lcount larcs ltwice rtwice) where
-  left-coded : Coded J.scheme left ltargets
-  left-coded = rw J.ltargets_is (coded J.scheme J.shaped left)
+module _ (S : Scheme) (f : Shaped S) (long : length S.lwords ≡ 64) (t : Tree) (g : Spanning S.larcs S.lcount S.second t) (ltwice rtwice : List Bool)
+    (tl : ltwice ≡ twice_of S left) (tr : rtwice ≡ twice_of S right) (out : Option ℕ) (eo : out ≡ least S.nodes (left_out S.kinds t.reached))
+    (r : Result ⊤ Refusal)
+    (e : r ≡ fault_by S.n S.places S.nodes S.orbit S.kinds S.lwords S.second out S.ltargets S.rtargets ltwice rtwice) where
+  judged : r ≡ fault_of (scheme_fault S)
+  judged = fault-is S f S.ltargets S.rtargets (coded S f left) (coded S f right) long t (tree_of S f t g) ltwice rtwice tl tr out eo r e
 
-  right-coded : Coded J.scheme right rtargets
-  right-coded = rw J.rtargets_is (coded J.scheme J.shaped right)
+  pub judge-accepted : r ≡ Ok tt → (scheme_fault S ≡ None) × TreeOf S t
+  judge-accepted q = (fault_none _ (sym q ∙ judged), tree_of S f t g)
 
-  pub judge_tree : (c h l : ℕ) → c ≡ nodes → h ≡ second → l ≡ lcount
-      → ((c ≤ 16) × (h < 16)) × (Joining larcs l × (Aimed ltargets larcs l × Lefts c kinds larcs l))
-  judge_tree c h l ec eh el = rw (J.kinds_is, J.ltargets_is, J.larcs_is)
-      (tree_asks J.scheme J.shaped c h l (ec ∙ J.nodes_is) (eh ∙ J.second_is) (el ∙ J.lcount_is))
-
-  module _ (p c h : ℕ) (ep : p ≡ places) (ec : c ≡ nodes) (eh : h ≡ second) where
-    pub judge_asks : ((2 ≤ n) × (n ≤ 3) × (p ≤ 4) × (c ≤ 16) × (h < 16)) × (Coding c ltargets × Coding c rtargets)
-    judge_asks = rw (ep, ec, eh, J.n_is, J.places_is, J.nodes_is, J.second_is) (fault_asks J.scheme J.shaped ltargets rtargets left-coded right-coded)
-
-    -- the trees and the fault that come of it
-    pub judge_is : (l : ℕ) → l ≡ lcount → (t : Tree) → Spanning larcs l h t → t.roots ≡ roots_of h
-        → (out : Found) → out ≡ found_of (least c (left_out kinds t.reached))
-        → (r : Fault) → r ≡ fault_by n p c orbit kinds lwords h out ltargets rtargets ltwice rtwice → VerdictOf J.scheme (record { fault = r; tree = t })
-    judge_is l el t g er out eo r e =
-        let span : Spanning J.scheme.larcs J.scheme.lcount J.scheme.second t = rw (J.larcs_is, el, J.lcount_is, eh, J.second_is) at g in
-        let tree = tree_of J.scheme J.shaped t span (er ∙ ap roots_of (eh ∙ J.second_is)) in
-        let long = rw J.lwords_is at J.long_words in
-        let left = rw (ec, J.nodes_is, J.kinds_is) at eo in
-        let by = rw (ep, ec, eh, J.n_is, J.places_is, J.nodes_is, J.second_is, J.orbit_is, J.kinds_is, J.lwords_is) at e in
-        record {
-          fault = fault-is J.scheme J.shaped ltargets rtargets left-coded right-coded long t tree ltwice rtwice J.ltwice_is
-              J.rtwice_is out left r by;
-          tree = tree;
-        }
+  pub judge-refused : (a : Refusal) → r ≡ Err a → scheme_fault S ≡ Some a
+  judge-refused a q = fault_some _ a (sym q ∙ judged)

@@ -8,6 +8,7 @@ use native.Mathlib.Omega.{arith}
 use lib.ListN.{length, get_or}
 use lib.Dec.{eqb}
 use borrow.Author.Tests.{eqb-true, eqb-false, eq-eqb, ne_eqb}
+use Rattle.std.specs.Prelude.{Option, Some, None}
 use Rattle.base.specs.Test.{◌and◌, ◌or◌}
 use Rattle.base.specs.Below.{all_below}
 use Rattle.base.specs.First.{least, there}
@@ -21,13 +22,9 @@ use Rattle.model.specs.Conditions.{path_to, hook_ok}
 use Rattle.model.specs.Shaped.{Shaped}
 use Rattle.model.specs.declared.Scheme.{Scheme}
 use Rattle.model.proofs.AcceptedLaws as AcceptedLaws
-use Rattle.incidence.proofs.FoundLaws.{found_nothing}
 use Rattle.conditions.specs.Tree.{Lefts, TreeOf}
 use Rattle.conditions.specs.declared.tree.Tree.{Tree}
 use Rattle.conditions.specs.Hook.{hooked_by, left_out, hook_by}
-use Rattle.incidence.specs.Incidence.{found_of}
-use Rattle.incidence.specs.declared.Found.{Found}
-use Rattle.incidence.specs.declared.Found.TheVariants.{Node, Nothing}
 
 module _ (places : ℕ) (orbit kinds words : List ℕ) (s : ℕ) where
   abbrev pub Read : ℕ → Bool
@@ -62,13 +59,13 @@ module _ (kinds : List ℕ) (reached : List Bool) (s : ℕ) where
 
 -- ---- the hook's fault, from the tests of the first hook and the second
 
-module _ (places : ℕ) (orbit kinds words : List ℕ) (second : ℕ) (out : Found) {b : Bool} (e : b ≡ hooked_by places orbit kinds words first_hook) where
-  pub first-wrong : b ≡ false → Node first_hook ≡ hook_by places orbit kinds words second out
+module _ (places : ℕ) (orbit kinds words : List ℕ) (second : ℕ) (out : Option ℕ) {b : Bool} (e : b ≡ hooked_by places orbit kinds words first_hook) where
+  pub first-wrong : b ≡ false → Some first_hook ≡ hook_by places orbit kinds words second out
   unfolding hook_by
   first-wrong q = rw (sym e ∙ q)
 
   module _ (q : b ≡ true) {d : Bool} (g : d ≡ hooked_by places orbit kinds words second) where
-    pub second-wrong : d ≡ false → Node second ≡ hook_by places orbit kinds words second out
+    pub second-wrong : d ≡ false → Some second ≡ hook_by places orbit kinds words second out
     unfolding hook_by
     second-wrong r = rw (sym e ∙ q, sym g ∙ r)
 
@@ -83,10 +80,10 @@ module _ (places : ℕ) (orbit kinds words : List ℕ) (second : ℕ) (out : Fou
 -- ---- whether the walk over targets was enough
 
 -- if the search finds nothing, every left node is reached
-pub none_out : (nodes : ℕ) (kinds : List ℕ) (reached : List Bool) → Nothing ≡ found_of (least nodes (left_out kinds reached))
+pub none_out : (nodes : ℕ) (kinds : List ℕ) (reached : List Bool) → None ≡ least nodes (left_out kinds reached)
     → (s : ℕ) → s < nodes → (get_or kinds s 0 ≡ 3 → ⊥) → get_or reached s false ≡ true
 none_out nodes kinds reached e s h ne =
-    go (get_or reached s false) (sym (out-left kinds reached s ne) ∙ least-none nodes (left_out kinds reached) (found_nothing _ (sym e)) s h)
+    go (get_or reached s false) (sym (out-left kinds reached s ne) ∙ least-none nodes (left_out kinds reached) (sym e) s h)
   where
     go : (b : Bool) → not b ≡ false → b ≡ true
     go true q = refl

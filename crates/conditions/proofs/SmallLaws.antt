@@ -2,7 +2,7 @@
 use Prim.Native.Nat.{ℕ, ◌≤◌, ◌<◌}
 use mathlib.Core.Path.{◌≡◌, subst}
 use mathlib.Core.Logic.{⊎_elim}
-use mathlib.Core.Option.{some}
+use Rattle.std.specs.Prelude.{Some}
 use native.Mathlib.Omega.{arith}
 use Rattle.base.proofs.FirstLaws.{or_else_cases, first-at, when-at, least_at}
 use Rattle.model.specs.Conditions.{hook_fault, incidence_fault, cycle_fault, scheme_fault}
@@ -19,18 +19,18 @@ pub data SmallFault : Refusal → Type 0 where
   cycle_small : {x i j : ℕ} → x < 16 → i ≤ 3 → j ≤ 3 → SmallFault (BadCycle x i j)
 
 module _ (S : Scheme) (f : Shaped S) where
-  hook-small : (x : ℕ) → hook_fault S ≡ some x → x < 16
+  hook-small : (x : ℕ) → hook_fault S ≡ Some x → x < 16
   unfolding hook_fault
   hook-small x e = ⊎_elim
       (λ w. node-small S f x (least_at _ _ x w).0)
       (λ w. node-small S f x (least_at _ _ x w.1).0)
       (or_else_cases _ _ x e)
 
-  incidence-small : (x : ℕ) → incidence_fault S ≡ some x → x < 16
+  incidence-small : (x : ℕ) → incidence_fault S ≡ Some x → x < 16
   unfolding incidence_fault
   incidence-small x e = node-small S f x (least_at _ _ x e).0
 
-  cycle_small_lem : (a : Refusal) → cycle_fault S ≡ some a → SmallFault a
+  cycle_small_lem : (a : Refusal) → cycle_fault S ≡ Some a → SmallFault a
   unfolding cycle_fault
   cycle_small_lem a e =
       let n3 = AcceptedLaws.small S f in
@@ -39,7 +39,7 @@ module _ (S : Scheme) (f : Shaped S) where
       let j = first-at _ _ a i.2 in
       subst SmallFault (when-at _ j.2).1 (cycle_small (node-small S f s.0 s.1) (omega (arith, i.1)) (omega (arith, j.1)))
 
-  pub fault-small : (a : Refusal) → scheme_fault S ≡ some a → SmallFault a
+  pub fault-small : (a : Refusal) → scheme_fault S ≡ Some a → SmallFault a
   unfolding scheme_fault
   fault-small a e = ⊎_elim
       (λ w. let n = noted-at BadHook _ a w in subst SmallFault n.2 (hook_small (hook-small n.0 n.1)))

@@ -78,11 +78,11 @@ module _ (S : Scheme) (f : Shaped S) where
     marked-path : (s : ℕ) → get_or t.reached s false ≡ true → there (path_to S s) ≡ true
     marked-path s e = let k = g.spans.found s e in ap (λ (z : ℕ). there (path_to S z)) (sym k.2) ∙ entry-path k.0 k.1
 
-    pub tree_of : t.roots ≡ roots_of S.second → TreeOf S t
-    tree_of e = record {
+    pub tree_of : TreeOf S t
+    tree_of = let e = g.spans.roots_is in record {
       roots_is = e;
       some = omega (arith, g.spans.some);
-      few = few _ _ _ _ _ _ _ g.spans;
+      few = few _ _ _ g.spans;
       roots = g.spans.roots;
       below = λ k h. reached-below (entry-reached (suc k) k (omega arith) h);
       branch = λ k l h. g.spans.branch k (omega arith) h;

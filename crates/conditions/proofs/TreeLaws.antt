@@ -10,6 +10,7 @@ use lib.Seq.{get_or-set_same, get_or-set_other}
 use lib.Dec.{eqb, leb}
 use borrow.Author.Tests.{eqb-true, eqb-false, leb-true, leb-false, lt-ltb, le-ltb}
 use Rattle.base.specs.Below.{count_below}
+use Rattle.std.specs.Prelude.{None}
 use Rattle.base.specs.First.{least}
 use Rattle.base.proofs.TestLaws.{true_or_false}
 use Rattle.base.proofs.BelowLaws.{le_or_lt, below_step, count-more, count_le, count-some}
@@ -18,10 +19,10 @@ use Rattle.model.specs.Codes.{entry}
 use Rattle.model.specs.Scheme.{first_hook}
 use Rattle.conditions.specs.Arcs.{part_of}
 use Rattle.conditions.specs.Hook.{left_out}
-use Rattle.incidence.specs.Incidence.{found_of}
-use Rattle.incidence.specs.declared.Found.TheVariants.{Nothing}
 use Rattle.conditions.proofs.HookLaws.{none_out}
-use Rattle.conditions.specs.Tree.{Ends, ByArc, ByTarget, Branch, roots_of, Roots, TreeBy, Reaching, Aimed, Lefts, Spans, TreeJoined, TreeGrown, Closed}
+use Rattle.conditions.specs.Tree.{Ends, ByArc, ByTarget, Branch, roots_of, Roots, TreeBy, with_entry, Reaching, Aimed, Lefts, Spans, TreeJoined, TreeGrown}
+use Rattle.conditions.specs.Tree.{Spanning}
+use Rattle.conditions.specs.declared.tree.Tree.{Tree}
 
 mark-keeps : (l : List Bool) (y z : ℕ) → y < length l → get_or l z false ≡ true → get_or (set l y true) z false ≡ true
 mark-keeps l y z h e = ⊎_elim
@@ -64,120 +65,119 @@ root_cases node dim second r (suc k) h =
 
 -- ---- one more entry
 
-module _ (J : ℕ → ℕ → ℕ → Type 0) (second : ℕ) (node parent dim : List ℕ) (reached : List Bool) (size : ℕ)
-    (s : TreeBy J second node parent dim reached size) where
-  module _ (y : ℕ) (hy : y < 16) (ry : get_or reached y false ≡ false) where
-    more : count_below 16 (λ z. get_or reached z false) < count_below 16 (λ z. get_or (set reached y true) z false)
+module _ (J : ℕ → ℕ → ℕ → Type 0) (second : ℕ) (t : Tree) (s : TreeBy J second t) where
+  module _ (y : ℕ) (hy : y < 16) (ry : get_or t.reached y false ≡ false) where
+    more : count_below 16 (λ z. get_or t.reached z false) < count_below 16 (λ z. get_or (set t.reached y true) z false)
     more =
-        let long : y < length reached = omega (arith, s.long_reached) in
-        count-more 16 _ _ y hy ry (get_or-set_same reached y true false long) (λ z h e. mark-keeps reached y z long e)
+        let long : y < length t.reached = omega (arith, s.long_reached) in
+        count-more 16 _ _ y hy ry (get_or-set_same t.reached y true false long) (λ z h e. mark-keeps t.reached y z long e)
 
     -- a node that is not reached finds room for its entry
-    pub room : size < 16
-    room = let a = more in let b = count_le 16 (λ z. get_or (set reached y true) z false) in omega (arith, s.total)
+    pub room : t.size < 16
+    room = let a = more in let b = count_le 16 (λ z. get_or (set t.reached y true) z false) in omega (arith, s.total)
 
-  kept : (l : List ℕ) (v j : ℕ) → j < size → get_or (set l size v) j 0 ≡ get_or l j 0
-  kept l v j h = get_or-set_other l size j v 0 (λ e. absurd (omega arith))
+  kept : (l : List ℕ) (v j : ℕ) → j < t.size → get_or (set l t.size v) j 0 ≡ get_or l j 0
+  kept l v j h = get_or-set_other l t.size j v 0 (λ e. absurd (omega arith))
 
-  module _ (i x y : ℕ) (joins : J i x y) (rx : get_or reached x false ≡ true) (ry : get_or reached y false ≡ false) (hy : y < 16) where
-    new : (l : List ℕ) (v : ℕ) → length l ≡ 16 → get_or (set l size v) size 0 ≡ v
-    new l v e = let h = room y hy ry in get_or-set_same l size v 0 (omega arith)
+  module _ (i x y : ℕ) (joins : J i x y) (rx : get_or t.reached x false ≡ true) (ry : get_or t.reached y false ≡ false) (hy : y < 16) where
+    new : (l : List ℕ) (v : ℕ) → length l ≡ 16 → get_or (set l t.size v) t.size 0 ≡ v
+    new l v e = let h = room y hy ry in get_or-set_same l t.size v 0 (omega arith)
 
-    old-branch : (k : ℕ) → roots_of second ≤ k → k < size → Branch J (set node size y) (set parent size x) (set dim size i) k
+    old-branch : (k : ℕ) → roots_of second ≤ k → k < t.size → Branch J (set t.node t.size y) (set t.parent t.size x) (set t.dim t.size i) k
     old-branch k l h =
         let o = s.branch k l h in
         record {
           earlier = o.earlier;
           before = o.before;
-          parent_is = kept node y o.earlier (omega (arith, o.before)) ∙ o.parent_is ∙ sym (kept parent x k h);
-          joined = rw (kept dim i k h, kept parent x k h, kept node y k h) o.joined;
+          parent_is = kept t.node y o.earlier (omega (arith, o.before)) ∙ o.parent_is ∙ sym (kept t.parent x k h);
+          joined = rw (kept t.dim i k h, kept t.parent x k h, kept t.node y k h) o.joined;
         }
 
-    new-branch : Branch J (set node size y) (set parent size x) (set dim size i) size
+    new-branch : Branch J (set t.node t.size y) (set t.parent t.size x) (set t.dim t.size i) t.size
     new-branch =
         let o = s.found x rx in
         record {
           earlier = o.0;
           before = o.1;
-          parent_is = kept node y o.0 o.1 ∙ o.2 ∙ sym (new parent x s.long_parent);
-          joined = rw (new dim i s.long_dim, new parent x s.long_parent, new node y s.long_node) joins;
+          parent_is = kept t.node y o.0 o.1 ∙ o.2 ∙ sym (new t.parent x s.long_parent);
+          joined = rw (new t.dim i s.long_dim, new t.parent x s.long_parent, new t.node y s.long_node) joins;
         }
 
     -- the hooks stay where they are
-    old-roots : Roots (set node size y) (set dim size i) second
+    old-roots : Roots (set t.node t.size y) (set t.dim t.size i) second
     old-roots =
         let f = roots_few second in
         let some = s.some in
         record {
-          first = kept node y 0 (omega arith) ∙ s.roots.first;
-          last = kept node y (roots_of second - 1) (omega arith) ∙ s.roots.last;
-          bare = λ k h. kept dim i k (omega arith) ∙ s.roots.bare k h;
+          first = kept t.node y 0 (omega arith) ∙ s.roots.first;
+          last = kept t.node y (roots_of second - 1) (omega arith) ∙ s.roots.last;
+          bare = λ k h. kept t.dim i k (omega arith) ∙ s.roots.bare k h;
         }
 
-    not_there : (j : ℕ) → j < size → get_or node j 0 ≡ y → ⊥
-    not_there j h e = true≢false (sym (s.marked j h) ∙ ap (λ (z : ℕ). get_or reached z false) e ∙ ry)
+    not_there : (j : ℕ) → j < t.size → get_or t.node j 0 ≡ y → ⊥
+    not_there j h e = true≢false (sym (s.marked j h) ∙ ap (λ (z : ℕ). get_or t.reached z false) e ∙ ry)
 
     -- y becomes an entry, joined to x
-    pushed : TreeBy J second (set node size y) (set parent size x) (set dim size i) (set reached y true) (size + 1)
+    pushed : TreeBy J second (with_entry i x y t)
     pushed =
-        let long : y < length reached = omega (arith, s.long_reached) in
+        let long : y < length t.reached = omega (arith, s.long_reached) in
         record {
           long_node = simp length-set s.long_node;
           long_parent = simp length-set s.long_parent;
           long_dim = simp length-set s.long_dim;
           long_reached = simp length-set s.long_reached;
+          roots_is = s.roots_is;
           some = omega (arith, s.some);
           total = let m = more y hy ry in omega (arith, s.total);
           roots = old-roots;
           branch = λ k l h. ⊎_elim (λ e. rw e new-branch) (λ w. old-branch k l w) (below_step h);
           marked = λ k h. ⊎_elim
-              (λ e. ap (λ (z : ℕ). get_or (set reached y true) (get_or (set node size y) z 0) false) e
-              ∙ ap (λ (z : ℕ). get_or (set reached y true) z false) (new node y s.long_node) ∙ get_or-set_same reached y true false long)
-              (λ w. rw (kept node y k w) (mark-keeps reached y _ long (s.marked k w)))
+              (λ e. ap (λ (z : ℕ). get_or (set t.reached y true) (get_or (set t.node t.size y) z 0) false) e
+              ∙ ap (λ (z : ℕ). get_or (set t.reached y true) z false) (new t.node y s.long_node) ∙ get_or-set_same t.reached y true false long)
+              (λ w. rw (kept t.node y k w) (mark-keeps t.reached y _ long (s.marked k w)))
               (below_step h);
           found = λ z e. ⊎_elim
-              (λ q. (size, omega arith, new node y s.long_node ∙ sym q))
-              (λ q. let o = s.found z q in (o.0, omega (arith, o.1), kept node y o.0 o.1 ∙ o.2))
-              (mark_was reached y z e);
+              (λ q. (t.size, omega arith, new t.node y s.long_node ∙ sym q))
+              (λ q. let o = s.found z q in (o.0, omega (arith, o.1), kept t.node y o.0 o.1 ∙ o.2))
+              (mark_was t.reached y z e);
           once = λ j k h l e. ⊎_elim
               (λ p. ⊎_elim
               (λ q. p ∙ sym q)
-              (λ q. absurd (not_there k q (sym (kept node y k q) ∙ sym e ∙ ap (λ (z : ℕ). get_or (set node size y) z 0) p ∙ new node y s.long_node)))
+              (λ q. absurd (not_there k q (sym (kept t.node y k q) ∙ sym e ∙ ap (λ (z : ℕ). get_or (set t.node t.size y) z 0) p ∙ new t.node y s.long_node)))
               (below_step l))
               (λ p. ⊎_elim
-              (λ q. absurd (not_there j p (sym (kept node y j p) ∙ e ∙ ap (λ (z : ℕ). get_or (set node size y) z 0) q ∙ new node y s.long_node)))
-              (λ q. s.once j k p q (sym (kept node y j p) ∙ e ∙ kept node y k q))
+              (λ q. absurd (not_there j p (sym (kept t.node y j p) ∙ e ∙ ap (λ (z : ℕ). get_or (set t.node t.size y) z 0) q ∙ new t.node y s.long_node)))
+              (λ q. s.once j k p q (sym (kept t.node y j p) ∙ e ∙ kept t.node y k q))
               (below_step l))
               (below_step h);
         }
 
-    pub tree_push : (node' parent' dim' : List ℕ) (reached' : List Bool)
-        → node' ≡ set node size y → parent' ≡ set parent size x → dim' ≡ set dim size i → reached' ≡ set reached y true
-        → TreeBy J second node' parent' dim' reached' (size + 1)
-    tree_push node' parent' dim' reached' en ep ed er = rw (en, ep, ed, er) pushed
+    pub tree_push : (t' : Tree) → t' ≡ with_entry i x y t → TreeBy J second t'
+    tree_push t' e = rw e pushed
 
-  pub entry-small : (k : ℕ) → k < size → get_or node k 0 < 16
+  pub entry-small : (k : ℕ) → k < t.size → get_or t.node k 0 < 16
   entry-small k h = ⊎_elim
-      (λ l. absurd (true≢false (sym (s.marked k h) ∙ get_or-eq_default reached false (rw s.long_reached (leb-true 16 (get_or node k 0) l)))))
-      (λ l. leb-false 16 (get_or node k 0) l)
-      (true_or_false (leb 16 (get_or node k 0)))
+      (λ l. absurd (true≢false (sym (s.marked k h) ∙ get_or-eq_default t.reached false (rw s.long_reached (leb-true 16 (get_or t.node k 0) l)))))
+      (λ l. leb-false 16 (get_or t.node k 0) l)
+      (true_or_false (leb 16 (get_or t.node k 0)))
 
-  pub some-entry : 0 < size
+  pub some-entry : 0 < t.size
   some-entry = let f = roots_few second in omega (arith, s.some)
 
-  pub few : size ≤ 16
-  few = let a = count_le 16 (λ z. get_or reached z false) in omega (arith, s.total)
+  pub few : t.size ≤ 16
+  few = let a = count_le 16 (λ z. get_or t.reached z false) in omega (arith, s.total)
 
 -- if K joins whatever J joins, a tree joined by J is a tree joined by K
-pub tree_weaker : (J K : ℕ → ℕ → ℕ → Type 0) (second : ℕ) (node parent dim : List ℕ) (reached : List Bool) (size : ℕ)
-    → TreeBy J second node parent dim reached size
-    → ((k : ℕ) → k < size → J (get_or dim k 0) (get_or parent k 0) (get_or node k 0) → K (get_or dim k 0) (get_or parent k 0) (get_or node k 0))
-    → TreeBy K second node parent dim reached size
-tree_weaker J K second node parent dim reached size s f = record {
+pub tree_weaker : (J K : ℕ → ℕ → ℕ → Type 0) (second : ℕ) (t : Tree) → TreeBy J second t
+    → ((k : ℕ) → k < t.size
+    → J (get_or t.dim k 0) (get_or t.parent k 0) (get_or t.node k 0) → K (get_or t.dim k 0) (get_or t.parent k 0) (get_or t.node k 0))
+    → TreeBy K second t
+tree_weaker J K second t s f = record {
   long_node = s.long_node;
   long_parent = s.long_parent;
   long_dim = s.long_dim;
   long_reached = s.long_reached;
+  roots_is = s.roots_is;
   some = s.some;
   total = s.total;
   roots = s.roots;
@@ -190,85 +190,79 @@ tree_weaker J K second node parent dim reached size s f = record {
 -- ---- the walk over targets
 
 -- the target of s at dimension i becomes an entry
-pub reach_push : (targets : List ℕ) (second : ℕ) (node parent dim : List ℕ) (reached : List Bool) (size s : ℕ)
-    → Reaching targets second node parent dim reached size s → s < 16
-    → (i t : ℕ) → i < 4 → t ≡ entry targets s i → t < 16 → get_or reached t false ≡ false → (node' parent' dim' : List ℕ) (reached' : List Bool)
-    → node' ≡ set node size t → parent' ≡ set parent size s → dim' ≡ set dim size i → reached' ≡ set reached t true
-    → Reaching targets second node' parent' dim' reached' (size + 1) s
-reach_push targets second node parent dim reached size s r h i t hi e ht rt node' parent' dim' reached' en ep ed er = record {
-  tree = tree_push _ _ _ _ _ _ _ r.tree i s t (record { node = h; dim = hi; is = sym e }) r.at rt ht _ _ _ _ en ep ed er;
-  at = rw er (mark-keeps reached t s (omega (arith, r.tree.long_reached)) r.at);
+pub reach_push : (targets : List ℕ) (second : ℕ) (t : Tree) (s : ℕ) → Reaching targets second t s → s < 16
+    → (i y : ℕ) → i < 4 → y ≡ entry targets s i → y < 16 → get_or t.reached y false ≡ false
+    → (t' : Tree) → t' ≡ with_entry i s y t → Reaching targets second t' s
+reach_push targets second t s r h i y hi e hy ry t' et = record {
+  tree = tree_push _ _ _ r.tree i s y (record { node = h; dim = hi; is = sym e }) r.at ry hy _ et;
+  at = rw et (mark-keeps t.reached y s (omega (arith, r.tree.long_reached)) r.at);
 }
 
 -- an entry of a tree over targets is reached
-pub reach-entry : (targets : List ℕ) (second : ℕ) (node parent dim : List ℕ) (reached : List Bool) (size : ℕ)
-    → TreeBy (ByTarget targets) second node parent dim reached size
-    → (k s : ℕ) → k < size → s ≡ get_or node k 0 → (s < 16) × Reaching targets second node parent dim reached size s
-reach-entry targets second node parent dim reached size t k s h e =
-    (rw e (entry-small _ _ _ _ _ _ _ t k h), record { tree = t; at = rw e (t.marked k h) })
+pub reach-entry : (targets : List ℕ) (second : ℕ) (t : Tree) → TreeBy (ByTarget targets) second t
+    → (k s : ℕ) → k < t.size → s ≡ get_or t.node k 0 → (s < 16) × Reaching targets second t s
+reach-entry targets second t b k s h e = (rw e (entry-small _ _ _ b k h), record { tree = b; at = rw e (b.marked k h) })
 
 -- what is reached over targets is reached over arcs
-pub tree-aimed : (targets arcs : List ℕ) (c : ℕ) → Aimed targets arcs c → (second : ℕ) (node parent dim : List ℕ) (reached : List Bool) (size : ℕ)
-    → TreeBy (ByTarget targets) second node parent dim reached size → Spans arcs c second node parent dim reached size
-tree-aimed targets arcs c a second node parent dim reached size s = tree_weaker _ _ _ _ _ _ _ _ s (λ k h j.
-    subst (ByArc (part_of arcs) c _ _) j.is (a.at _ _ j.node j.dim (subst (λ (z : ℕ). z < 16) (sym j.is) (entry-small _ _ _ _ _ _ _ s k h))))
+pub tree-aimed : (targets arcs : List ℕ) (c : ℕ) → Aimed targets arcs c → (second : ℕ) (t : Tree)
+    → TreeBy (ByTarget targets) second t → Spans arcs c second t
+tree-aimed targets arcs c a second t s = tree_weaker _ _ _ _ s (λ k h j.
+    subst (ByArc (part_of arcs) c _ _) j.is (a.at _ _ j.node j.dim (subst (λ (z : ℕ). z < 16) (sym j.is) (entry-small _ _ _ s k h))))
 
 -- ---- the passes over the arcs
 
-module _ (arcs : List ℕ) (c second : ℕ) (node parent dim : List ℕ) (reached : List Bool) (size : ℕ) (s : Spans arcs c second node parent dim reached size) where
+module _ (arcs : List ℕ) (c second : ℕ) (t : Tree) (s : Spans arcs c second t) where
   -- the far end of arc a becomes an entry
-  pub joined_push : (a x y : ℕ) → a < c → Ends (part_of arcs) a x y → get_or reached x false ≡ true → get_or reached y false ≡ false → y < 16
-      → (i : ℕ) → i ≡ part_of arcs a 0 → (node' parent' dim' : List ℕ) (reached' : List Bool)
-      → node' ≡ set node size y → parent' ≡ set parent size x → dim' ≡ set dim size i → reached' ≡ set reached y true
-      → TreeJoined arcs c a second node' parent' dim' reached reached' size (size + 1)
-  joined_push a x y b ends rx ry hy i ei node' parent' dim' reached' en ep ed er = record {
-    spans = tree_push _ _ _ _ _ _ _ s i x y (record { arc = a; below = b; dim_is = sym ei; ends = ends }) rx ry hy _ _ _ _ en ep ed er;
-    longer = omega arith;
-    even = λ e. absurd (omega arith);
-  }
+  pub joined_push : (a x y : ℕ) → a < c → Ends (part_of arcs) a x y → get_or t.reached x false ≡ true → get_or t.reached y false ≡ false → y < 16
+      → (i : ℕ) → i ≡ part_of arcs a 0 → (t' : Tree) → t' ≡ with_entry i x y t → TreeJoined arcs c a second t t'
+  joined_push a x y b ends rx ry hy i ei t' et =
+      let more : t'.size ≡ t.size + 1 = ap (λ (z : Tree). z.size) et in
+      record {
+        spans = tree_push _ _ _ s i x y (record { arc = a; below = b; dim_is = sym ei; ends = ends }) rx ry hy _ et;
+        longer = omega arith;
+        even = λ e. absurd (omega arith);
+      }
 
   -- an arc adds nothing if both ends are reached, or neither is
-  pub joined_same : (a x y : ℕ) → x ≡ part_of arcs a 1 → y ≡ part_of arcs a 2 → get_or reached x false ≡ get_or reached y false
-      → TreeJoined arcs c a second node parent dim reached reached size size
+  pub joined_same : (a x y : ℕ) → x ≡ part_of arcs a 1 → y ≡ part_of arcs a 2 → get_or t.reached x false ≡ get_or t.reached y false
+      → TreeJoined arcs c a second t t
   joined_same a x y ex ey e = record {
     spans = s;
     longer = omega arith;
-    even = λ q. (refl, ap (λ (z : ℕ). get_or reached z false) (sym ex) ∙ e ∙ ap (λ (z : ℕ). get_or reached z false) ey);
+    even = λ q. (refl, ap (λ (z : ℕ). get_or t.reached z false) (sym ex) ∙ e ∙ ap (λ (z : ℕ). get_or t.reached z false) ey);
   }
 
-  pub grown-none : TreeGrown arcs c 0 second node parent dim reached size size
+  pub grown-none : TreeGrown arcs c 0 second t.size t
   grown-none = record { spans = s; longer = omega arith; even = λ q a h. absurd (omega arith) }
 
 -- one more arc of a pass
-pub grown-more : (arcs : List ℕ) (c k second : ℕ) (node parent dim node' parent' dim' : List ℕ) (reached reached' : List Bool) (size₀ size size' : ℕ)
-    → TreeGrown arcs c k second node parent dim reached size₀ size → TreeJoined arcs c k second node' parent' dim' reached reached' size size'
-    → TreeGrown arcs c (k + 1) second node' parent' dim' reached' size₀ size'
-grown-more arcs c k second node parent dim node' parent' dim' reached reached' size₀ size size' g j = record {
+pub grown-more : (arcs : List ℕ) (c k second size₀ : ℕ) (t t' : Tree)
+    → TreeGrown arcs c k second size₀ t → TreeJoined arcs c k second t t' → TreeGrown arcs c (k + 1) second size₀ t'
+grown-more arcs c k second size₀ t t' g j = record {
   spans = j.spans;
   longer = omega (arith, g.longer, j.longer);
   even = λ e a h.
       let l = g.longer in
       let m = j.longer in
-      let same : size' ≡ size = omega arith in
+      let same : t'.size ≡ t.size = omega arith in
       let r = j.even same in
       ⊎_elim (λ q. rw q r.1) (λ q. rw r.0 (g.even (omega arith) a q)) (below_step h);
 }
 
 -- before the first pass: `last` is below `size`, so nothing is said of the arcs yet
-pub grown-start : (arcs : List ℕ) (c second : ℕ) (node parent dim : List ℕ) (reached : List Bool) (last size : ℕ)
-    → Spans arcs c second node parent dim reached size → last < size → TreeGrown arcs c c second node parent dim reached last size
-grown-start arcs c second node parent dim reached last size s h = record { spans = s; longer = omega arith; even = λ f. absurd (omega arith) }
+pub grown-start : (arcs : List ℕ) (c second : ℕ) (t : Tree) (last : ℕ)
+    → Spans arcs c second t → last < t.size → TreeGrown arcs c c second last t
+grown-start arcs c second t last s h = record { spans = s; longer = omega arith; even = λ f. absurd (omega arith) }
 
 -- no arc leads out of trees that have all left nodes, since arcs join left nodes
-pub closed-walk : (arcs : List ℕ) (c nodes : ℕ) (kinds : List ℕ) (second : ℕ) (node parent dim : List ℕ) (reached : List Bool) (size : ℕ)
-    → Spans arcs c second node parent dim reached size → Lefts nodes kinds arcs c → Nothing ≡ found_of (least nodes (left_out kinds reached))
-    → Closed arcs c second node parent dim reached size
-closed-walk arcs c nodes kinds second node parent dim reached size s l e = record {
+pub closed-walk : (arcs : List ℕ) (c nodes : ℕ) (kinds : List ℕ) (second : ℕ) (t : Tree)
+    → Spans arcs c second t → Lefts nodes kinds arcs c → None ≡ least nodes (left_out kinds t.reached) → Spanning arcs c second t
+closed-walk arcs c nodes kinds second t s l e = record {
   spans = s;
   even = λ a h.
       let from = l.from a h in
       let to = l.to a h in
-      none_out nodes kinds reached e _ from.0 from.1 ∙ sym (none_out nodes kinds reached e _ to.0 to.1);
+      none_out nodes kinds t.reached e _ from.0 from.1 ∙ sym (none_out nodes kinds t.reached e _ to.0 to.1);
 }
 
 -- ---- the hooks alone
@@ -334,12 +328,20 @@ module _ (second : ℕ) (h : second < 16) where
       absurd (omega (arith, q.1, z)))
       (root_count second)
 
-  start : (J : ℕ → ℕ → ℕ → Type 0) → TreeBy J second entries (replicate 16 0) (replicate 16 255) marks (roots_of second)
+  start : (J : ℕ → ℕ → ℕ → Type 0) → TreeBy J second (record {
+    size = roots_of second;
+    roots = roots_of second;
+    node = entries;
+    parent = replicate 16 0;
+    dim = replicate 16 255;
+    reached = marks;
+  })
   start J = let f = roots_few second in record {
     long_node = simp length-set refl;
     long_parent = refl;
     long_dim = refl;
     long_reached = simp length-set refl;
+    roots_is = refl;
     some = omega arith;
     total = marks-enough;
     roots = hooks;
@@ -359,7 +361,12 @@ module _ (second : ℕ) (h : second < 16) where
   }
 
 -- the same, as the code writes them; r is the number of hooks
-pub tree-start : (J : ℕ → ℕ → ℕ → Type 0) (second r : ℕ) → second < 16 → r ≡ roots_of second
-    → TreeBy J second (set (replicate 16 0) (r - 1) second) (replicate 16 0) (replicate 16 255) (set (set (replicate 16 false) first_hook true) second true)
-    (roots_of second)
+pub tree-start : (J : ℕ → ℕ → ℕ → Type 0) (second r : ℕ) → second < 16 → r ≡ roots_of second → TreeBy J second (record {
+  size = r;
+  roots = r;
+  node = set (replicate 16 0) (r - 1) second;
+  parent = replicate 16 0;
+  dim = replicate 16 255;
+  reached = set (set (replicate 16 false) first_hook true) second true;
+})
 tree-start J second r h e = rw e (start second h J)

@@ -1,5 +1,5 @@
 -- The trees of left arcs that reach from the hooks: as they grow, and once they span all that is reached.
-use Rattle.std.specs.Prelude.{ℕ, ◌-◌, ◌≤◌, ◌<◌, ◌≡◌, ◌⊎◌, Bool, true, false, cond, List, length, get_or, ltb}
+use Rattle.std.specs.Prelude.{ℕ, ◌+◌, ◌-◌, ◌≤◌, ◌<◌, ◌≡◌, ◌⊎◌, Bool, true, false, cond, List, length, get_or, set, ltb}
 use Rattle.base.specs.Below.{count_below}
 use Rattle.base.specs.First.{there}
 use Rattle.model.specs.Scheme.{left, arcs, arc_part, first_hook}
@@ -43,27 +43,38 @@ pub record Roots (node dim : List ℕ) (second : ℕ) : Type 0 where
   pub last : get_or node (roots_of second - 1) 0 ≡ second
   pub bare : (k : ℕ) → k < roots_of second → get_or dim k 0 ≡ 255
 
--- The first `size` entries are trees from the hooks: J joins every entry but a hook to its parent. `reached` marks their nodes.
-pub record TreeBy (J : ℕ → ℕ → ℕ → Type 0) (second : ℕ) (node parent dim : List ℕ) (reached : List Bool) (size : ℕ) : Type 0 where
-  pub long_node : length node ≡ 16
-  pub long_parent : length parent ≡ 16
-  pub long_dim : length dim ≡ 16
-  pub long_reached : length reached ≡ 16
-  pub some : roots_of second ≤ size
-  pub total : size ≤ count_below 16 (λ s. get_or reached s false)
-  pub roots : Roots node dim second
-  pub branch : (k : ℕ) → roots_of second ≤ k → k < size → Branch J node parent dim k
-  pub marked : (k : ℕ) → k < size → get_or reached (get_or node k 0) false ≡ true
-  pub found : (s : ℕ) → get_or reached s false ≡ true → (k : ℕ) × (k < size) × (get_or node k 0 ≡ s)
-  pub once : (j k : ℕ) → j < size → k < size → get_or node j 0 ≡ get_or node k 0 → j ≡ k
+-- The entries are trees from the hooks: J joins every entry but a hook to its parent. `reached` marks their nodes.
+pub record TreeBy (J : ℕ → ℕ → ℕ → Type 0) (second : ℕ) (t : Tree) : Type 0 where
+  pub long_node : length t.node ≡ 16
+  pub long_parent : length t.parent ≡ 16
+  pub long_dim : length t.dim ≡ 16
+  pub long_reached : length t.reached ≡ 16
+  pub roots_is : t.roots ≡ roots_of second
+  pub some : roots_of second ≤ t.size
+  pub total : t.size ≤ count_below 16 (λ s. get_or t.reached s false)
+  pub roots : Roots t.node t.dim second
+  pub branch : (k : ℕ) → roots_of second ≤ k → k < t.size → Branch J t.node t.parent t.dim k
+  pub marked : (k : ℕ) → k < t.size → get_or t.reached (get_or t.node k 0) false ≡ true
+  pub found : (s : ℕ) → get_or t.reached s false ≡ true → (k : ℕ) × (k < t.size) × (get_or t.node k 0 ≡ s)
+  pub once : (j k : ℕ) → j < t.size → k < t.size → get_or t.node j 0 ≡ get_or t.node k 0 → j ≡ k
+
+-- the trees with one more entry, the node y, which an arc of dimension i joins to its parent x
+abbrev pub with_entry : ℕ → ℕ → ℕ → Tree → Tree
+with_entry i x y t = record t {
+  size = t.size + 1;
+  node = set t.node t.size y;
+  parent = set t.parent t.size x;
+  dim = set t.dim t.size i;
+  reached = set t.reached y true;
+}
 
 -- trees over targets that have reached node s
-pub record Reaching (targets : List ℕ) (second : ℕ) (node parent dim : List ℕ) (reached : List Bool) (size s : ℕ) : Type 0 where
-  pub tree : TreeBy (ByTarget targets) second node parent dim reached size
-  pub at : get_or reached s false ≡ true
+pub record Reaching (targets : List ℕ) (second : ℕ) (t : Tree) (s : ℕ) : Type 0 where
+  pub tree : TreeBy (ByTarget targets) second t
+  pub at : get_or t.reached s false ≡ true
 
 -- trees from the hooks in which one of the first c arcs joins an entry to its parent
-abbrev pub Spans : List ℕ → ℕ → ℕ → List ℕ → List ℕ → List ℕ → List Bool → ℕ → Type 0
+abbrev pub Spans : List ℕ → ℕ → ℕ → Tree → Type 0
 Spans arcs c = TreeBy (ByArc (part_of arcs) c)
 
 -- a target that is a node is the far end of one of the first c arcs
@@ -80,25 +91,21 @@ abbrev pub Even : List ℕ → List Bool → ℕ → Type 0
 Even arcs reached a = get_or reached (part_of arcs a 1) false ≡ get_or reached (part_of arcs a 2) false
 
 -- after arc a was looked at: if there is no new entry, nothing changed, and the arc does not lead out of the trees
-pub record TreeJoined (arcs : List ℕ) (c a second : ℕ) (node parent dim : List ℕ) (reached₀ reached : List Bool) (size₀ size : ℕ) : Type 0 where
-  pub spans : Spans arcs c second node parent dim reached size
-  pub longer : size₀ ≤ size
-  pub even : size ≡ size₀ → (reached ≡ reached₀) × Even arcs reached a
+pub record TreeJoined (arcs : List ℕ) (c a second : ℕ) (t₀ t : Tree) : Type 0 where
+  pub spans : Spans arcs c second t
+  pub longer : t₀.size ≤ t.size
+  pub even : t.size ≡ t₀.size → (t.reached ≡ t₀.reached) × Even arcs t.reached a
 
 -- after the first k arcs were looked at: if there is no new entry, none of them leads out of the trees
-pub record TreeGrown (arcs : List ℕ) (c k second : ℕ) (node parent dim : List ℕ) (reached : List Bool) (size₀ size : ℕ) : Type 0 where
-  pub spans : Spans arcs c second node parent dim reached size
-  pub longer : size₀ ≤ size
-  pub even : size ≡ size₀ → (a : ℕ) → a < k → Even arcs reached a
+pub record TreeGrown (arcs : List ℕ) (c k second size₀ : ℕ) (t : Tree) : Type 0 where
+  pub spans : Spans arcs c second t
+  pub longer : size₀ ≤ t.size
+  pub even : t.size ≡ size₀ → (a : ℕ) → a < k → Even arcs t.reached a
 
 -- trees of the first c arcs, and none of these arcs leads out of them
-pub record Closed (arcs : List ℕ) (c second : ℕ) (node parent dim : List ℕ) (reached : List Bool) (size : ℕ) : Type 0 where
-  pub spans : Spans arcs c second node parent dim reached size
-  pub even : (a : ℕ) → a < c → Even arcs reached a
-
--- the same, of the trees as one value
-abbrev pub Spanning : List ℕ → ℕ → ℕ → Tree → Type 0
-Spanning arcs c second t = Closed arcs c second t.node t.parent t.dim t.reached t.size
+pub record Spanning (arcs : List ℕ) (c second : ℕ) (t : Tree) : Type 0 where
+  pub spans : Spans arcs c second t
+  pub even : (a : ℕ) → a < c → Even arcs t.reached a
 
 -- The trees of a scheme's left arcs. Their entries are the nodes to which a path leads, each once. The hooks come first, and every parent before its
 -- branches.

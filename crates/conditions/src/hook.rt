@@ -2,47 +2,24 @@
 ghost use Rattle.std.specs.Prelude.{◌≡◌, ◌<◌, ◌≤◌};
 ghost use Rattle.base.specs.First.{least};
 ghost use Rattle.conditions.specs.Hook.{hooked_by, left_out};
-ghost use Rattle.incidence.specs.Incidence.{found_of};
 
-use incidence::Found;
+use model::Scheme;
 
 // Whether node h is as a hook must be: not added, with the orbit type as its left word.
-pub fn hooked<'a>(
-    places: usize,
-    orbit: &'a [u8; 4],
-    kinds: &'a [u8; 16],
-    words: &'a [u8; 64],
-    h: usize,
-) -> bool
-    requires { (places ≤ 4) × (h < 16) }
-    ensures { result ≡ hooked_by places orbit.now kinds.now words.now h }
+#[tactic(auto, unfolding(crate::specs::Hook::hooked_by))]
+pub fn hooked(scheme: &Scheme, h: usize) -> bool
+    requires { (scheme.now.places ≤ 4) × (h < 16) }
+    ensures { result ≡ hooked_by scheme.now.places scheme.now.orbit scheme.now.kinds
+        scheme.now.lwords h }
 {
-    if kinds[h] == 3 {
-        return false;
-    }
-    let mut p = 0;
-    while p < places {
-        if words[4 * h + p] != orbit[p] {
-            return false;
-        }
-        p += 1;
-    }
-    true
+    let added = scheme.kinds[h] == 3;
+    !added && (0..usize::from(scheme.places)).all(|p| scheme.lwords[4 * h + p] == scheme.orbit[p])
 }
 
 // The least left node that is not reached, if there is one.
-pub fn unreached<'a>(nodes: usize, kinds: &'a [u8; 16], reached: &'a [bool; 16]) -> Found
-    requires { nodes ≤ 16 }
-    ensures { result ≡ found_of (least nodes (left_out kinds.now reached.now)) }
+pub fn unreached(scheme: &Scheme, reached: &[bool; 16]) -> Option<u32>
+    requires { scheme.now.nodes ≤ 16 }
+    ensures { result ≡ least scheme.now.nodes (left_out scheme.now.kinds reached.now) }
 {
-    let mut s = 0;
-    while s < nodes {
-        if kinds[s] != 3 {
-            if !reached[s] {
-                return Found::Node(s as u32);
-            }
-        }
-        s += 1;
-    }
-    Found::Nothing
+    (0..u32::from(scheme.nodes)).find(|&s| scheme.kinds[s as usize] != 3 && !reached[s as usize])
 }

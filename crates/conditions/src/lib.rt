@@ -5,120 +5,71 @@ pub mod arcs;
 pub mod hook;
 pub mod tree;
 
-ghost use Rattle.std.specs.Prelude.{◌≡◌, ◌<◌, ◌≤◌};
+ghost use Rattle.std.specs.Prelude.{◌≡◌, length, IfOk, IfErr};
+ghost use Rattle.model.specs.Scheme.{left, right};
+ghost use Rattle.model.specs.Conditions.{scheme_fault};
+ghost use Rattle.model.specs.Twice.{twice_of};
+ghost use Rattle.model.specs.Shaped.{Shaped};
 ghost use Rattle.conditions.specs.Hook.{hook_by};
-ghost use Rattle.incidence.specs.Cycles.{Coding};
-ghost use Rattle.conditions.specs.Verdict.{fault_by, Judging, VerdictOf};
+ghost use Rattle.conditions.specs.Tree.{TreeOf};
+ghost use Rattle.conditions.specs.Verdict.{fault_by};
 
-use arcs::wide;
 use hook::hooked;
-use incidence::{Found, arcs_fault};
-use model::{Fault, Refusal};
+use incidence::arcs_fault;
+use model::{Refusal, Scheme};
 use tree::{Tree, reach_of};
 
 // The node that breaks the condition of hooks, if there is one: node 0, else the second hook, else `out`, the least left node that no hook reaches.
 #[tactic(auto, unfolding(crate::specs::Hook::hook_by))]
-fn hook_fault<'a>(
-    places: usize,
-    orbit: &'a [u8; 4],
-    kinds: &'a [u8; 16],
-    words: &'a [u8; 64],
-    second: usize,
-    out: Found,
-) -> Found
-    requires { (places ≤ 4) × (second < 16) }
-    ensures { result ≡ hook_by places orbit.now kinds.now words.now second out }
+fn hook_fault(scheme: &Scheme, out: Option<u32>) -> Option<u32>
+    requires { Shaped scheme.now }
+    ensures { result ≡ hook_by scheme.now.places scheme.now.orbit scheme.now.kinds
+        scheme.now.lwords scheme.now.second out }
 {
-    if !hooked(places, orbit, kinds, words, 0) {
-        return Found::Node(0);
+    if !hooked(scheme, 0) {
+        return Some(0);
     }
-    if second != 0 {
-        if !hooked(places, orbit, kinds, words, second) {
-            return Found::Node(second as u32);
-        }
+    let second = usize::from(scheme.second);
+    if second != 0 && !hooked(scheme, second) {
+        return Some(second as u32);
     }
     out
 }
 
 // The first of refusals 3, 4 and 5 that applies. `out` is the least left node that no hook reaches, if there is one; it has been found already, while
 // the trees were grown.
-#[tactic(auto, unfolding(crate::specs::Verdict::fault_by))]
-fn fault<'a>(
-    n: u8,
-    places: usize,
-    nodes: usize,
-    orbit: &'a [u8; 4],
-    kinds: &'a [u8; 16],
-    words: &'a [u8; 64],
-    second: usize,
-    out: Found,
-    lefts: &'a [u8; 64],
-    rights: &'a [u8; 64],
-    ltwice: &'a [bool; 16],
-    rtwice: &'a [bool; 16],
-) -> Fault
-    requires le_n { (2 ≤ n) × (n ≤ 3) × (places ≤ 4) × (nodes ≤ 16) × (second < 16) }
-    requires coding { Coding nodes lefts.now × Coding nodes rights.now }
-    ensures { result ≡ fault_by n places nodes orbit.now kinds.now words.now second out
-        lefts.now rights.now ltwice.now rtwice.now }
+fn fault(
+    scheme: &Scheme,
+    out: Option<u32>,
+    left_twice: &[bool; 16],
+    right_twice: &[bool; 16],
+) -> Result<(), Refusal>
+    requires { Shaped scheme.now }
+    ensures { result ≡ fault_by scheme.now.n scheme.now.places scheme.now.nodes scheme.now.orbit
+        scheme.now.kinds scheme.now.lwords scheme.now.second out scheme.now.ltargets
+        scheme.now.rtargets left_twice.now right_twice.now }
 {
-    let hook = hook_fault(places, orbit, kinds, words, second, out);
-    if let Found::Node(x) = hook {
-        return Fault::Given(Refusal::BadHook(x));
+    if let Some(node) = hook_fault(scheme, out) {
+        return Err(Refusal::BadHook(node));
     }
-    arcs_fault(n, nodes, orbit, kinds, lefts, rights, ltwice, rtwice)
+    arcs_fault(scheme, left_twice, right_twice)
 }
 
-// What is known of a scheme: the first of refusals 3, 4 and 5 that applies, if one does, and the trees of its left arcs.
-#[derive(Clone, Copy)]
-pub struct Verdict {
-    pub fault: Fault,
-    pub tree: Tree,
-}
-
-// Judges a scheme. It is lent in its parts, since it is long to copy; `ltwice` and `rtwice` say which nodes have two arcs of a dimension.
-pub fn judge<'a>(
-    n: u8,
-    places: u8,
-    nodes: u8,
-    second: u8,
-    orbit: &'a [u8; 4],
-    kinds: &'a [u8; 16],
-    lwords: &'a [u8; 64],
-    ltargets: &'a [u8; 64],
-    rtargets: &'a [u8; 64],
-    lcount: u8,
-    larcs: &'a [u8; 192],
-    ltwice: &'a [bool; 16],
-    rtwice: &'a [bool; 16],
-) -> Verdict
-    requires { Judging n places nodes second orbit.now kinds.now lwords.now ltargets.now rtargets.now lcount larcs.now
-        ltwice.now rtwice.now }
-    ensures { (J : Judging n places nodes second orbit.now kinds.now lwords.now ltargets.now
-        rtargets.now lcount larcs.now ltwice.now rtwice.now)
-        → VerdictOf J.scheme result }
+// The trees of a scheme's left arcs, or the first of refusals 3, 4 and 5 that applies to it. `left_twice` and `right_twice` say which nodes have two
+// arcs of a dimension on a side.
+pub fn judge(
+    scheme: &Scheme,
+    left_twice: &[bool; 16],
+    right_twice: &[bool; 16],
+) -> Result<Tree, Refusal>
+    requires shaped { Shaped scheme.now }
+    requires words_len { length scheme.now.lwords ≡ 64 }
+    requires left_twice_value { left_twice.now ≡ twice_of scheme.now left }
+    requires right_twice_value { right_twice.now ≡ twice_of scheme.now right }
+    ensures accepted { IfOk result (λ tree. (scheme_fault scheme.now ≡ None) × TreeOf scheme.now tree) }
+    ensures refused { IfErr result (λ f. scheme_fault scheme.now ≡ Some f) }
 {
-    let c = wide(nodes);
-    let h = wide(second);
-    let reach = reach_of(c, h, kinds, ltargets, wide(lcount), larcs);
-    let out = reach.out;
-    let found = fault(
-        n,
-        wide(places),
-        c,
-        orbit,
-        kinds,
-        lwords,
-        h,
-        out,
-        ltargets,
-        rtargets,
-        ltwice,
-        rtwice,
-    );
-    let tree = reach.tree;
-    Verdict {
-        fault: found,
-        tree: tree,
-    }
+    let (tree, out) = reach_of(scheme);
+    fault(scheme, out, left_twice, right_twice)?;
+    Ok(tree)
 }

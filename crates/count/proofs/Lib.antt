@@ -1,3 +1,3 @@
 pub mod FreshLaws
-pub mod WalksLaws
+pub mod OrbitsLaws
 pub mod CellKindLaws

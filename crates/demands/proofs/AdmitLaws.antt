@@ -3,7 +3,7 @@ use Prim.Native.Nat.{ℕ, ◌*◌, ◌≤◌, ◌<◌}
 use mathlib.Core.Path.{◌≡◌, refl, sym, ap, ◌∙◌, subst}
 use mathlib.Core.Logic.{◌⊎◌, inl, inr, ⊎_elim}
 use mathlib.Core.Bool.{Bool, true, false, not, true≢false}
-use mathlib.Core.Option.{Option, none}
+use Rattle.std.specs.Prelude.{Option, None, Ok, Err}
 use mathlib.Core.List.{List}
 use native.Mathlib.Omega.{arith}
 use lib.ListN.{length}
@@ -25,8 +25,7 @@ use Rattle.model.specs.Calls.{bytes_fault, first_dart, second_dart, takes, is_da
 use Rattle.model.specs.Calls.{edit_fault_at, edit_fault, edit_answer, edit_table}
 use Rattle.model.specs.Sequence.{edit, Lent, Outcome, outcome_of}
 use Rattle.model.specs.declared.Darts.{Darts}
-use Rattle.model.specs.declared.Answer.{Answer}
-use Rattle.model.specs.declared.Answer.TheVariants.{Refused}
+use Rattle.model.specs.declared.Reply.{Reply}
 use Rattle.model.specs.declared.Refusal.{Refusal}
 use Rattle.model.specs.declared.Refusal.TheVariants.{NoMatch, NoRoom}
 use Rattle.model.proofs.AnswerLaws.{answered-free}
@@ -45,10 +44,10 @@ use Rattle.demands.proofs.FaultLaws.{many_iff, taken_iff, darts_iff, orbit_of, s
 use Rattle.demands.proofs.RefusalLaws.{within_test, bytes-within, past}
 
 -- refusal 9 comes before 10
-missed : (s r : Bool) (done : Answer) → (s ≡ true → ⊥) → answered done (some_if (not s) NoMatch or_else some_if r NoRoom) ≡ Refused NoMatch
+missed : (s r : Bool) (reply : Reply) → (s ≡ true → ⊥) → answered reply (some_if (not s) NoMatch or_else some_if r NoRoom) ≡ Err NoMatch
 unfolding some_if ◌or_else◌
-missed true r done f = absurd (f refl)
-missed false r done f = refl
+missed true r reply f = absurd (f refl)
+missed false r reply f = refl
 
 module _ (n N : ℕ) (t b : List ℕ) (d : Darts) (l : Lent) where
   abbrev E : Site
@@ -70,24 +69,24 @@ module _ (n N : ℕ) (t b : List ℕ) (d : Darts) (l : Lent) where
   )
 
   -- an answer that no refusal from 1 to 8 has says that none of them applies
-  module _ (k : ℕ) (far : (k ≡ 0) ⊎ (8 < k)) (done : Answer) where
+  module _ (k : ℕ) (far : (k ≡ 0) ⊎ (8 < k)) (reply : Reply) where
     beside : (j : ℕ) → 1 ≤ j → j ≤ 8 → (k < j) ⊎ (j < k)
     beside j g h = ⊎_elim (λ e. inl (omega arith)) (λ l. inr (omega arith)) far
 
     -- one test of the chain
     by_test : (s : Bool) (a : Refusal) (o : Option Refusal) → 1 ≤ refusal_number a → refusal_number a ≤ 8
-        → number (answered done (some_if (not s) a or_else o)) ≡ k → (s ≡ true) × (number (answered done o) ≡ k)
+        → number (answered reply (some_if (not s) a or_else o)) ≡ k → (s ≡ true) × (number (answered reply o) ≡ k)
     by_test s a o g h e =
         let within = within_test (refusal_number a) (refusal_number a) (not s) a (omega arith) (omega arith) in
-        let p = past k (some_if (not s) a) o done within (beside (refusal_number a) g h) e in
+        let p = past k (some_if (not s) a) o reply within (beside (refusal_number a) g h) e in
         (passed s a p.0, p.1)
 
-    admitted-by : number (answered done (edit_fault n N t store b d)) ≡ k
-        → Admitted n N t store b d × (number (answered done (fit_fault E)) ≡ k)
+    admitted-by : number (answered reply (edit_fault n N t store b d)) ≡ k
+        → Admitted n N t store b d × (number (answered reply (fit_fault E)) ≡ k)
     unfolding edit_fault edit_fault_at site_fault bytes_fault
     admitted-by e =
         let p1 = by_test (stored_ok n N t store) _ _ (omega arith) (omega arith) e in
-        let p2 = past k (bytes_fault (takes d b) b) _ done (bytes-within (takes d b) b)
+        let p2 = past k (bytes_fault (takes d b) b) _ reply (bytes-within (takes d b) b)
         (⊎_elim (λ z. inl (omega arith)) (λ l. inr (omega arith)) far) p1.1 in
         let bytes = or_else_none _ _ p2.0 in
         let taken = (taken_iff d b).0 (passed _ _ bytes.0) in
@@ -130,23 +129,23 @@ module _ (n N : ℕ) (t b : List ℕ) (d : Darts) (l : Lent) where
     one-site = site-one N t b d sound
 
     -- no match is refusal 9
-    pub no_match_lem : (Matched N t b d → ⊥) → edit_answer n N t store b d ≡ Refused NoMatch
+    pub no_match_lem : (Matched N t b d → ⊥) → edit_answer n N t store b d ≡ Err NoMatch
     unfolding edit_answer fit_fault
     no_match_lem never = rw (admitted-fault a) (missed (matches E) _ _ (λ m. never (is-matched m)))
 
   -- and refusal 9 is no match
-  pub nine_is : edit_answer n N t store b d ≡ Refused NoMatch → Admitted n N t store b d × (Matched N t b d → ⊥)
+  pub nine_is : edit_answer n N t store b d ≡ Err NoMatch → Admitted n N t store b d × (Matched N t b d → ⊥)
   unfolding edit_answer fit_fault site_done some_if ◌or_else◌
   nine_is e =
       let p = admitted-by 9 (inr (omega arith)) _ (ap number e) in (
         p.0,
-        λ m. fits (ltb (room_of E) (added_darts E)) _ _ (matched-is p.0 m) refl p.1,
+        λ m. fits (ltb (room_of E) (added_darts E)) _ _ (matched-is p.0 m) p.1,
       )
     where
-      fits : (r s : Bool) (done : Answer) → s ≡ true → number done ≡ 0 → number (answered done (some_if (not s) NoMatch or_else some_if r NoRoom)) ≡ 9 → ⊥
-      fits true true done m z e = omega arith
-      fits false true done m z e = omega arith
-      fits r false done m z e = true≢false (sym m)
+      fits : (r s : Bool) (reply : Reply) → s ≡ true → number (answered reply (some_if (not s) NoMatch or_else some_if r NoRoom)) ≡ 9 → ⊥
+      fits true true reply m e = omega arith
+      fits false true reply m e = omega arith
+      fits r false reply m e = true≢false (sym m)
 
   -- ---- an edit that is done
 
@@ -154,7 +153,7 @@ module _ (n N : ℕ) (t b : List ℕ) (d : Darts) (l : Lent) where
   abbrev Roomy : Site → Type 0
   Roomy F = added_darts F ≤ room_of F
 
-  pub applicable_free : Applicable n N t store b d → edit_fault n N t store b d ≡ none
+  pub applicable_free : Applicable n N t store b d → edit_fault n N t store b d ≡ None
   unfolding fit_fault some_if ◌or_else◌
   applicable_free a = admitted-fault a.admitted ∙ rw (
     matched-is a.admitted a.match,
@@ -179,7 +178,7 @@ module _ (n N : ℕ) (t b : List ℕ) (d : Darts) (l : Lent) where
     at : Ready E
     at = ready n N t store b d (applicable_free a)
 
-    done-answer : edit_answer n N t store b d ≡ site_done E
+    done-answer : edit_answer n N t store b d ≡ Ok (site_done E)
     unfolding edit_answer
     done-answer = ap (λ (o : Option Refusal). answered (site_done E) o) (applicable_free a)
 

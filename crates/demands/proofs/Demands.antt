@@ -3,7 +3,7 @@ use Prim.Native.Nat.{ℕ, ◌≤◌, ◌<◌}
 use mathlib.Core.Path.{◌≡◌, refl, sym, ap, ◌∙◌, subst}
 use mathlib.Core.Logic.{◌↔◌}
 use mathlib.Core.Bool.{true}
-use mathlib.Core.Option.{Option, none}
+use Rattle.std.specs.Prelude.{Option, None}
 use mathlib.Core.List.{List}
 use lib.ListN.{length, get_or}
 use Rattle.base.specs.First.{some_if, ◌or_else◌, there}
@@ -17,7 +17,7 @@ use Rattle.model.specs.Calls.{check_table, bytes_fault, check_scheme, count_faul
 use Rattle.model.specs.Sequence.{Request, table_check, scheme_check, edit, count, load, write, Lent, Outcome, outcome_of, Event, known_of, AlikeEvents}
 use Rattle.model.specs.Sequence.{AlikeTables, written}
 use Rattle.model.specs.declared.Refusal.{Refusal}
-use Rattle.model.specs.declared.Answer.TheVariants.{Done}
+use Rattle.model.specs.declared.Reply.TheVariants.{Done}
 use Rattle.model.proofs.AnswerLaws.{answered-free}
 use Rattle.model.proofs.WellFormedLaws.{well_formed_iff}
 use Rattle.model.proofs.SchemeLaws.{shaped}
@@ -80,7 +80,7 @@ demand1 = record {
 -- ---- demand 2
 
 module _ (b : List ℕ) where
-  scheme-free : (in_form b ≡ true) × Consistent (scheme_of b) → bytes_fault (in_form b) b ≡ none
+  scheme-free : (in_form b ≡ true) × Consistent (scheme_of b) → bytes_fault (in_form b) b ≡ None
   unfolding bytes_fault some_if ◌or_else◌
   scheme-free p = rw (p.0, (consistent_iff (scheme_of b) (shaped b p.0)).1 p.1) refl
 

@@ -3,7 +3,7 @@ use Prim.Native.Nat.{ℕ, suc, ◌+◌, ◌≤◌, ◌<◌}
 use mathlib.Core.Path.{◌≡◌, refl, sym, ap, ◌∙◌, subst}
 use mathlib.Core.Logic.{inl, inr, ⊎_elim, ◌↔◌}
 use mathlib.Core.Bool.{Bool, true, false, not, true≢false}
-use mathlib.Core.Option.{Option, none, some}
+use Rattle.std.specs.Prelude.{Option, Some, None}
 use mathlib.Core.List.{List}
 use native.Mathlib.Omega.{arith}
 use lib.Dec.{leb}
@@ -74,7 +74,7 @@ darts_iff N t d = (
 -- ---- the least node that has a property
 
 module _ (c : ℕ) (p : ℕ → Bool) (P : ℕ → Type 0) (is : (s : ℕ) → s < c → (p s ≡ true) ↔ P s) where
-  pub least-found : (s : ℕ) → least c p ≡ some s → LeastNode c P s
+  pub least-found : (s : ℕ) → least c p ≡ Some s → LeastNode c P s
   least-found s e =
       let l = least_at c p s e in
       record {
@@ -83,7 +83,7 @@ module _ (c : ℕ) (p : ℕ → Bool) (P : ℕ → Type 0) (is : (s : ℕ) → s
         least = λ o h q. true≢false (sym ((is o (omega (arith, l.0))).1 q) ∙ l.2 o h);
       }
 
-  pub least-nowhere : least c p ≡ none → (s : ℕ) → LeastNode c P s → ⊥
+  pub least-nowhere : least c p ≡ None → (s : ℕ) → LeastNode c P s → ⊥
   least-nowhere e s l = true≢false (sym ((is s l.below).1 l.has) ∙ least-none c p e s l.below)
 
 -- ---- hook
@@ -101,7 +101,7 @@ module _ (S : Scheme) (f : Shaped S) where
     (λ u. and_of u.on_left (ap not (impossible _ (λ t. u.cut (found-reached S f s h t))))),
   )
 
-  pub hook-found : (s : ℕ) → hook_fault S ≡ some s → HookFault S s
+  pub hook-found : (s : ℕ) → hook_fault S ≡ Some s → HookFault S s
   unfolding hook_fault
   hook-found s e = ⊎_elim
       (λ w. inl (least-found S.nodes _ (WrongHook S) wrong_iff s w))
@@ -111,7 +111,7 @@ module _ (S : Scheme) (f : Shaped S) where
       ))
       (or_else_cases _ _ s e)
 
-  pub hook-nowhere : hook_fault S ≡ none → (s : ℕ) → HookFault S s → ⊥
+  pub hook-nowhere : hook_fault S ≡ None → (s : ℕ) → HookFault S s → ⊥
   unfolding hook_fault
   hook-nowhere e s h =
       let w = or_else_none _ _ e in
@@ -121,11 +121,11 @@ module _ (S : Scheme) (f : Shaped S) where
 -- ---- incidence
 
 module _ (S : Scheme) where
-  pub incidence-found : (s : ℕ) → incidence_fault S ≡ some s → LeastNode S.nodes (λ u. Incident S u → ⊥) s
+  pub incidence-found : (s : ℕ) → incidence_fault S ≡ Some s → LeastNode S.nodes (λ u. Incident S u → ⊥) s
   unfolding incidence_fault
   incidence-found = least-found S.nodes _ _ (λ s h. not_iff (incidence_ok S s) (incident_iff S s))
 
-  pub incidence-nowhere : incidence_fault S ≡ none → (s : ℕ) → LeastNode S.nodes (λ u. Incident S u → ⊥) s → ⊥
+  pub incidence-nowhere : incidence_fault S ≡ None → (s : ℕ) → LeastNode S.nodes (λ u. Incident S u → ⊥) s → ⊥
   unfolding incidence_fault
   incidence-nowhere = least-nowhere S.nodes _ _ (λ s h. not_iff (incidence_ok S s) (incident_iff S s))
 
@@ -141,17 +141,17 @@ module _ (S : Scheme) where
   at_pair_lem : ℕ → ℕ → ℕ → Option Refusal
   at_pair_lem s i j = some_if (leb (i + 2) j and not (cycle_ok S s i j)) (BadCycle s i j)
 
-  no_pair_lem : (s i j : ℕ) → at_pair_lem s i j ≡ none → Offends S s i j → ⊥
+  no_pair_lem : (s i j : ℕ) → at_pair_lem s i j ≡ None → Offends S s i j → ⊥
   unfolding at_pair_lem
   no_pair_lem s i j e o = true≢false (sym ((offends_iff s i j (omega (arith, o.within))).1 o) ∙ when-none _ _ e)
 
-  no_row : (s i : ℕ) → first (suc S.n) (at_pair_lem s i) ≡ none → (j : ℕ) → Offends S s i j → ⊥
+  no_row : (s i : ℕ) → first (suc S.n) (at_pair_lem s i) ≡ None → (j : ℕ) → Offends S s i j → ⊥
   no_row s i e j o = no_pair_lem s i j (first-none _ _ e j (omega (arith, o.within))) o
 
-  no_node : (s : ℕ) → first (suc S.n) (λ i. first (suc S.n) (at_pair_lem s i)) ≡ none → (i j : ℕ) → Offends S s i j → ⊥
+  no_node : (s : ℕ) → first (suc S.n) (λ i. first (suc S.n) (at_pair_lem s i)) ≡ None → (i j : ℕ) → Offends S s i j → ⊥
   no_node s e i j o = no_row s i (first-none _ _ e i (omega (arith, o.within, o.apart))) j o
 
-  pub cycle_found : (a : Refusal) → cycle_fault S ≡ some a → (s i j : ℕ) × FirstPair S s i j × (a ≡ BadCycle s i j)
+  pub cycle_found : (a : Refusal) → cycle_fault S ≡ Some a → (s i j : ℕ) × FirstPair S s i j × (a ≡ BadCycle s i j)
   unfolding cycle_fault at_pair_lem
   cycle_found a e =
       let node = first-at S.nodes _ a e in
@@ -176,13 +176,13 @@ module _ (S : Scheme) where
         sym w.1,
       )
     where
-      after : (s i j k l : ℕ) → i ≡ k → Offends S s k l → ((o : ℕ) → o < j → at_pair_lem s i o ≡ none) → (i ≡ k) × (j ≤ l)
+      after : (s i j k l : ℕ) → i ≡ k → Offends S s k l → ((o : ℕ) → o < j → at_pair_lem s i o ≡ None) → (i ≡ k) × (j ≤ l)
       after s i j k l e o none_before = (
         e,
         ⊎_elim (λ ge. ge) (λ less. absurd (no_pair_lem s i l (none_before l less) (subst (λ (z : ℕ). Offends S s z l) (sym e) o))) (le_or_lt j l),
       )
 
-  pub cycle_nowhere : cycle_fault S ≡ none → (s i j : ℕ) → FirstPair S s i j → ⊥
+  pub cycle_nowhere : cycle_fault S ≡ None → (s i j : ℕ) → FirstPair S s i j → ⊥
   unfolding cycle_fault at_pair_lem
   cycle_nowhere e s i j p = no_node s (first-none _ _ e s p.node.below) i j p.offends
 

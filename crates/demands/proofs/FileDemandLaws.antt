@@ -3,7 +3,7 @@ use Prim.Native.Nat.{ℕ, ◌≤◌, ◌<◌}
 use mathlib.Core.Path.{◌≡◌, refl, sym, ap, ◌∙◌, subst}
 use mathlib.Core.Logic.{⊎_elim, inl, inr}
 use mathlib.Core.Bool.{true, cond}
-use mathlib.Core.Option.{none}
+use Rattle.std.specs.Prelude.{None, Ok}
 use mathlib.Core.List.{List, ◌++◌}
 use native.Mathlib.Omega.{arith}
 use lib.ListN.{length, get_or, drop}
@@ -19,7 +19,7 @@ use Rattle.model.specs.Answer.{number}
 use Rattle.model.specs.Calls.{sizes_ok, table_fault, check_table, load_fault_at, load_fault, load_answer, load_table, output_fault_at}
 use Rattle.model.specs.Calls.{write_fault, write_answer, write_out}
 use Rattle.model.specs.Sequence.{Holds, AlikeTables, write, Lent, outcome_of, written}
-use Rattle.model.specs.declared.Answer.TheVariants.{Written}
+use Rattle.model.specs.declared.Reply.TheVariants.{Written}
 use Rattle.model.proofs.MapLaws.{field_at_lem, field_none, field_words, length-words}
 use Rattle.model.proofs.AnswerLaws.{answered-free}
 use Rattle.model.proofs.SizeLaws.{sizes_iff}
@@ -119,24 +119,25 @@ module _ (n N : ℕ) (t : List ℕ) (l : Lent) where
   abbrev out : List ℕ
   out = l.output
 
-  pub write-holds : write_fault n N t out ≡ none → Holds n N t × (length (file n (view N t)) ≤ length out)
+  pub write-holds : write_fault n N t out ≡ None → Holds n N t × (length (file n (view N t)) ≤ length out)
   unfolding write_fault
   write-holds q =
       let p = output-passed _ n (view N t) _ out q in
       (record { sizes = p.0; well = (well_formed_iff n (view N t)).0 p.1 }, p.2)
 
-  write-free : Holds n N t → length (file n (view N t)) ≤ length out → write_fault n N t out ≡ none
+  write-free : Holds n N t → length (file n (view N t)) ≤ length out → write_fault n N t out ≡ None
   unfolding write_fault output_fault_at table_fault ◌or_else◌ some_if
   write-free h room = rw (holds-free n N t h, le-ltb (length out) (length (file n (view N t))) room) refl
 
   -- a well-formed map with room for its file is written
   pub write_done : Holds n N t → length (file n (view N t)) ≤ length out
-      → (write_answer n N t out ≡ Written (length (file n (view N t)))) × (write_out n N t out ≡ file n (view N t) ++ drop (length (file n (view N t))) out)
+      → (write_answer n N t out ≡ Ok (Written (length (file n (view N t)))))
+      × (write_out n N t out ≡ file n (view N t) ++ drop (length (file n (view N t))) out)
   unfolding write_answer write_out there
   write_done h room = let free = write-free h room in (rw free refl, rw free refl)
 
   -- what has been written is the file
-  write-leaves : write_fault n N t out ≡ none → written write (outcome_of n N t write l) ≡ file n (view N t)
+  write-leaves : write_fault n N t out ≡ None → written write (outcome_of n N t write l) ≡ file n (view N t)
   unfolding there
   write-leaves free = write-written n N t l ∙ cond-false _ _ _ (ap there free)
 
@@ -146,7 +147,7 @@ pub written-loaded : (n N : ℕ) (t : List ℕ) (l : Lent) → number (write_ans
     (number (load_answer n N u b) ≡ 0) × (number (check_table n N (load_table n N u b)) ≡ 0) × AlikeTables n N t (load_table n N u b)
 unfolding write_answer file_map
 written-loaded n N t l e small u len =
-    let free : write_fault n N t l.output ≡ none = answered-free _ _ e in
+    let free : write_fault n N t l.output ≡ None = answered-free _ _ e in
     let h = (write-holds n N t l free).0 in
     let loads = load-free n N t h small u (sizes_too n N t h.sizes u len) in
     let table : load_table n N u (file n (view N t)) ≡ table_of (file_map n N (file n (view N t))) = (load-done n N u (file n (view N t)) loads).2 in

@@ -3,7 +3,7 @@ use Prim.Native.Nat.{ℕ}
 use mathlib.Core.Path.{◌≡◌, sym, ◌∙◌}
 use mathlib.Core.List.{List}
 use Rattle.model.specs.Sequence.{Request, Lent, Outcome}
-use Rattle.model.specs.declared.Answer.{Answer}
+use Rattle.model.specs.Answer.{Answer}
 use Rattle.demands.specs.Promises.{Promised, outcome_with}
 
 pub one-outcome : (n N : ℕ) (t : List ℕ) (q : Request) (l : Lent) (o p : Outcome) → Promised n N t q l o → Promised n N t q l p → o ≡ p

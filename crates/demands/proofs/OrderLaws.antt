@@ -3,7 +3,7 @@ use Prim.Native.Nat.{ℕ, ◌+◌, ◌≤◌, ◌<◌}
 use mathlib.Core.Path.{◌≡◌, refl, sym, ap, ◌∙◌, subst}
 use mathlib.Core.Logic.{inl, inr, ◌↔◌}
 use mathlib.Core.Bool.{Bool, true, false, not, true≢false}
-use mathlib.Core.Option.{Option, none, some}
+use Rattle.std.specs.Prelude.{Option, Some, None, Ok}
 use mathlib.Core.List.{List, [], ◌∷◌}
 use lib.ListN.{length}
 use lib.Dec.{eqb, ltb}
@@ -21,15 +21,15 @@ use Rattle.model.specs.Accepted.{Accepted}
 use Rattle.model.specs.Conditions.{hook_fault, incidence_fault, cycle_fault, scheme_fault, noted}
 use Rattle.model.specs.Edit.{added_darts, room_of}
 use Rattle.model.specs.File.{file, file_form}
-use Rattle.model.specs.Answer.{answered}
+use Rattle.model.specs.Answer.{Answer, answered}
 use Rattle.model.specs.Site.{Site, Sound}
 use Rattle.model.specs.Calls.{sizes_ok, map_fault, table_fault, check_table, bytes_fault, check_scheme, takes, fit_fault, site_fault, site_done}
 use Rattle.model.specs.Calls.{site_of, stored_ok, edit_fault_at, edit_fault, edit_answer, output_fault_at, count_size, count_fault, count_answer}
 use Rattle.model.specs.Calls.{load_fault_at, load_fault, load_answer, write_fault, write_answer}
 use Rattle.model.specs.Sequence.{table_check, scheme_check, edit, count, load, write, Lent}
 use Rattle.model.specs.declared.Darts.{Darts}
-use Rattle.model.specs.declared.Answer.{Answer}
-use Rattle.model.specs.declared.Answer.TheVariants.{Done}
+use Rattle.model.specs.declared.Reply.{Reply}
+use Rattle.model.specs.declared.Reply.TheVariants.{Done}
 use Rattle.model.specs.declared.Refusal.{Refusal}
 use Rattle.model.specs.declared.Refusal.TheVariants.{BadCall, BadForm, BadHook, BadIncidence, OtherDimension, BadTable, NoDart, NoMatch, NoRoom}
 use Rattle.model.specs.declared.Refusal.TheVariants.{BadFile, ShortOutput}
@@ -49,32 +49,32 @@ use Rattle.demands.proofs.RefusalLaws.{regroup}
 
 -- c gives the refusal of the rule r where it applies, and o is what comes of the rest
 module _ (r : Rule) (l : List Rule) (D : Answer → Type 0) where
-  order-step : (c o : Option Refusal) (done : Answer) → ((f : Refusal) → c ≡ some f → r f) → (c ≡ none → (f : Refusal) → r f → ⊥)
-      → (c ≡ none → FirstOf l D (answered done o)) → FirstOf (r ∷ l) D (answered done (c or_else o))
+  order-step : (c o : Option Refusal) (reply : Reply) → ((f : Refusal) → c ≡ Some f → r f) → (c ≡ None → (f : Refusal) → r f → ⊥)
+      → (c ≡ None → FirstOf l D (answered reply o)) → FirstOf (r ∷ l) D (answered reply (c or_else o))
   unfolding FirstOf ◌or_else◌
-  order-step none o done g n rest = inr (n refl, rest refl)
-  order-step (some f) o done g n rest = inl (f, refl, g f refl)
+  order-step None o reply g n rest = inr (n refl, rest refl)
+  order-step (Some f) o reply g n rest = inl (f, refl, g f refl)
 
 -- the refusal f, given where P does not hold
 module _ {P : Type 0} (f : Refusal) (l : List Rule) (D : Answer → Type 0) where
-  order_test : (t : Bool) → (t ≡ true) ↔ P → (o : Option Refusal) (done : Answer)
-      → (P → FirstOf l D (answered done o)) → FirstOf (when (P → ⊥) f ∷ l) D (answered done (some_if (not t) f or_else o))
+  order_test : (t : Bool) → (t ≡ true) ↔ P → (o : Option Refusal) (reply : Reply)
+      → (P → FirstOf l D (answered reply o)) → FirstOf (when (P → ⊥) f ∷ l) D (answered reply (some_if (not t) f or_else o))
   unfolding FirstOf some_if ◌or_else◌
-  order_test true i o done r = inr ((λ g h. h.0 (i.0 refl)), r (i.0 refl))
-  order_test false i o done r = inl (f, refl, ((λ p. true≢false (sym (i.1 p))), refl))
+  order_test true i o reply r = inr ((λ g h. h.0 (i.0 refl)), r (i.0 refl))
+  order_test false i o reply r = inl (f, refl, ((λ p. true≢false (sym (i.1 p))), refl))
 
 -- the same where the test is at the end of the chain
 module _ {P : Type 0} (f : Refusal) (D : Answer → Type 0) where
-  order-end : (t : Bool) → (t ≡ true) ↔ P → (done : Answer) → (P → D done) → FirstOf (when (P → ⊥) f ∷ []) D (answered done (some_if (not t) f))
+  order-end : (t : Bool) → (t ≡ true) ↔ P → (reply : Reply) → (P → D (Ok reply)) → FirstOf (when (P → ⊥) f ∷ []) D (answered reply (some_if (not t) f))
   unfolding FirstOf some_if
-  order-end true i done r = inr ((λ g h. h.0 (i.0 refl)), r (i.0 refl))
-  order-end false i done r = inl (f, refl, ((λ p. true≢false (sym (i.1 p))), refl))
+  order-end true i reply r = inr ((λ g h. h.0 (i.0 refl)), r (i.0 refl))
+  order-end false i reply r = inl (f, refl, ((λ p. true≢false (sym (i.1 p))), refl))
 
   -- the refusal f, given where P holds
-  order-found : (t : Bool) → (t ≡ true) ↔ P → (done : Answer) → ((P → ⊥) → D done) → FirstOf (when P f ∷ []) D (answered done (some_if t f))
+  order-found : (t : Bool) → (t ≡ true) ↔ P → (reply : Reply) → ((P → ⊥) → D (Ok reply)) → FirstOf (when P f ∷ []) D (answered reply (some_if t f))
   unfolding FirstOf some_if
-  order-found true i done r = inl (f, refl, (i.0 refl, refl))
-  order-found false i done r = let no : P → ⊥ = λ p. true≢false (sym (i.1 p)) in inr ((λ g h. no h.0), r no)
+  order-found true i reply r = inl (f, refl, (i.0 refl, refl))
+  order-found false i reply r = let no : P → ⊥ = λ p. true≢false (sym (i.1 p)) in inr ((λ g h. no h.0), r no)
 
 -- a test is what it says
 itself : (b : Bool) → (b ≡ true) ↔ (b ≡ true)
@@ -82,60 +82,61 @@ itself b = ((λ e. e), λ e. e)
 
 -- ---- refusals 2 to 5, before any others
 
-module _ (b : List ℕ) (l : List Rule) (D : Answer → Type 0) (o : Option Refusal) (done : Answer) where
-  conditions_order : in_form b ≡ true → (scheme_fault (scheme_of b) ≡ none → FirstOf l D (answered done o))
-      → FirstOf (hook_rule (scheme_of b) ∷ incidence_rule (scheme_of b) ∷ cycle_rule (scheme_of b) ∷ l) D (answered done (scheme_fault (scheme_of b) or_else o))
+module _ (b : List ℕ) (l : List Rule) (D : Answer → Type 0) (o : Option Refusal) (reply : Reply) where
+  conditions_order : in_form b ≡ true → (scheme_fault (scheme_of b) ≡ None → FirstOf l D (answered reply o))
+      → FirstOf (hook_rule (scheme_of b) ∷ incidence_rule (scheme_of b) ∷ cycle_rule (scheme_of b) ∷ l) D
+      (answered reply (scheme_fault (scheme_of b) or_else o))
   unfolding scheme_fault ◌or_else◌
   conditions_order form r =
       let S = scheme_of b in
-      subst (λ (c : Option Refusal). FirstOf (hook_rule S ∷ incidence_rule S ∷ cycle_rule S ∷ l) D (answered done c))
+      subst (λ (c : Option Refusal). FirstOf (hook_rule S ∷ incidence_rule S ∷ cycle_rule S ∷ l) D (answered reply c))
       (sym (regroup (noted BadHook (hook_fault S)) (noted BadIncidence (incidence_fault S) or_else cycle_fault S) o
       ∙ ap (λ (c : Option Refusal). noted BadHook (hook_fault S) or_else c) (regroup (noted BadIncidence (incidence_fault S)) (cycle_fault S) o)))
-      (order-step (hook_rule S) _ D (noted BadHook (hook_fault S)) _ done
+      (order-step (hook_rule S) _ D (noted BadHook (hook_fault S)) _ reply
       (λ f e. let q = noted-at BadHook _ f e in (q.0, hook-found S (shaped b form) q.0 q.1, sym q.2))
       (λ e f g. hook-nowhere S (shaped b form) (noted-none BadHook _ e) g.0 g.1)
-      (λ no_hook. order-step (incidence_rule S) _ D (noted BadIncidence (incidence_fault S)) _ done
+      (λ no_hook. order-step (incidence_rule S) _ D (noted BadIncidence (incidence_fault S)) _ reply
       (λ f e. let q = noted-at BadIncidence _ f e in (q.0, incidence-found S q.0 q.1, sym q.2))
       (λ e f g. incidence-nowhere S (noted-none BadIncidence _ e) g.0 g.1)
-      (λ no_incidence. order-step (cycle_rule S) l D (cycle_fault S) o done
+      (λ no_incidence. order-step (cycle_rule S) l D (cycle_fault S) o reply
       (λ f e. cycle_found S f e)
       (λ e f g. cycle_nowhere S e g.0 g.1 g.2 g.3)
       (λ no_cycle. r (rw (no_hook, no_incidence) no_cycle)))))
 
   -- 2 is given for bytes that are not as P asks, which is the form at least
   bytes-order : {P : Type 0} (taken : Bool) → (taken ≡ true) ↔ P → (P → in_form b ≡ true)
-      → (P → Accepted (scheme_of b) → FirstOf l D (answered done o))
-      → FirstOf (scheme_rules P b l) D (answered done (bytes_fault taken b or_else o))
+      → (P → Accepted (scheme_of b) → FirstOf l D (answered reply o))
+      → FirstOf (scheme_rules P b l) D (answered reply (bytes_fault taken b or_else o))
   unfolding bytes_fault
   bytes-order {P} taken is form r =
-      subst (λ (c : Option Refusal). FirstOf (scheme_rules P b l) D (answered done c)) (sym (regroup _ (scheme_fault (scheme_of b)) o))
-      (order_test BadForm _ D taken is _ done
+      subst (λ (c : Option Refusal). FirstOf (scheme_rules P b l) D (answered reply c)) (sym (regroup _ (scheme_fault (scheme_of b)) o))
+      (order_test BadForm _ D taken is _ reply
       (λ p. conditions_order (form p) (λ e. r p (accepted (scheme_of b) (shaped b (form p)) e))))
 
 -- ---- a table check and a scheme check
 
 module _ (n N : ℕ) (t : List ℕ) where
   -- refusals 1 and 7, before any others; `fit` says whether the sizes are as P asks
-  map-order : {P : Type 0} (fit : Bool) → (fit ≡ true) ↔ P → (l : List Rule) (D : Answer → Type 0) (o : Option Refusal) (done : Answer)
-      → (WellFormed n (view N t) → FirstOf l D (answered done o))
-      → FirstOf (when (P → ⊥) BadCall ∷ broken n N t ∷ l) D (answered done (map_fault fit n (view N t) or_else o))
+  map-order : {P : Type 0} (fit : Bool) → (fit ≡ true) ↔ P → (l : List Rule) (D : Answer → Type 0) (o : Option Refusal) (reply : Reply)
+      → (WellFormed n (view N t) → FirstOf l D (answered reply o))
+      → FirstOf (when (P → ⊥) BadCall ∷ broken n N t ∷ l) D (answered reply (map_fault fit n (view N t) or_else o))
   unfolding map_fault
-  map-order {P} fit is l D o done r =
-      subst (λ (c : Option Refusal). FirstOf (when (P → ⊥) BadCall ∷ broken n N t ∷ l) D (answered done c)) (sym (regroup _ _ o))
-      (order_test BadCall _ D fit is _ done (λ s. order_test BadTable l D _ (well_formed_iff n (view N t)) o done r))
+  map-order {P} fit is l D o reply r =
+      subst (λ (c : Option Refusal). FirstOf (when (P → ⊥) BadCall ∷ broken n N t ∷ l) D (answered reply c)) (sym (regroup _ _ o))
+      (order_test BadCall _ D fit is _ reply (λ s. order_test BadTable l D _ (well_formed_iff n (view N t)) o reply r))
 
   pub table-order : (l : Lent) → FirstOf (rules_of n N t table_check l) (Returned n N t table_check) (check_table n N t)
   unfolding check_table table_fault FirstOf
   table-order l =
       subst (λ (c : Option Refusal). FirstOf (rules_of n N t table_check l) (Returned n N t table_check) (answered Done c)) (or_else_last (table_fault n N t))
-      (map-order (sizes_ok n N t) (sizes_iff n N t) [] (Returned n N t table_check) none Done (λ w. refl))
+      (map-order (sizes_ok n N t) (sizes_iff n N t) [] (Returned n N t table_check) None Done (λ w. refl))
 
   pub scheme-order : (b : List ℕ) (l : Lent) → FirstOf (rules_of n N t (scheme_check b) l) (Returned n N t (scheme_check b)) (check_scheme b)
   unfolding check_scheme FirstOf
   scheme-order b l =
       subst (λ (c : Option Refusal). FirstOf (rules_of n N t (scheme_check b) l) (Returned n N t (scheme_check b)) (answered Done c))
       (or_else_last (bytes_fault (in_form b) b))
-      (bytes-order b [] (Returned n N t (scheme_check b)) none Done (in_form b) (itself (in_form b)) (λ f. f) (λ f a. refl))
+      (bytes-order b [] (Returned n N t (scheme_check b)) None Done (in_form b) (itself (in_form b)) (λ f. f) (λ f a. refl))
 
   -- ---- a load
 
@@ -147,12 +148,12 @@ module _ (n N : ℕ) (t : List ℕ) where
   -- ---- a count and a write
 
   -- refusals 1, 7 and 12, where the output is to hold `size` numbers or bytes
-  output-order : {P : Type 0} (fit : Bool) → (fit ≡ true) ↔ P → (size : ℕ) (out : List ℕ) (D : Answer → Type 0) (done : Answer) → D done
+  output-order : {P : Type 0} (fit : Bool) → (fit ≡ true) ↔ P → (size : ℕ) (out : List ℕ) (D : Answer → Type 0) (reply : Reply) → D (Ok reply)
       → FirstOf (when (P → ⊥) BadCall ∷ broken n N t ∷ when (length out < size) ShortOutput ∷ []) D
-      (answered done (output_fault_at fit n (view N t) size out))
+      (answered reply (output_fault_at fit n (view N t) size out))
   unfolding output_fault_at
-  output-order fit is size out D done d = map-order fit is _ D _ done
-      (λ w. order-found ShortOutput D (ltb (length out) size) ((λ e. ltb-true _ _ e), (λ e. lt-ltb _ _ e)) done (λ no. d))
+  output-order fit is size out D reply d = map-order fit is _ D _ reply
+      (λ w. order-found ShortOutput D (ltb (length out) size) ((λ e. ltb-true _ _ e), (λ e. lt-ltb _ _ e)) reply (λ no. d))
 
   pub stored_iff : (store : List ℕ) → (stored_ok n N t store ≡ true) ↔ Stored n N t store
   stored_iff store = (

@@ -3,7 +3,7 @@ use Prim.Native.Nat.{ℕ, ◌≤◌, ◌<◌}
 use mathlib.Core.Path.{◌≡◌, refl, sym, ap, ◌∙◌}
 use mathlib.Core.Logic.{◌⊎◌, ⊎_elim}
 use mathlib.Core.Bool.{Bool, true, false, not, cond}
-use mathlib.Core.Option.{Option, none, some}
+use Rattle.std.specs.Prelude.{Option, Some, None}
 use mathlib.Core.List.{List}
 use native.Mathlib.Omega.{arith}
 use lib.ListN.{length}
@@ -25,8 +25,8 @@ use Rattle.model.specs.Calls.{load_fault_at, load_fault, load_answer, loaded, lo
 use Rattle.model.proofs.HoldsLaws.{load-table}
 use Rattle.model.specs.declared.Scheme.{Scheme}
 use Rattle.model.specs.declared.Darts.{Darts}
-use Rattle.model.specs.declared.Answer.{Answer}
-use Rattle.model.specs.declared.Answer.TheVariants.{Done}
+use Rattle.model.specs.declared.Reply.{Reply}
+use Rattle.model.specs.declared.Reply.TheVariants.{Done}
 use Rattle.model.specs.declared.Refusal.{Refusal}
 use Rattle.model.specs.declared.Refusal.TheVariants.{BadCall, BadForm, BadHook, BadIncidence, BadTable, BadFile, ShortOutput}
 
@@ -39,15 +39,15 @@ cond-false s a b e = rw e
 -- a chain in a chain
 pub regroup : (a b c : Option Refusal) → (a or_else b) or_else c ≡ a or_else (b or_else c)
 unfolding ◌or_else◌
-regroup none b c = refl
-regroup (some x) b c = refl
+regroup None b c = refl
+regroup (Some x) b c = refl
 
 -- ---- the numbers that a chain can give
 
 -- whatever o gives has a number from j to k
 pub record Within (j k : ℕ) (o : Option Refusal) : Type 0 where
-  pub least : (f : Refusal) → o ≡ some f → j ≤ refusal_number f
-  pub most : (f : Refusal) → o ≡ some f → refusal_number f ≤ k
+  pub least : (f : Refusal) → o ≡ Some f → j ≤ refusal_number f
+  pub most : (f : Refusal) → o ≡ Some f → refusal_number f ≤ k
 
 module _ (j k : ℕ) where
   pub within_test : (t : Bool) (a : Refusal) → j ≤ refusal_number a → refusal_number a ≤ k → Within j k (some_if t a)
@@ -58,12 +58,12 @@ module _ (j k : ℕ) where
 
   pub within_or : (o p : Option Refusal) → Within j k o → Within j k p → Within j k (o or_else p)
   unfolding ◌or_else◌
-  within_or none p f g = g
-  within_or (some x) p f g = f
+  within_or None p f g = g
+  within_or (Some x) p f g = f
 
   within-noted : (f : ℕ → Refusal) (s : Option ℕ) → ((v : ℕ) → (j ≤ refusal_number (f v)) × (refusal_number (f v) ≤ k)) → Within j k (noted f s)
-  within-noted f none h = record { least = λ a e. absurd (some_not_none e refl); most = λ a e. absurd (some_not_none e refl) }
-  within-noted f (some v) h = record {
+  within-noted f None h = record { least = λ a e. absurd (some_not_none e refl); most = λ a e. absurd (some_not_none e refl) }
+  within-noted f (Some v) h = record {
     least = λ a e. let same : f v ≡ a = cc in let n = ap refusal_number same in omega (arith, (h v).0);
     most = λ a e. let same : f v ≡ a = cc in let n = ap refusal_number same in omega (arith, (h v).1);
   }
@@ -71,7 +71,7 @@ module _ (j k : ℕ) where
   pub within_more : {i l : ℕ} {o : Option Refusal} → i ≤ j → k ≤ l → Within j k o → Within i l o
   within_more g h w = record { least = λ a e. omega (arith, w.least a e); most = λ a e. omega (arith, w.most a e) }
 
-cycle_number : (S : Scheme) (a : Refusal) → cycle_fault S ≡ some a → refusal_number a ≡ 5
+cycle_number : (S : Scheme) (a : Refusal) → cycle_fault S ≡ Some a → refusal_number a ≡ 5
 unfolding cycle_fault
 cycle_number S a e =
     let at-node = first-at _ _ a e in
@@ -96,37 +96,37 @@ fit_within E = within_or 9 10 _ _ (within_test 9 10 _ _ (omega arith) (omega ari
 -- ---- what an answer's number says of the chain that gave it
 
 -- any other answer than 0 comes of a refusal
-pub refused-there : (o : Option Refusal) (done : Answer) → number done ≡ 0 → (number (answered done o) ≡ 0 → ⊥) → there o ≡ true
+pub refused-there : (o : Option Refusal) (reply : Reply) → (number (answered reply o) ≡ 0 → ⊥) → there o ≡ true
 unfolding there
-refused-there none done z h = absurd (h z)
-refused-there (some a) done z h = refl
+refused-there None reply h = absurd (h refl)
+refused-there (Some a) reply h = refl
 
 -- a part of the chain that cannot have given the answer gave nothing
-pub past : {j k : ℕ} (i : ℕ) (c o : Option Refusal) (done : Answer) → Within j k c → (i < j) ⊎ (k < i) → number (answered done (c or_else o)) ≡ i
-    → (c ≡ none) × (number (answered done o) ≡ i)
+pub past : {j k : ℕ} (i : ℕ) (c o : Option Refusal) (reply : Reply) → Within j k c → (i < j) ⊎ (k < i) → number (answered reply (c or_else o)) ≡ i
+    → (c ≡ None) × (number (answered reply o) ≡ i)
 unfolding ◌or_else◌
-past i none o done w h e = (refl, e)
-past i (some a) o done w h e = absurd (⊎_elim (λ l. omega (arith, w.least a refl)) (λ l. omega (arith, w.most a refl)) h)
+past i None o reply w h e = (refl, e)
+past i (Some a) o reply w h e = absurd (⊎_elim (λ l. omega (arith, w.least a refl)) (λ l. omega (arith, w.most a refl)) h)
 
 -- refusal 1, the first of a chain, says that a size is wrong, and any other answer that all are right
-module _ (s : Bool) (rest : Option Refusal) (done : Answer) (k : ℕ) (w : Within 2 k rest) (z : number done ≡ 0) where
-  pub one-wrong : number (answered done (some_if (not s) BadCall or_else rest)) ≡ 1 → s ≡ false
+module _ (s : Bool) (rest : Option Refusal) (reply : Reply) (k : ℕ) (w : Within 2 k rest) where
+  pub one-wrong : number (answered reply (some_if (not s) BadCall or_else rest)) ≡ 1 → s ≡ false
   unfolding some_if ◌or_else◌
   one-wrong e = go s e
     where
-      other : (o : Option Refusal) → Within 2 k o → number (answered done o) ≡ 1 → ⊥
-      other none w e = omega arith
-      other (some a) w e = omega (arith, w.least a refl)
+      other : (o : Option Refusal) → Within 2 k o → number (answered reply o) ≡ 1 → ⊥
+      other None w e = omega arith
+      other (Some a) w e = omega (arith, w.least a refl)
 
-      go : (s : Bool) → number (answered done (some_if (not s) BadCall or_else rest)) ≡ 1 → s ≡ false
+      go : (s : Bool) → number (answered reply (some_if (not s) BadCall or_else rest)) ≡ 1 → s ≡ false
       go true e = absurd (other rest w e)
       go false e = refl
 
-  pub other-right : (number (answered done (some_if (not s) BadCall or_else rest)) ≡ 1 → ⊥) → s ≡ true
+  pub other-right : (number (answered reply (some_if (not s) BadCall or_else rest)) ≡ 1 → ⊥) → s ≡ true
   unfolding some_if ◌or_else◌
   other-right h = go s h
     where
-      go : (s : Bool) → (number (answered done (some_if (not s) BadCall or_else rest)) ≡ 1 → ⊥) → s ≡ true
+      go : (s : Bool) → (number (answered reply (some_if (not s) BadCall or_else rest)) ≡ 1 → ⊥) → s ≡ true
       go true h = refl
       go false h = absurd (h refl)
 
@@ -145,15 +145,15 @@ module _ (n N : ℕ) (t store b : List ℕ) (d : Darts) where
 
   pub refused-edit : (number (edit_answer n N t store b d) ≡ 0 → ⊥) → edit_table n N t store b d ≡ t
   unfolding edit_answer edit_table site_done
-  refused-edit h = cond-true _ t (table_of (edited (site_of N t b d))) (refused-there (edit_fault n N t store b d) _ refl h)
+  refused-edit h = cond-true _ t (table_of (edited (site_of N t b d))) (refused-there (edit_fault n N t store b d) _ h)
 
   pub edit-one : number (edit_answer n N t store b d) ≡ 1 → edit_store n N t store b d ≡ store
   unfolding edit_answer edit_store edit_fault edit_fault_at edit_rest site_done
-  edit-one e = cond-false (stored_ok n N t store) (zeros store) store (one-wrong (stored_ok n N t store) edit_rest _ 10 edit-rest refl e)
+  edit-one e = cond-false (stored_ok n N t store) (zeros store) store (one-wrong (stored_ok n N t store) edit_rest _ 10 edit-rest e)
 
   pub edit-others : (number (edit_answer n N t store b d) ≡ 1 → ⊥) → edit_store n N t store b d ≡ zeros store
   unfolding edit_answer edit_store edit_fault edit_fault_at edit_rest site_done
-  edit-others h = cond-true (stored_ok n N t store) (zeros store) store (other-right (stored_ok n N t store) edit_rest _ 10 edit-rest refl h)
+  edit-others h = cond-true (stored_ok n N t store) (zeros store) store (other-right (stored_ok n N t store) edit_rest _ 10 edit-rest h)
 
 -- ---- a count
 
@@ -174,16 +174,16 @@ module _ (n N : ℕ) (t store out : List ℕ) where
   pub count-one : number (count_answer n N t store out) ≡ 1 → count_store n N t store out ≡ store
   unfolding count_answer count_store
   count-one e = cond-false (stored_ok n N t store) (zeros store) store
-      (one-wrong (stored_ok n N t store) count_rest Done 12 count-rest refl (sym (ap (λ (o : Option Refusal). number (answered Done o)) count-chain) ∙ e))
+      (one-wrong (stored_ok n N t store) count_rest Done 12 count-rest (sym (ap (λ (o : Option Refusal). number (answered Done o)) count-chain) ∙ e))
 
   pub count-others : (number (count_answer n N t store out) ≡ 1 → ⊥) → count_store n N t store out ≡ zeros store
   unfolding count_answer count_store
-  count-others h = cond-true (stored_ok n N t store) (zeros store) store (other-right (stored_ok n N t store) count_rest Done 12 count-rest refl
+  count-others h = cond-true (stored_ok n N t store) (zeros store) store (other-right (stored_ok n N t store) count_rest Done 12 count-rest
       (λ e. h (ap (λ (o : Option Refusal). number (answered Done o)) count-chain ∙ e)))
 
   pub refused-count : (number (count_answer n N t store out) ≡ 0 → ⊥) → count_out n N t store out ≡ out
   unfolding count_answer count_out
-  refused-count h = cond-true _ out _ (refused-there (count_fault n N t store out) Done refl h)
+  refused-count h = cond-true _ out _ (refused-there (count_fault n N t store out) Done h)
 
 -- ---- a load
 
@@ -199,7 +199,7 @@ module _ (n N : ℕ) (t b : List ℕ) where
   pub load_one : number (load_answer n N t b) ≡ 1 → load_table n N t b ≡ t
   unfolding load_answer load_table load_fault load_fault_at
   load_one e = cond-false (sizes_ok n N t) _ t
-      (one-wrong (sizes_ok n N t) _ _ 11 (within_test 2 11 (not (file_form n N b)) BadFile (omega arith) (omega arith)) refl e)
+      (one-wrong (sizes_ok n N t) _ _ 11 (within_test 2 11 (not (file_form n N b)) BadFile (omega arith) (omega arith)) e)
 
   pub load_eleven : number (load_answer n N t b) ≡ 11 → load_table n N t b ≡ zeros t
   unfolding load_answer load_table loaded load_fault load_fault_at
@@ -214,4 +214,4 @@ module _ (n N : ℕ) (t b : List ℕ) where
 
 pub refused-write : (n N : ℕ) (t out : List ℕ) → (number (write_answer n N t out) ≡ 0 → ⊥) → write_out n N t out ≡ out
 unfolding write_answer write_out
-refused-write n N t out h = cond-true _ out _ (refused-there (write_fault n N t out) _ refl h)
+refused-write n N t out h = cond-true _ out _ (refused-there (write_fault n N t out) _ h)

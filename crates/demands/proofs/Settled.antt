@@ -3,7 +3,7 @@ use Prim.Native.Nat.{ℕ, zero, suc, ◌≤◌, ◌<◌}
 use mathlib.Core.Path.{◌≡◌, refl, sym, ap, ◌∙◌, subst}
 use mathlib.Core.Logic.{◌⊎◌, inl, inr, ⊎_elim}
 use mathlib.Core.Bool.{Bool, true≢false}
-use mathlib.Core.Option.{Option, none, some}
+use Rattle.std.specs.Prelude.{Option, Some, None, Err}
 use mathlib.Core.List.{List, [], ◌∷◌, ◌++◌}
 use native.Mathlib.Omega.{arith}
 use lib.ListN.{length, get_or, drop}
@@ -19,15 +19,13 @@ use Rattle.model.specs.WellFormed.{WellFormed}
 use Rattle.model.specs.Scheme.{scheme_of, orbit_dim}
 use Rattle.model.specs.Count.{all}
 use Rattle.model.specs.File.{darts, slot_at}
-use Rattle.model.specs.Answer.{number}
+use Rattle.model.specs.Answer.{Answer, number}
 use Rattle.model.specs.Calls.{first_dart, count_fault, count_answer, load_answer, load_table, write_fault, write_answer}
 use Rattle.model.specs.Sequence.{Request, table_check, scheme_check, edit, count, load, write, Lent, Outcome, outcome_of}
 use Rattle.model.specs.declared.Scheme.{Scheme}
 use Rattle.model.specs.declared.Darts.{Darts}
 use Rattle.model.specs.declared.Refusal.{Refusal}
 use Rattle.model.specs.declared.Refusal.TheVariants.{BadHook, BadIncidence, BadCycle}
-use Rattle.model.specs.declared.Answer.{Answer}
-use Rattle.model.specs.declared.Answer.TheVariants.{Refused}
 use Rattle.model.proofs.AnswerLaws.{answered-free}
 use Rattle.model.proofs.WellFormedLaws.{well_formed_iff}
 use Rattle.model.proofs.SizeLaws.{sizes_iff}
@@ -61,7 +59,7 @@ Singles (r ∷ l) = Single r × Singles l
 first_one : (l : List Rule) (D : Answer → Type 0) (r a : Answer) → Singles l → (D r → D a → r ≡ a) → FirstOf l D r → FirstOf l D a → r ≡ a
 unfolding FirstOf Singles
 first_one [] D r a s one p q = one p q
-first_one (f ∷ l) D r a s one (inl p) (inl q) = p.1 ∙ ap Refused (s.0 _ _ p.2 q.2) ∙ sym q.1
+first_one (f ∷ l) D r a s one (inl p) (inl q) = p.1 ∙ ap Err (s.0 _ _ p.2 q.2) ∙ sym q.1
 first_one (f ∷ l) D r a s one (inl p) (inr q) = absurd (q.0 _ p.2)
 first_one (f ∷ l) D r a s one (inr p) (inl q) = absurd (p.0 _ q.2)
 first_one (f ∷ l) D r a s one (inr p) (inr q) = first_one l D r a s.1 one p.1 q.1
@@ -160,8 +158,8 @@ module _ (n N : ℕ) (b t u : List ℕ) (two : (n ≡ 2) ⊎ (n ≡ 3)) (p : Fil
     where
       go : (o : Option ℕ) → least (darts b) (λ k. eqb (slot_at b k) x) ≡ o
           → ((k : ℕ) × (k < darts b) × (slot_at b k ≡ x)) ⊎ ((k : ℕ) → k < darts b → slot_at b k ≡ x → ⊥)
-      go none e = inr (λ k h z. true≢false (sym (eq-eqb _ _ z) ∙ least-none (darts b) (λ k. eqb (slot_at b k) x) e k h))
-      go (some k) e = let l = least_at (darts b) (λ k. eqb (slot_at b k) x) k e in inl (k, l.0, eqb-true _ _ l.1)
+      go None e = inr (λ k h z. true≢false (sym (eq-eqb _ _ z) ∙ least-none (darts b) (λ k. eqb (slot_at b k) x) e k h))
+      go (Some k) e = let l = least_at (darts b) (λ k. eqb (slot_at b k) x) k e in inl (k, l.0, eqb-true _ _ l.1)
 
   third : (i : ℕ) → i ≤ 3 → (i ≤ n) ⊎ ((n ≡ 2) × (i ≡ 3))
   third i l = ⊎_elim (λ e. ⊎_elim (λ g. inl g) (λ g. inr (e, omega arith)) (le_or_lt i n)) (λ e. inl (omega arith)) two
@@ -234,8 +232,8 @@ module _ (K : Kernel) (D : Demand1 K) (E : Demand2 K) (n N : ℕ) (t : List ℕ)
       mine = left n N t (load b) l
 
       by : FirstOf (rules_of n N t (load b) l) (Returned n N t (load b)) o.answer → o.table ≡ load_table n N t b
-      by (inl x) = let one = ap number (x.1 ∙ ap Refused x.2.1) in its.after_one one ∙ sym (mine.after_one (sym is ∙ one))
-      by (inr (_, inl x)) = let eleven = ap number (x.1 ∙ ap Refused x.2.1) in its.after_eleven eleven ∙ sym (mine.after_eleven (sym is ∙ eleven))
+      by (inl x) = let one = ap number (x.1 ∙ ap Err x.2.1) in its.after_one one ∙ sym (mine.after_one (sym is ∙ one))
+      by (inr (_, inl x)) = let eleven = ap number (x.1 ∙ ap Err x.2.1) in its.after_eleven eleven ∙ sym (mine.after_eleven (sym is ∙ eleven))
       by (inr (_, inr (_, x))) =
           let done = ap number x in
           let two = ((sizes_iff n N t).0 (load-done n N t b (sym is ∙ done)).0).dimension in

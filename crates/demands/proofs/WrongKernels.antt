@@ -17,6 +17,7 @@ use native.Mathlib.Omega.{arith}
 use lib.ListN.{get_or, take, drop, replicate}
 use lib.Dec.{eqb, ltb}
 use borrow.Author.Tests.{eqb-false, eq-eqb, not-true}
+use Rattle.std.specs.Prelude.{Ok, Err}
 use Rattle.base.specs.Test.{◌or◌, ◌⇒◌}
 use Rattle.base.specs.Below.{all_below, count_below}
 use Rattle.base.specs.First.{there}
@@ -28,15 +29,14 @@ use Rattle.model.specs.Count.{cells, all_but}
 use Rattle.model.specs.Scheme.{scheme_of}
 use Rattle.model.specs.Site.{site_at}
 use Rattle.model.specs.Edit.{added_darts, edited}
-use Rattle.model.specs.Answer.{number, values}
+use Rattle.model.specs.Answer.{Answer, number, values}
 use Rattle.model.specs.File.{darts, slot_at}
 use Rattle.model.specs.Calls.{check_table, first_dart, second_dart, site_of, edit_fault, edit_answer, edit_table, load_answer, load_table, count_answer}
 use Rattle.model.specs.Sequence.{Request, table_check, scheme_check, edit, count, load, write, Lent, Outcome, outcome_of, written, known_after}
 use Rattle.model.specs.declared.Scheme.{Scheme}
 use Rattle.model.specs.declared.Darts.{Darts}
 use Rattle.model.specs.declared.Darts.TheVariants.{One, Two}
-use Rattle.model.specs.declared.Answer.{Answer}
-use Rattle.model.specs.declared.Answer.TheVariants.{Done, Edited, Refused}
+use Rattle.model.specs.declared.Reply.TheVariants.{Done, Edited}
 use Rattle.model.specs.declared.Refusal.TheVariants.{BadCall, BadTable, NoMatch, NoRoom}
 use Rattle.model.proofs.WellFormedLaws.{well_formed_iff}
 use Rattle.model.proofs.CountLaws.{all_but_small}
@@ -62,7 +62,7 @@ doing f = record { Does = λ n N t q l o. o ≡ f n N t q l; responds = λ n N t
 
 -- every request is answered with 1, and nothing is written
 abbrev pub refusing : Kernel
-refusing = doing (λ n N t q l. record { answer = Refused BadCall; table = t; lent = l })
+refusing = doing (λ n N t q l. record { answer = Err BadCall; table = t; lent = l })
 
 -- an outcome with another answer, another table or another output
 abbrev pub answering : Answer → Outcome → Outcome
@@ -165,7 +165,7 @@ hook-tagged = editing (λ n N t b d l o. tabling (cond (there (edit_fault n N t 
 -- the slots that an edit deletes are no room in it
 abbrev pub hoarding : Kernel
 hoarding = editing (λ n N t b d l o. cond (ltb (count_below N (unused (view N t))) (added_darts (site_of N t b d)))
-    (answering (Refused NoRoom) (tabling t o)) o)
+    (answering (Err NoRoom) (tabling t o)) o)
 
 -- the table t' with the tags that the unused records of t hold
 abbrev pub stale_tags : ℕ → List ℕ → List ℕ → List ℕ
@@ -202,7 +202,7 @@ thick = counting (λ n N t o. let v = o.lent.output in writing (take 5 v ++ get_
 abbrev stored : List ℕ → Lent
 stored s = record { store = s; output = [] }
 
-p8_answer : edit_answer 2 8 e8 store8 v_bytes (One 0) ≡ Edited 2 2 0
+p8_answer : edit_answer 2 8 e8 store8 v_bytes (One 0) ≡ Ok (Edited 2 2 0)
 unfolding computes
 p8_answer = refl
 
@@ -210,16 +210,16 @@ p8_table : edit_table 2 8 e8 store8 v_bytes (One 0) ≡ v_darts ++ unused_slots 
 unfolding computes
 p8_table = refl
 
-p10_answer : edit_answer 2 8 e8 store8 w_bytes (One 0) ≡ Edited 1 0 0
+p10_answer : edit_answer 2 8 e8 store8 w_bytes (One 0) ≡ Ok (Edited 1 0 0)
 unfolding computes
 p10_answer = refl
 
 -- two flanges are sewn at 0 and 3, and at 0 and 0 there is no match
-sew_answer : edit_answer 2 4 f_darts store4 (sew_bytes 0 1) (Two 0 3) ≡ Edited 2 0 0
+sew_answer : edit_answer 2 4 f_darts store4 (sew_bytes 0 1) (Two 0 3) ≡ Ok (Edited 2 0 0)
 unfolding computes
 sew_answer = refl
 
-twice-answer : edit_answer 2 4 f_darts store4 (sew_bytes 0 1) (Two 0 0) ≡ Refused NoMatch
+twice-answer : edit_answer 2 4 f_darts store4 (sew_bytes 0 1) (Two 0 0) ≡ Err NoMatch
 unfolding computes
 twice-answer = refl
 
@@ -228,11 +228,11 @@ abbrev pub keep_bytes : List ℕ
 keep_bytes = 34 ∷ 3 ∷ 0 ∷ 1 ∷ 2 ∷ 2 ∷ 2 ∷ 0 ∷ 1 ∷ 2 ∷ 0 ∷ 1 ∷ 2 ∷ 1 ∷ 0 ∷ 1 ∷ 2 ∷ 255 ∷ 255 ∷ 255 ∷ 1 ∷ 0 ∷ 0 ∷ []
 
 -- at 0 and 3 and at 3 and 0 the answer is the same, and the piece that is kept is not
-keep_answer : edit_answer 2 4 f_darts store4 keep_bytes (Two 0 3) ≡ Edited 2 0 2
+keep_answer : edit_answer 2 4 f_darts store4 keep_bytes (Two 0 3) ≡ Ok (Edited 2 0 2)
 unfolding computes
 keep_answer = refl
 
-pub swap_answer : edit_answer 2 4 f_darts store4 keep_bytes (Two 3 0) ≡ Edited 2 0 2
+pub swap_answer : edit_answer 2 4 f_darts store4 keep_bytes (Two 3 0) ≡ Ok (Edited 2 0 2)
 unfolding computes
 swap_answer = refl
 
@@ -245,7 +245,7 @@ unfolding computes
 swap-table = refl
 
 -- the dart at the other end of an edge, of lot 9, is renewed by one of its lot
-renew_answer : edit_answer 2 8 e8 store8 (renew_bytes 18 (1 ∷ [])) (One 0) ≡ Edited 1 1 1
+renew_answer : edit_answer 2 8 e8 store8 (renew_bytes 18 (1 ∷ [])) (One 0) ≡ Ok (Edited 1 1 1)
 unfolding computes
 renew_answer = refl
 
@@ -263,10 +263,10 @@ module _ (K : Kernel) (D : Demand2 K) where
       done-is n N t b d l applies o (D.edits n N t b d l o p applies)
 
   -- and so of an edit at P8 and at P10
-  p8_done : (o : Outcome) → K.Does 2 8 e8 (edit v_bytes (One 0)) (stored store8) o → (o.answer ≡ Edited 2 2 0) × (o.table ≡ v_darts ++ unused_slots 4)
+  p8_done : (o : Outcome) → K.Does 2 8 e8 (edit v_bytes (One 0)) (stored store8) o → (o.answer ≡ Ok (Edited 2 2 0)) × (o.table ≡ v_darts ++ unused_slots 4)
   p8_done o p = let is = as_ours 2 8 e8 v_bytes (One 0) (stored store8) (ap number p8_answer) o p in (is.0 ∙ p8_answer, is.1 ∙ p8_table)
 
-  p10_done : (o : Outcome) → K.Does 2 8 e8 (edit w_bytes (One 0)) (stored store8) o → o.answer ≡ Edited 1 0 0
+  p10_done : (o : Outcome) → K.Does 2 8 e8 (edit w_bytes (One 0)) (stored store8) o → o.answer ≡ Ok (Edited 1 0 0)
   p10_done o p = (as_ours 2 8 e8 w_bytes (One 0) (stored store8) (ap number p10_answer) o p).0 ∙ p10_answer
 
 -- ---- none of the kernels meets demand 2
@@ -327,7 +327,7 @@ not_hook_tagged D =
     let tag : ◌≡◌ {A = ℕ} 7 9 = ap (λ (t : List ℕ). field_at t Tag 1) (sym hook-tagged-table ∙ is.1 ∙ renew_table) in
     omega arith
 
-turn-answer : edit_answer 2 2 e_darts (replicate 32 5) turn_bytes (One 0) ≡ Edited 1 2 2
+turn-answer : edit_answer 2 2 e_darts (replicate 32 5) turn_bytes (One 0) ≡ Ok (Edited 1 2 2)
 unfolding computes
 turn-answer = refl
 
@@ -340,7 +340,7 @@ pub not_hoarding : Demand2 hoarding → ⊥
 not_hoarding D =
     let l = stored (replicate 32 5) in
     let is = as_ours hoarding D 2 2 e_darts turn_bytes (One 0) l (ap number turn-answer) _ refl in
-    let full-outcome = answering (Refused NoRoom) (tabling e_darts (outcome_of 2 2 e_darts (edit turn_bytes (One 0)) l)) in
+    let full-outcome = answering (Err NoRoom) (tabling e_darts (outcome_of 2 2 e_darts (edit turn_bytes (One 0)) l)) in
     let refuses = ap (λ (o : Outcome). o.answer) (cond-true _ full-outcome _ full) in
     let ten : ◌≡◌ {A = ℕ} 10 0 = ap number (sym refuses ∙ is.0 ∙ turn-answer) in
     omega arith
@@ -371,15 +371,15 @@ not_stale L = not_tagged (L.no_other 2 8 e8 v_bytes (One 0) (stored store8) _ re
 -- ---- none of the loads meets demand 1
 
 strict-answer : cond (eqb (number (load_answer 2 8 e8 broken_file)) 0) (check_table 2 8 (load_table 2 8 e8 broken_file)) (load_answer 2 8 e8 broken_file)
-    ≡ Refused BadTable
+    ≡ Err BadTable
 unfolding computes
 strict-answer = refl
 
 -- 7 is no answer of a load
-no_seven : (n N : ℕ) (t b : List ℕ) (l : Lent) → FirstOf (rules_of n N t (load b) l) (Returned n N t (load b)) (Refused BadTable) → ⊥
+no_seven : (n N : ℕ) (t b : List ℕ) (l : Lent) → FirstOf (rules_of n N t (load b) l) (Returned n N t (load b)) (Err BadTable) → ⊥
 unfolding FirstOf
-no_seven n N t b l (inl p) = let one : ◌≡◌ {A = ℕ} 7 1 = ap number (p.1 ∙ ap Refused p.2.1) in omega arith
-no_seven n N t b l (inr (_, inl p)) = let eleven : ◌≡◌ {A = ℕ} 7 11 = ap number (p.1 ∙ ap Refused p.2.1) in omega arith
+no_seven n N t b l (inl p) = let one : ◌≡◌ {A = ℕ} 7 1 = ap number (p.1 ∙ ap Err p.2.1) in omega arith
+no_seven n N t b l (inr (_, inl p)) = let eleven : ◌≡◌ {A = ℕ} 7 11 = ap number (p.1 ∙ ap Err p.2.1) in omega arith
 no_seven n N t b l (inr (_, inr (_, p))) = let zero : ◌≡◌ {A = ℕ} 7 0 = ap number p in omega arith
 
 pub not_strict : Demand1 strict → ⊥
@@ -398,7 +398,7 @@ left-tag : field_at (put (load_table 2 8 e8 e_file) Tag 7 (field_at e8 Tag 7)) T
 unfolding computes put
 left-tag = refl
 
-e_loads : load_answer 2 8 e8 e_file ≡ Done
+e_loads : load_answer 2 8 e8 e_file ≡ Ok Done
 unfolding computes
 e_loads = refl
 
@@ -414,7 +414,7 @@ not_leaving D =
 abbrev six : Lent
 six = record { store = store8; output = replicate 6 99 }
 
-e_counts : count_answer 2 8 e8 store8 (replicate 6 99) ≡ Done
+e_counts : count_answer 2 8 e8 store8 (replicate 6 99) ≡ Ok Done
 unfolding computes
 e_counts = refl
 
@@ -447,7 +447,7 @@ not_thick D = let volumes : ◌≡◌ {A = ℕ} 1 0 = (e_numbers thick D _ refl 
 -- ---- a kernel that gives one answer to everything
 
 -- what demand 3 says of sequences holds of it ..
-no_file : (q : Request) (o : Outcome) → o.answer ≡ Refused BadCall → written q o ≡ []
+no_file : (q : Request) (o : Outcome) → o.answer ≡ Err BadCall → written q o ≡ []
 no_file table_check o e = refl
 no_file (scheme_check b) o e = refl
 no_file (edit b d) o e = refl
@@ -456,7 +456,7 @@ no_file (load b) o e = refl
 no_file write o e = rw e refl
 
 -- nothing is found to be well-formed
-no_more_known : (known : Bool) (q : Request) (a : Answer) → a ≡ Refused BadCall → known_after known q a ≡ true → known ≡ true
+no_more_known : (known : Bool) (q : Request) (a : Answer) → a ≡ Err BadCall → known_after known q a ≡ true → known ≡ true
 no_more_known known table_check a e k = sym (or_false known) ∙ subst (λ (r : Answer). (known or eqb (number r) 0) ≡ true) e k
 no_more_known known (scheme_check b) a e k = k
 no_more_known known (edit b d) a e k = k

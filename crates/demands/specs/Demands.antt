@@ -3,6 +3,7 @@
 -- (proofs/Settled.antt); some that do not meet them are in proofs/WrongKernels.antt.
 -- That no call faults or runs on is no statement here: it is part of what proving a function means.
 use Rattle.std.specs.Prelude.{ℕ, ◌+◌, ◌*◌, ◌≤◌, ◌<◌, ◌≡◌, ◌↔◌, Bool, true, List, ◌++◌, length, get_or, drop, replicate}
+use Rattle.std.specs.Prelude.{Ok, Err}
 use Rattle.base.specs.Below.{count_below}
 use Rattle.model.specs.Map.{Map, Field, State, Link, Tag, field_at, table_size, view, table_of, live}
 use Rattle.model.specs.WellFormed.{WellFormed}
@@ -14,13 +15,12 @@ use Rattle.model.specs.Site.{Site, LiveDart}
 use Rattle.model.specs.Edit.{orbit_size, added_darts, deleted_darts, room_of}
 use Rattle.model.specs.Rewriting.{Rewriting}
 use Rattle.model.specs.File.{file, darts, slot_at, tag_at, link_at}
-use Rattle.model.specs.Answer.{number}
+use Rattle.model.specs.Answer.{Answer, number}
 use Rattle.model.specs.Calls.{Sizes, first_dart, second_dart}
 use Rattle.model.specs.Sequence.{Holds, AlikeTables, Request, table_check, scheme_check, edit, count, load, write, Lent, Outcome, written}
 use Rattle.model.specs.declared.Darts.{Darts}
 use Rattle.model.specs.declared.Refusal.TheVariants.{NoMatch}
-use Rattle.model.specs.declared.Answer.{Answer}
-use Rattle.model.specs.declared.Answer.TheVariants.{Done, Edited, Written, Refused}
+use Rattle.model.specs.declared.Reply.TheVariants.{Done, Edited, Written}
 use Rattle.demands.specs.Kernel.{Kernel}
 use Rattle.demands.specs.Runs.{AlikeRuns}
 use Rattle.demands.specs.Refusals.{FirstOf, rules_of, AsMany, Orbit, site_over, Matched}
@@ -29,16 +29,16 @@ use Rattle.demands.specs.Refusals.{FirstOf, rules_of, AsMany, Orbit, site_over, 
 
 -- the size of O, darts added and darts deleted
 abbrev pub done_at : Site → Answer
-done_at E = Edited (orbit_size E) (added_darts E) (deleted_darts E)
+done_at E = Ok (Edited (orbit_size E) (added_darts E) (deleted_darts E))
 
 -- what a request that is done returns: an edit its three counts, a write the length of the file, every other nothing
 abbrev pub Returned : ℕ → ℕ → List ℕ → Request → Answer → Type 0
-Returned n N t table_check a = a ≡ Done
-Returned n N t (scheme_check b) a = a ≡ Done
+Returned n N t table_check a = a ≡ Ok Done
+Returned n N t (scheme_check b) a = a ≡ Ok Done
 Returned n N t (edit b D) a = (O : ℕ → Bool) × Orbit N t b D O × (a ≡ done_at (site_over N t b D O))
-Returned n N t count a = a ≡ Done
-Returned n N t (load b) a = a ≡ Done
-Returned n N t write a = a ≡ Written (length (file n (view N t)))
+Returned n N t count a = a ≡ Ok Done
+Returned n N t (load b) a = a ≡ Ok Done
+Returned n N t write a = a ≡ Ok (Written (length (file n (view N t))))
 
 -- ---- demand 1: what is left
 
@@ -171,7 +171,7 @@ pub record Demand2 (K : Kernel) : Type 0 where
       → (number o.answer ≡ 0) ↔ ((in_form b ≡ true) × Consistent (scheme_of b))
   -- refusal 9 is given exactly when none of 1 to 8 applies and no assignment exists
   pub no_match : (n N : ℕ) (t b : List ℕ) (D : Darts) (l : Lent) (o : Outcome) → K.Does n N t (edit b D) l o
-      → (o.answer ≡ Refused NoMatch) ↔ (Admitted n N t l.store b D × (Matched N t b D → ⊥))
+      → (o.answer ≡ Err NoMatch) ↔ (Admitted n N t l.store b D × (Matched N t b D → ⊥))
   -- where no refusal applies, and only there, an edit is done, and it is the published rewriting
   pub edits : (n N : ℕ) (t b : List ℕ) (D : Darts) (l : Lent) (o : Outcome) → K.Does n N t (edit b D) l o
       → Applicable n N t l.store b D → EditDone n N t b D o
@@ -180,7 +180,7 @@ pub record Demand2 (K : Kernel) : Type 0 where
   -- a well-formed map with room for its file is written; output beyond the file stays as it was
   pub writes : (n N : ℕ) (t : List ℕ) (l : Lent) (o : Outcome) → K.Does n N t write l o → Holds n N t
       → length (file n (view N t)) ≤ length l.output
-      → (o.answer ≡ Written (length (file n (view N t))))
+      → (o.answer ≡ Ok (Written (length (file n (view N t)))))
       × (o.lent.output ≡ file n (view N t) ++ drop (length (file n (view N t))) l.output)
   -- its file is loaded again and passes the check, with the same live records; words of a table are below 2³², and the second table has as many words
   pub written_loaded : (n N : ℕ) (t : List ℕ) (l : Lent) (o : Outcome) → K.Does n N t write l o → number o.answer ≡ 0

@@ -1,6 +1,7 @@
 -- Document 01's refusals: for each request those that it can be given, in their order, each with what it is given for and what is returned beside it.
 -- What they are given for is said by rules, and not by the tests and searches that find it (Calls.antt of crates/model/specs).
 use Rattle.std.specs.Prelude.{ℕ, ◌+◌, ◌*◌, ◌≤◌, ◌<◌, ◌≡◌, ◌⊎◌, Bool, true, List, [], ◌∷◌, length}
+use Rattle.std.specs.Prelude.{Err}
 use Rattle.model.specs.Map.{view}
 use Rattle.model.specs.WellFormed.{WellFormed}
 use Rattle.model.specs.Scheme.{left, orbit_dim, has, first_hook, is_hook, in_form, scheme_of}
@@ -19,8 +20,7 @@ use Rattle.model.specs.declared.Darts.TheVariants.{One, Two}
 use Rattle.model.specs.declared.Refusal.{Refusal}
 use Rattle.model.specs.declared.Refusal.TheVariants.{BadCall, BadForm, BadHook, BadIncidence, BadCycle, OtherDimension, BadTable, NoDart, NoMatch}
 use Rattle.model.specs.declared.Refusal.TheVariants.{NoRoom, BadFile, ShortOutput}
-use Rattle.model.specs.declared.Answer.{Answer}
-use Rattle.model.specs.declared.Answer.TheVariants.{Refused}
+use Rattle.model.specs.Answer.{Answer}
 
 -- ---- the first that applies
 
@@ -35,7 +35,7 @@ when P f g = P × (g ≡ f)
 -- a is the first refusal that a rule gives; where none gives any it is as `Done` asks
 unfoldable pub FirstOf : List Rule → (Answer → Type 0) → Answer → Type 0
 FirstOf [] Done a = Done a
-FirstOf (r ∷ l) Done a = ((f : Refusal) × (a ≡ Refused f) × r f) ⊎ (((f : Refusal) → r f → ⊥) × FirstOf l Done a)
+FirstOf (r ∷ l) Done a = ((f : Refusal) × (a ≡ Err f) × r f) ⊎ (((f : Refusal) → r f → ⊥) × FirstOf l Done a)
 
 -- ---- 2: the bytes that an edit takes
 

@@ -3,7 +3,7 @@ use Prim.Native.Nat.{ℕ, ◌-◌, ◌≤◌, ◌<◌}
 use mathlib.Core.Path.{◌≡◌, refl, ap, ◌∙◌}
 use mathlib.Core.Logic.{◌⊎◌, ⊎_elim}
 use mathlib.Core.Bool.{true, false, not}
-use mathlib.Core.Option.{Option, some}
+use Rattle.std.specs.Prelude.{Option, Some, Err}
 use mathlib.Core.List.{List}
 use native.Mathlib.Omega.{arith}
 use lib.Dec.{eqb}
@@ -19,8 +19,7 @@ use Rattle.model.specs.Accepted.{Accepted}
 use Rattle.model.specs.Site.{Site, Sound}
 use Rattle.model.specs.Scheme.{has_second}
 use Rattle.model.specs.Calls.{is_dart, site_fault}
-use Rattle.model.specs.declared.Answer.{Answer}
-use Rattle.model.specs.declared.Answer.TheVariants.{Refused}
+use Rattle.model.specs.Answer.{Answer}
 use Rattle.model.specs.declared.Refusal.{Refusal}
 use Rattle.model.specs.declared.Refusal.TheVariants.{OtherDimension, BadTable, NoDart}
 use Rattle.model.proofs.WellFormedLaws.{well_formed_iff}
@@ -28,22 +27,22 @@ use Rattle.model.proofs.CallLaws.{live-dart}
 use Rattle.edit.specs.Apply.{Settled, Applied, AppliedAt}
 
 -- an edit whose first fault is a leaves the table as it was
-pub refused : {fault : Option Refusal} {E : Site} {t : List ℕ} {f : Refusal} → fault ≡ some f → Settled fault E t (Refused f) t
+pub refused : {fault : Option Refusal} {E : Site} {t : List ℕ} {f : Refusal} → fault ≡ Some f → Settled fault E t (Err f) t
 unfolding there
 refused e = record { answer = rw e refl; table = rw e refl }
 
 module _ {n : ℕ} {E : Site} {t : List ℕ} where
-  pub other-dimension : (x : ℕ) → x ≡ E.scheme.n → (x ≡ n → ⊥) → AppliedAt n E t (Refused OtherDimension) t
+  pub other-dimension : (x : ℕ) → x ≡ E.scheme.n → (x ≡ n → ⊥) → AppliedAt n E t (Err OtherDimension) t
   unfolding site_fault some_if ◌or_else◌
   other-dimension x e h = let q = ne_eqb E.scheme.n n (λ z. h (e ∙ z)) in refused (rw q refl)
 
   module _ (same : E.scheme.n ≡ n) where
-    pub bad-table : well_formed n E.map ≡ false → AppliedAt n E t (Refused BadTable) t
+    pub bad-table : well_formed n E.map ≡ false → AppliedAt n E t (Err BadTable) t
     unfolding site_fault some_if ◌or_else◌
     bad-table w = refused (rw (eq-eqb E.scheme.n n same, w) refl)
 
     module _ (w : well_formed n E.map ≡ true) where
-      pub no_dart : (is_dart E.map E.dart and is_dart E.map E.other) ≡ false → AppliedAt n E t (Refused NoDart) t
+      pub no_dart : (is_dart E.map E.dart and is_dart E.map E.other) ≡ false → AppliedAt n E t (Err NoDart) t
       unfolding site_fault some_if ◌or_else◌
       no_dart e = refused (rw (eq-eqb E.scheme.n n same, w, e) refl)
 

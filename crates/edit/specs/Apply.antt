@@ -1,6 +1,6 @@
 -- An accepted scheme at a dart: what is known between the phases, and what comes of it.
 use Rattle.std.specs.Prelude.{ℕ, ◌*◌, ◌≡◌, true, cond, List, length}
-use Rattle.std.proofs.Math.Option.{Option}
+use Rattle.std.specs.Prelude.{Option}
 use Rattle.base.specs.Below.{count_below}
 use Rattle.base.specs.First.{there}
 use Rattle.model.specs.Map.{Map, table_of, unused}
@@ -9,9 +9,8 @@ use Rattle.model.specs.Site.{Site}
 use Rattle.model.specs.Match.{matches}
 use Rattle.model.specs.Edit.{edited}
 use Rattle.model.specs.Calls.{fit_fault, site_fault, site_done}
-use Rattle.model.specs.Answer.{answered}
+use Rattle.model.specs.Answer.{Answer, answered}
 use Rattle.model.specs.declared.Refusal.{Refusal}
-use Rattle.model.specs.declared.Answer.{Answer}
 use Rattle.model.specs.Shaped.{Coded}
 use Rattle.orbit.specs.Store.{Taken, Assigned}
 use Rattle.orbit.specs.At.{At, site, WalkedAt}

@@ -1,6 +1,6 @@
 -- The nodes of a kind in ascending order.
 use Rattle.std.specs.Prelude.{ℕ, ◌≤◌, ◌<◌, ◌≡◌, Bool, List, length, get_or, eqb}
-use Rattle.std.proofs.Math.Option.{some}
+use Rattle.std.specs.Prelude.{Some}
 use Rattle.base.specs.Below.{count_below}
 use Rattle.base.specs.First.{nth_lowest}
 use Rattle.edit.specs.declared.nodes.Nodes.{Nodes}
@@ -13,7 +13,7 @@ is_kind kinds kind s = eqb (get_or kinds s 0) kind
 pub record Listed (k : ℕ) (kinds : List ℕ) (kind : ℕ) (node : List ℕ) (size : ℕ) : Type 0 where
   pub long : length node ≡ 16
   pub total : size ≡ count_below k (is_kind kinds kind)
-  pub each : (j : ℕ) → j < size → nth_lowest k (is_kind kinds kind) j ≡ some (get_or node j 0)
+  pub each : (j : ℕ) → j < size → nth_lowest k (is_kind kinds kind) j ≡ Some (get_or node j 0)
   pub rest : (j : ℕ) → size ≤ j → get_or node j 0 ≡ 0
 
 pub record NodesOf (nodes : ℕ) (kinds : List ℕ) (kind : ℕ) (r : Nodes) : Type 0 where

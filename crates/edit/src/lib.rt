@@ -13,21 +13,20 @@ ghost use Rattle.conditions.specs.Tree.{TreeOf};
 ghost use Rattle.orbit.specs.At.{site};
 ghost use Rattle.edit.specs.Apply.{Settling, Applied};
 
-use conditions::arcs::wide;
 use conditions::tree::Tree;
-use model::{Answer, Refusal, Scheme};
+use model::{Answer, Refusal, Reply, Scheme};
 use nodes::of_kind;
 
 // The new darts and the new links of a match, where the `room` unused slots and those of the deleted darts are enough.
-fn settle<'a>(
+fn settle(
     slots: usize,
     table: &mut [u32],
     store: &mut [u32],
     c: usize,
-    kinds: &'a [u8; 16],
-    donors: &'a [u8; 16],
-    lefts: &'a [u8; 64],
-    rights: &'a [u8; 64],
+    kinds: &[u8; 16],
+    donors: &[u8; 16],
+    lefts: &[u8; 64],
+    rights: &[u8; 64],
     size: usize,
     room: usize,
     rows: &mut [usize; 16],
@@ -40,20 +39,19 @@ fn settle<'a>(
 {
     let gone = of_kind(c, kinds, 1);
     let new = of_kind(c, kinds, 3);
-    let many = new.size;
+    let added = &new.node[..new.size];
+    let many = added.len();
     if room + size * gone.size < size * many {
-        return Answer::Refused(Refusal::NoRoom);
+        return Err(Refusal::NoRoom);
     }
-    rewriting::room::prepare(
-        slots, table, store, size, &new.node, many, donors, kinds, c, rows,
-    );
-    rewriting::slots::give(slots, table, store, size, &new.node, many, rows);
+    rewriting::room::prepare(slots, table, store, size, added, donors, kinds, c, rows);
+    rewriting::slots::give(slots, table, store, size, added, rows);
     rewriting::links::rewrite(slots, table, store, size, lefts, rights, c, rows);
-    Answer::Edited {
+    Ok(Reply::Edited {
         orbit: size as u32,
         added: (size * many) as u32,
         deleted: (size * gone.size) as u32,
-    }
+    })
 }
 
 // Applies s, whose left arcs have the trees t, at the dart d, and its second hook at `other`, of a table with `room` unused slots.
@@ -61,24 +59,23 @@ pub fn apply(
     slots: usize,
     table: &mut [u32],
     store: &mut [u32],
-    s: Scheme,
-    t: Tree,
+    s: &Scheme,
+    t: &Tree,
     room: usize,
     d: usize,
     other: usize,
 ) -> Answer
     requires sized { Sized slots table.old }
-    requires sound { Sound (site_at (view slots table.old) s d other) }
-    requires tree_of { TreeOf s t }
+    requires sound { Sound (site_at (view slots table.old) s.now d other) }
+    requires tree_of { TreeOf s.now t.now }
     requires room_value { room ≡ count_below slots (unused (view slots table.old)) }
     requires store_len { length store.old ≡ 16 * slots }
-    ensures { Applied (site_at (view slots table.old) s d other) table.old result table.new }
+    ensures { Applied (site_at (view slots table.old) s.now d other) table.old result table.new }
 {
     orbit::store::unmark(slots, store);
-    let k = wide(s.places);
-    let size = orbit::walk(slots, table, s.orbit, k, store, 0, d);
-    let mut rows = [0usize; 16];
-    if !matching::assign(
+    let k = usize::from(s.places);
+    let size = orbit::walk(slots, table, &s.orbit[..k], store, 0, d);
+    let Some(mut rows) = matching::assign(
         slots,
         table,
         store,
@@ -92,11 +89,10 @@ pub fn apply(
         t.roots,
         t.size,
         &s.ltargets,
-        &mut rows,
-    ) {
-        return Answer::Refused(Refusal::NoMatch);
-    }
-    let c = wide(s.nodes);
+    ) else {
+        return Err(Refusal::NoMatch);
+    };
+    let c = usize::from(s.nodes);
     settle(
         slots,
         table,

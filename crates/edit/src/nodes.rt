@@ -11,20 +11,16 @@ pub struct Nodes {
 
 pub fn of_kind(nodes: usize, kinds: &[u8; 16], kind: u8) -> Nodes
     requires { nodes ≤ 16 }
-    ensures { NodesOf nodes kinds.now kind result }
+    ensures of_kind { NodesOf nodes kinds.now kind result }
+    ensures inside { result.size ≤ 16 }
 {
-    let mut node = [0u8; 16];
+    let mut node = [0; 16];
     let mut size = 0;
-    let mut s = 0;
-    while s < nodes {
+    for s in 0..nodes {
         if kinds[s] == kind {
             node[size] = s as u8;
             size += 1;
         }
-        s += 1;
     }
-    Nodes {
-        size: size,
-        node: node,
-    }
+    Nodes { size, node }
 }

@@ -12,24 +12,14 @@ ghost use Rattle.edit.specs.Apply.{AppliedAt};
 use crate::apply;
 use conditions::tree::Tree;
 use model::{Answer, Refusal, Scheme};
-use table::Finding;
 use table::words::state;
-
-fn wide(x: u8) -> u32
-    ensures { result ≡ x }
-{
-    x as u32
-}
 
 // x is a live slot.
 fn is_dart(slots: usize, table: &[u32], x: usize) -> bool
     requires { Sized slots table.now }
     ensures { result ≡ is_dart (view slots table.now) x }
 {
-    if slots <= x {
-        return false;
-    }
-    state(slots, table, x) == 1
+    x < slots && state(slots, table, x) == 1
 }
 
 // Refusals 6 to 10, and the edit.
@@ -38,31 +28,27 @@ pub fn apply_at(
     slots: usize,
     table: &mut [u32],
     store: &mut [u32],
-    s: Scheme,
-    t: Tree,
+    s: &Scheme,
+    t: &Tree,
     dart: usize,
     other: usize,
 ) -> Answer
-    requires fact { (n ≡ 2) ⊎ (n ≡ 3) }
-    requires accepted { Accepted s }
-    requires other_value { has_second s ≡ false → other ≡ dart }
-    requires tree_of { TreeOf s t }
+    requires dimension { (n ≡ 2) ⊎ (n ≡ 3) }
+    requires accepted { Accepted s.now }
+    requires other_value { has_second s.now ≡ false → other ≡ dart }
+    requires tree_of { TreeOf s.now t.now }
     requires sized { Sized slots table.old }
     requires store_len { length store.old ≡ 16 * slots }
-    ensures { AppliedAt n (site_at (view slots table.old) s dart other) table.old result table.new }
+    ensures { AppliedAt n (site_at (view slots table.old) s.now dart other) table.old result table.new }
 {
-    if wide(s.n) != n {
-        return Answer::Refused(Refusal::OtherDimension);
+    if u32::from(s.n) != n {
+        return Err(Refusal::OtherDimension);
     }
-    let found = table::survey(n, slots, table);
-    let Finding::Live(live) = found else {
-        return Answer::Refused(Refusal::BadTable);
+    let Some(live) = table::survey(n, slots, table) else {
+        return Err(Refusal::BadTable);
     };
-    if !is_dart(slots, table, dart) {
-        return Answer::Refused(Refusal::NoDart);
-    }
-    if !is_dart(slots, table, other) {
-        return Answer::Refused(Refusal::NoDart);
+    if !is_dart(slots, table, dart) || !is_dart(slots, table, other) {
+        return Err(Refusal::NoDart);
     }
     apply(slots, table, store, s, t, slots - live, dart, other)
 }

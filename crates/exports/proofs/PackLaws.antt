@@ -9,7 +9,7 @@ use Rattle.model.specs.File.{file}
 use Rattle.model.specs.Calls.{table_fault, check_table, bytes_fault, check_scheme, site_done, edit_fault, edit_answer, count_fault, count_answer}
 use Rattle.model.specs.Calls.{load_fault, load_answer, write_fault, write_answer}
 use Rattle.model.specs.Sequence.{Request, table_check, scheme_check, edit, count, load, write, Lent, Outcome, outcome_of}
-use Rattle.model.specs.declared.Answer.TheVariants.{Written}
+use Rattle.model.specs.declared.Reply.TheVariants.{Written}
 use Rattle.demands.specs.Promises.{Promised}
 use Rattle.word.specs.Word.{packed, Small, unpacked}
 use Rattle.word.proofs.WordLaws.{counts-back, answer_back}
@@ -28,13 +28,13 @@ module _ (n N : ℕ) (t : List ℕ) where
 
   pub answer-unpacked : (q : Request) (l : Lent) → unpacked q (packed (outcome_of n N t q l).answer) ≡ (outcome_of n N t q l).answer
   unfolding check_table check_scheme edit_answer count_answer load_answer write_answer site_done
-  answer-unpacked table_check l = answer_back table_check _ (table_fault n N t) refl (answer-small table_check l) (λ e. refl)
-  answer-unpacked (scheme_check b) l = answer_back (scheme_check b) _ (bytes_fault (in_form b) b) refl (answer-small (scheme_check b) l) (λ e. refl)
-  answer-unpacked (edit b d) l = answer_back (edit b d) _ (edit_fault n N t l.store b d) refl (answer-small (edit b d) l)
+  answer-unpacked table_check l = answer_back table_check _ (table_fault n N t) (answer-small table_check l) (λ e. refl)
+  answer-unpacked (scheme_check b) l = answer_back (scheme_check b) _ (bytes_fault (in_form b) b) (answer-small (scheme_check b) l) (λ e. refl)
+  answer-unpacked (edit b d) l = answer_back (edit b d) _ (edit_fault n N t l.store b d) (answer-small (edit b d) l)
       (λ e. counts-back b d _ _ _ (edited-small n N t l.store b d e))
-  answer-unpacked count l = answer_back count _ (count_fault n N t l.store l.output) refl (answer-small count l) (λ e. refl)
-  answer-unpacked (load b) l = answer_back (load b) _ (load_fault n N t b) refl (answer-small (load b) l) (λ e. refl)
-  answer-unpacked write l = answer_back write (Written (length (file n (view N t)))) (write_fault n N t l.output) refl (answer-small write l) (λ e. refl)
+  answer-unpacked count l = answer_back count _ (count_fault n N t l.store l.output) (answer-small count l) (λ e. refl)
+  answer-unpacked (load b) l = answer_back (load b) _ (load_fault n N t b) (answer-small (load b) l) (λ e. refl)
+  answer-unpacked write l = answer_back write (Written (length (file n (view N t)))) (write_fault n N t l.output) (answer-small write l) (λ e. refl)
 
 -- ---- an export
 

@@ -3,7 +3,7 @@ use Prim.Native.Nat.{ℕ, ◌+◌, ◌*◌, ◌≤◌, ◌<◌}
 use mathlib.Core.Path.{◌≡◌, refl, subst}
 use mathlib.Core.Logic.{⊎_elim}
 use mathlib.Core.Bool.{Bool, true}
-use mathlib.Core.Option.{Option, none, some}
+use Rattle.std.specs.Prelude.{Option, Some, None, Ok}
 use mathlib.Core.List.{List}
 use native.Mathlib.Nat.{mul-le-mul, mul-le-mul_left, mul-le-mul_right}
 use native.Mathlib.Omega.{arith}
@@ -24,8 +24,8 @@ use Rattle.model.specs.Calls.{load_fault_at, load_fault, write_fault}
 use Rattle.model.specs.declared.Darts.{Darts}
 use Rattle.model.specs.declared.Refusal.{Refusal}
 use Rattle.model.specs.declared.Refusal.TheVariants.{BadForm}
-use Rattle.model.specs.declared.Answer.{Answer}
-use Rattle.model.specs.declared.Answer.TheVariants.{Written}
+use Rattle.model.specs.declared.Reply.{Reply}
+use Rattle.model.specs.declared.Reply.TheVariants.{Written}
 use Rattle.model.proofs.SizeLaws.{sizes_iff}
 use Rattle.model.proofs.SchemeLaws.{shaped}
 use Rattle.model.proofs.CallLaws.{granted, output-passed}
@@ -38,11 +38,11 @@ use Rattle.word.specs.Word.{value_of, SmallRefusal, Small}
 
 -- every refusal that may be found is small
 abbrev Smalls : Option Refusal → Type 0
-Smalls o = (f : Refusal) → o ≡ some f → SmallRefusal f
+Smalls o = (f : Refusal) → o ≡ Some f → SmallRefusal f
 
-pub answered-small : (done : Answer) (o : Option Refusal) → Smalls o → (o ≡ none → Small done) → Small (answered done o)
-answered-small done none s d = d refl
-answered-small done (some f) s d = s f refl
+pub answered-small : (reply : Reply) (o : Option Refusal) → Smalls o → (o ≡ None → Small (Ok reply)) → Small (answered reply o)
+answered-small reply None s d = d refl
+answered-small reply (Some f) s d = s f refl
 
 small_or : (o p : Option Refusal) → Smalls o → Smalls p → Smalls (o or_else p)
 small_or o p s r f e = ⊎_elim (λ q. s f q) (λ q. r f q.1) (or_else_cases o p f e)
@@ -90,7 +90,7 @@ load-small n N t b = small_or _ _ (small_test _ _ (refl, refl, refl)) (small_tes
 -- ---- what is returned
 
 -- the counts of an edit
-counts-few : (E : Site) → E.map.slots ≤ max_slots → E.scheme.nodes ≤ 16 → Small (site_done E)
+counts-few : (E : Site) → E.map.slots ≤ max_slots → E.scheme.nodes ≤ 16 → Small (Ok (site_done E))
 unfolding site_done orbit_size added_darts deleted_darts
 counts-few E few nodes =
     let S = E.scheme in
@@ -102,13 +102,13 @@ counts-few E few nodes =
     product : (a b : ℕ) → a ≤ max_slots → b ≤ 16 → a * b < 2097152
     product a b h l = omega (arith, mul-le-mul_right b h, mul-le-mul_left max_slots l)
 
-pub edited-small : (n N : ℕ) (t store b : List ℕ) (d : Darts) → edit_fault n N t store b d ≡ none → Small (site_done (site_of N t b d))
+pub edited-small : (n N : ℕ) (t store b : List ℕ) (d : Darts) → edit_fault n N t store b d ≡ None → Small (Ok (site_done (site_of N t b d)))
 edited-small n N t store b d q =
     let g = granted n N t store b d q in
     counts-few (site_of N t b d) ((sizes_iff n N t).0 g.sizes).few (shaped b g.form).nodes_few
 
 -- the length of a file
-pub written_small : (n N : ℕ) (t out : List ℕ) → write_fault n N t out ≡ none → Small (Written (length (file n (view N t))))
+pub written_small : (n N : ℕ) (t out : List ℕ) → write_fault n N t out ≡ None → Small (Ok (Written (length (file n (view N t)))))
 unfolding write_fault live_darts
 written_small n N t out q =
     let s = (sizes_iff n N t).0 (output-passed _ n (view N t) _ out q).0 in

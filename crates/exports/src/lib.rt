@@ -24,7 +24,7 @@ pub extern "C" fn gmap_check_scheme(scheme: &[u8]) -> u64
     pack(check_scheme(scheme))
 }
 
-// The word of an edit's answer, for both exports.
+// The word of an edit's answer, for both exports: C has a function for one dart and one for two.
 fn packed_edit(
     n: u32,
     slots: u32,
@@ -67,17 +67,7 @@ pub extern "C" fn gmap_edit2(
     ensures { Packed n slots table.old (edit scheme.now (Darts.Two dart other)) (lending store.old []) result
         table.new (lending store.new []) }
 {
-    packed_edit(
-        n,
-        slots,
-        table,
-        store,
-        scheme,
-        Darts::Two {
-            dart: dart,
-            other: other,
-        },
-    )
+    packed_edit(n, slots, table, store, scheme, Darts::Two { dart, other })
 }
 
 #[unsafe(no_mangle)]

@@ -3,7 +3,7 @@ use Prim.Native.Nat.{ℕ, ◌+◌, ◌≤◌, ◌<◌}
 use mathlib.Core.Path.{◌≡◌, refl, sym, ap, ◌∙◌}
 use mathlib.Core.Logic.{⊎_elim}
 use mathlib.Core.Bool.{true, cond}
-use mathlib.Core.Option.{Option, none, some}
+use Rattle.std.specs.Prelude.{Option, Some, None}
 use mathlib.Core.List.{List}
 use native.Mathlib.Omega.{arith}
 use lib.ListN.{length, replicate, length-replicate}
@@ -35,10 +35,10 @@ filled_none w n N b t h e = record {
 -- ---- one dart more
 
 module _ (w n : ℕ) (b : List ℕ) (k x : ℕ) (f : Field) where
-  or_none : (o : Option ℕ) → (o or_else none) ≡ o
+  or_none : (o : Option ℕ) → (o or_else None) ≡ o
   unfolding ◌or_else◌
-  or_none none = refl
-  or_none (some a) = refl
+  or_none None = refl
+  or_none (Some a) = refl
 
   word-other : (slot_in w b k ≡ x → ⊥) → word_of w n b (k + 1) x f ≡ word_of w n b k x f
   unfolding word_of least some_if
@@ -75,15 +75,15 @@ filled_more w n N b k t t' F g u e = rw e (record {
 -- ---- all darts
 
 module _ (w n N : ℕ) (b : List ℕ) where
-  pub record_is : (x : ℕ) (o : Option ℕ) → place_in w b x ≡ o → ((k : ℕ) → o ≡ some k → slot_in w b k ≡ x)
+  pub record_is : (x : ℕ) (o : Option ℕ) → place_in w b x ≡ o → ((k : ℕ) → o ≡ Some k → slot_in w b k ≡ x)
       → (f : Field) → field_of (map_in w n N b) f x ≡ at_place o (λ j. row_of w n b j f)
   unfolding map_in there row_of
-  record_is x none q same State = rw q refl
-  record_is x none q same (Link i) = rw q refl
-  record_is x none q same Tag = rw q refl
-  record_is x (some k) q same State = rw q refl
-  record_is x (some k) q same (Link i) = rw q (ap (cond (leb i n) (link_in w b n k i)) (sym (same k refl)))
-  record_is x (some k) q same Tag = rw q refl
+  record_is x None q same State = rw q refl
+  record_is x None q same (Link i) = rw q refl
+  record_is x None q same Tag = rw q refl
+  record_is x (Some k) q same State = rw q refl
+  record_is x (Some k) q same (Link i) = rw q (ap (cond (leb i n) (link_in w b n k i)) (sym (same k refl)))
+  record_is x (Some k) q same Tag = rw q refl
 
   pub filled-all : (k : ℕ) (t : List ℕ) → k ≡ darts_in w b → Filled w n N b k t → t ≡ table_of (map_in w n N b)
   unfolding map_in word_of place_in

@@ -2,24 +2,26 @@
 use Prim.Native.Nat.{ℕ, ◌≤◌}
 use mathlib.Core.Path.{◌≡◌, refl, sym, ◌∙◌}
 use mathlib.Core.Bool.{Bool, true, false, cond}
+use Rattle.std.specs.Prelude.{Option, Some, None}
 use mathlib.Core.List.{List}
 use native.Mathlib.Omega.{arith}
 use lib.ListN.{length}
 use Rattle.base.specs.Test.{◌and◌}
+use Rattle.base.specs.First.{some_if}
 use Rattle.model.specs.Map.{table_of}
 use Rattle.model.specs.File.{width, tags_from, darts_in, form_in, map_in, file_form, file_map}
 use Rattle.model.specs.Calls.{zeros, loaded}
 use Rattle.file.specs.Form.{frame_ok, framed, slots_ok}
 use Rattle.file.specs.Records.{Formed}
-use Rattle.file.specs.declared.form.Framing.{Framing}
-use Rattle.file.specs.declared.form.Framing.TheVariants.{Darts, Broken}
 use Rattle.file.proofs.FormLaws.{frame_length, form-is, formed}
 
-told_darts : (t : Bool) (k j : ℕ) → cond t (Darts k) Broken ≡ Darts j → (t ≡ true) × (j ≡ k)
+told_darts : (t : Bool) (k j : ℕ) → some_if t k ≡ Some j → (t ≡ true) × (j ≡ k)
+unfolding some_if
 told_darts true k j e = (refl, cc)
 told_darts false k j e = absurd (let z : ◌≡◌ {A = ℕ} 0 1 = cc in omega arith)
 
-told_broken : (t : Bool) (k : ℕ) → cond t (Darts k) Broken ≡ Broken → t ≡ false
+told_broken : (t : Bool) (k : ℕ) → some_if t k ≡ None → t ≡ false
+unfolding some_if
 told_broken true k e = absurd (let z : ◌≡◌ {A = ℕ} 0 1 = cc in omega arith)
 told_broken false k e = refl
 
@@ -32,14 +34,14 @@ module _ (w n N : ℕ) (b : List ℕ) where
   unfolding Left
   refused t t' f z = (sym f, rw f z)
 
-  module _ (f : Framing) (e : f ≡ framed w n N b) where
-    pub load-broken : (t t' : List ℕ) → f ≡ Broken → t' ≡ zeros t → Left w n N b t t' false
+  module _ (f : Option ℕ) (e : f ≡ framed w n N b) where
+    pub load-broken : (t t' : List ℕ) → f ≡ None → t' ≡ zeros t → Left w n N b t t' false
     unfolding framed ◌and◌
     load-broken t t' q =
         let no : frame_ok w n N b ≡ false = told_broken _ _ (sym e ∙ q) in
         refused t t' (form-is w n N b ∙ rw no refl)
 
-    module _ (L : ℕ) (q : f ≡ Darts L) where
+    module _ (L : ℕ) (q : f ≡ Some L) where
       framed-darts : (frame_ok w n N b ≡ true) × (L ≡ darts_in w b)
       unfolding framed
       framed-darts = told_darts _ _ L (sym e ∙ q)

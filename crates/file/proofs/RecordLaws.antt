@@ -2,11 +2,12 @@
 use Prim.Native.Nat.{ℕ, zero, suc, ◌+◌, ◌*◌, ◌≤◌, ◌<◌}
 use mathlib.Core.Path.{◌≡◌, refl, sym, ap, ◌∙◌}
 use mathlib.Core.Logic.{⊎_elim}
-use mathlib.Core.List.{List}
+use mathlib.Core.List.{List, [], ◌∷◌}
 use native.Mathlib.Nat.{mul-le-mul_left}
 use native.Mathlib.Omega.{arith}
 use lib.ListN.{length}
 use borrow.Author.Tests.{le-leb}
+use Rattle.base.specs.Lists.{list, list_from}
 use Rattle.base.specs.Digits.{number_at}
 use Rattle.base.proofs.BelowLaws.{below_suc}
 use Rattle.model.specs.Map.{Field, State, Link, Tag, dimension, field_at, put}
@@ -14,8 +15,9 @@ use Rattle.model.proofs.MapLaws.{state_not_tag, state_not_link, tag_not_link, pu
 use Rattle.table.specs.Words.{Sized}
 use Rattle.table.proofs.WordLaws.{put-sized}
 use Rattle.model.specs.File.{slots_from, tags_from, links_from, darts_in, slot_in, tag_in, link_in}
+use Rattle.numbers.specs.Places.{NumberRead}
+use Rattle.numbers.specs.declared.Cursor.{Cursor}
 use Rattle.file.specs.Records.{Formed, LinksOf, link_of, link_word, row_of, put_row, put_links}
-use Rattle.file.specs.declared.records.Links.{Links}
 
 -- ---- the links of a dart
 
@@ -36,10 +38,21 @@ module _ (w n : ℕ) (b : List ℕ) (at x : ℕ) where
   link-flat e = rw e refl
 
 -- four links, as they are put
-pub links-put : (t t1 t2 t3 t4 : List ℕ) (x : ℕ) (l : Links) → t1 ≡ put t (Link 0) x l.a0 → t2 ≡ put t1 (Link 1) x l.a1
-    → t3 ≡ put t2 (Link 2) x l.a2 → t4 ≡ put t3 (Link 3) x l.a3 → t4 ≡ put_links t x (link_of l) 4
-unfolding put_links link_of
+pub links-put : (t t1 t2 t3 t4 : List ℕ) (x : ℕ) (l : List ℕ) → t1 ≡ put t (Link 0) x (link_of l 0) → t2 ≡ put t1 (Link 1) x (link_of l 1)
+    → t3 ≡ put t2 (Link 2) x (link_of l 2) → t4 ≡ put t3 (Link 3) x (link_of l 3) → t4 ≡ put_links t x (link_of l) 4
+unfolding put_links
 links-put t t1 t2 t3 t4 x l p q r s = rw (s, r, q, p) refl
+
+-- the links of x, where the first three were read one after the other
+pub links-of : (w n : ℕ) (b : List ℕ) (at x : ℕ) (r s t : ℕ × Cursor) (last : ℕ) → 2 ≤ n → NumberRead w b at r → NumberRead w b r.1.at s
+    → NumberRead w b s.1.at t → last ≡ link_word w n b at x 3 → LinksOf w n b at x (r.0 ∷ s.0 ∷ t.0 ∷ last ∷ [])
+unfolding list list_from
+links-of w n b at x r s t last h e f g l = rw (
+  ← l,
+  ← link_here w n b at x 0 _ _ (omega arith) (omega arith) e.value,
+  ← link_here w n b at x 1 _ _ (omega arith) (omega arith) f.value,
+  ← link_here w n b at x 2 _ _ (omega arith) (omega arith) g.value,
+) refl
 
 -- ---- a record
 
@@ -80,12 +93,12 @@ module _ (t : List ℕ) (x : ℕ) (g : Field → ℕ) where
   row_same N s h Tag l = put_same _ Tag x (g Tag) (omega arith) N (links-sized N _ x _ 4 (put-sized t State x (g State) N s)).long h
 
 -- the words of the k-th dart, as they are put
-pub entered : (w n : ℕ) (b : List ℕ) (k x v at tagged : ℕ) (l : Links) (t t1 t2 t3 : List ℕ)
+pub entered : (w n : ℕ) (b : List ℕ) (k x v at tagged : ℕ) (l : List ℕ) (t t1 t2 t3 : List ℕ)
     → x ≡ slot_in w b k → at ≡ links_from w (darts_in w b) + w + w * ((n + 1) * k) → v ≡ number_at 4 b tagged
     → tagged ≡ tags_from w (darts_in w b) + w + 4 * k → LinksOf w n b at x l
     → t1 ≡ put t State x 1 → t2 ≡ put_links t1 x (link_of l) 4 → t3 ≡ put t2 Tag x v → t3 ≡ put_row t (slot_in w b k) (row_of w n b k)
-unfolding put_row row_of put_links link_of link_word link_in tag_in
-entered w n b k x v at tagged l t t1 t2 t3 e f g h u p q r = rw (r, q, p, u.a0, u.a1, u.a2, u.a3, g, h, f, e) refl
+unfolding put_row row_of put_links link_word link_in tag_in list list_from
+entered w n b k x v at tagged l t t1 t2 t3 e f g h u p q r = rw (r, q, p, u, g, h, f, e) refl
 
 -- the links of a dart stand within the bytes, and its slot is below the number of slots
 module _ (w n N : ℕ) (b : List ℕ) (F : Formed w n N b) (L k : ℕ) (e : L ≡ darts_in w b) (h : k < L) where

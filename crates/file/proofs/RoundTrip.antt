@@ -4,7 +4,7 @@ use Prim.Native.Nat.{ℕ, ◌+◌, ◌*◌, ◌^◌, ◌≤◌, ◌<◌}
 use mathlib.Core.Path.{◌≡◌, refl, sym, ap, ◌∙◌}
 use mathlib.Core.Logic.{◌⊎◌, ⊎_elim}
 use mathlib.Core.Bool.{true, false, cond, true≢false}
-use mathlib.Core.Option.{none, some}
+use Rattle.std.specs.Prelude.{Some, None}
 use mathlib.Core.List.{List}
 use native.Mathlib.Nat.{eq-or-lt_of_le}
 use native.Mathlib.Omega.{arith}
@@ -79,13 +79,13 @@ module _ (w n : ℕ) (m : Map) (h : n < 256) (few : m.slots < 256 ^ w) where
       (all_of (live_darts m) _ (λ k l. let d = dart-at k l in and_of
       (lt-ltb (slot_in w b k) m.slots (rw d.4 d.1)) (all_of k _ (λ o g. lt-ltb (slot_in w b o) (slot_in w b k) (ordered o k g l))))))
 
-  place-live : (x : ℕ) → x < m.slots → m.state x ≡ 1 → place_in w b x ≡ some (count_below x (live m))
+  place-live : (x : ℕ) → x < m.slots → m.state x ≡ 1 → place_in w b x ≡ Some (count_below x (live m))
   unfolding live_darts place_in
   place-live x g e = rw darts-loaded
       (least-only (live_darts m) _ (count_below x (live m)) (count_lt (live m) x m.slots g (eq-eqb _ _ e)) (eq-eqb _ _ (slot-back w n m x g e (omega arith)))
       (λ j l t. let d = dart-at j l in sym d.3 ∙ ap (λ (y : ℕ). count_below y (live m)) (sym d.4 ∙ eqb-true _ _ t)))
 
-  place-unused : (x : ℕ) → live m x ≡ false → place_in w b x ≡ none
+  place-unused : (x : ℕ) → live m x ≡ false → place_in w b x ≡ None
   unfolding place_in
   place-unused x e = rw darts-loaded (least-none_of (live_darts m) _ (λ k l.
       let d = dart-at k l in
@@ -113,10 +113,10 @@ module _ (w n : ℕ) (m : Map) (h : n < 256) (few : m.slots < 256 ^ w) where
     record_back : (f : Field) (x : ℕ) → dimension f ≤ 3 → x < m.slots → field_of (map_in w n m.slots b) f x ≡ cond (live m x) (field_of m f x) 0
     record_back f x l g = ⊎_elim
         (λ (t : live m x ≡ true). let e = eqb-true (m.state x) 1 t in
-        rw t (record_is w n m.slots b x (some (count_below x (live m))) (place-live x g e)
+        rw t (record_is w n m.slots b x (Some (count_below x (live m))) (place-live x g e)
         (λ k q. let z : count_below x (live m) ≡ k = cc in ap (slot_in w b) (sym z) ∙ slot-back w n m x g e (omega arith)) f
         ∙ live_record x g e f l))
-        (λ (t : live m x ≡ false). rw t (record_is w n m.slots b x none (place-unused x t) (λ k q. absurd (some_not_none q refl)) f))
+        (λ (t : live m x ≡ false). rw t (record_is w n m.slots b x None (place-unused x t) (λ k q. absurd (some_not_none q refl)) f))
         (true_or_false (live m x))
 
 -- the same of a map file, whose numbers are large enough for its slots

@@ -29,6 +29,10 @@ unfolding link_bytes
 length-links w m x k = length-joined w _ (λ i. length-bytes w (m.link i x)) k
 
 module _ (w : ℕ) (m : Map) (x : ℕ) (l : List ℕ) (at : ℕ) where
+  pub link-none : Put l at (link_bytes w m x 0) l at
+  unfolding link_bytes joined
+  link-none = record { bytes = refl; after = sym (add-zero at) }
+
   pub link-first : (l' : List ℕ) (p : ℕ) → Put l at (bytes_of w (m.link 0 x)) l' p → Put l at (link_bytes w m x 1) l' p
   unfolding link_bytes joined
   link-first l' p y = y
@@ -43,6 +47,8 @@ module _ (w : ℕ) (m : Map) (x : ℕ) (l : List ℕ) (at : ℕ) where
 
     pub links-all : (n : ℕ) → i ≡ suc n → Put l at (link_bytes w m x (suc n)) l' p
     links-all n e = rw (← e) u
+
+pub ruleset link_rooms = (link-room, links-all)
 
 -- ---- what a section has of a dart
 
@@ -77,6 +83,8 @@ module _ (w n : ℕ) (part : Part) where
   pub size-links : part ≡ Links → part_size w n part ≡ w * (n + 1)
   unfolding part_size
   size-links e = rw e
+
+pub ruleset part_sizes = (size-slot, size-tag, size-links)
 
 -- ---- a section
 

@@ -1,12 +1,11 @@
 -- The form of a file whose numbers have w bytes, test by test. It stands for `form_in` (proofs/FormLaws.antt).
-use Rattle.std.specs.Prelude.{ℕ, ◌+◌, ◌≡◌, ◌⊎◌, Bool, cond, List, length, eqb, ltb}
+use Rattle.std.specs.Prelude.{ℕ, ◌+◌, ◌≡◌, ◌⊎◌, Bool, Option, List, length, eqb, ltb}
 use Rattle.base.specs.Test.{◌and◌}
 use Rattle.base.specs.Below.{all_below}
+use Rattle.base.specs.First.{some_if}
 use Rattle.base.specs.Digits.{number_at}
 use Rattle.model.specs.File.{width, tags_from, links_from, size_in, darts_in, slot_in}
 use Rattle.numbers.specs.Places.{Width}
-use Rattle.file.specs.declared.form.Framing.{Framing}
-use Rattle.file.specs.declared.form.Framing.TheVariants.{Darts, Broken}
 
 -- the numbers have two bytes or four, and n is 2 or 3
 pub record Kind (w n : ℕ) : Type 0 where
@@ -27,8 +26,9 @@ file_size n L = size_in width n L
 unfoldable pub frame_ok : ℕ → ℕ → ℕ → List ℕ → Bool
 frame_ok w n N b = head_ok w n N b and counts_ok w b (darts_in w b) and eqb (length b) (size_in w n (darts_in w b))
 
-unfoldable pub framed : ℕ → ℕ → ℕ → List ℕ → Framing
-framed w n N b = cond (frame_ok w n N b) (Darts (darts_in w b)) Broken
+-- how many darts the frame has room for
+unfoldable pub framed : ℕ → ℕ → ℕ → List ℕ → Option ℕ
+framed w n N b = some_if (frame_ok w n N b) (darts_in w b)
 
 -- each of the first k slots is below the one after it
 unfoldable pub rises : ℕ → List ℕ → ℕ → Bool

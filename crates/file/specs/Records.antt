@@ -1,10 +1,10 @@
 -- The records of a file's darts, word by word.
-use Rattle.std.specs.Prelude.{ℕ, zero, suc, ◌+◌, ◌*◌, ◌<◌, ◌≡◌, cond, List, length, eqb, leb}
+use Rattle.std.specs.Prelude.{ℕ, zero, suc, ◌+◌, ◌*◌, ◌<◌, ◌≡◌, cond, List, length, get_or, eqb, leb}
 use Rattle.base.specs.First.{least}
+use Rattle.base.specs.Lists.{list}
 use Rattle.base.specs.Digits.{number_at}
 use Rattle.model.specs.File.{size_in, at_place, darts_in, slot_in, tag_in, link_in}
 use Rattle.model.specs.Map.{Field, State, Link, Tag, put}
-use Rattle.file.specs.declared.records.Links.{Links}
 
 -- what the form says of the darts
 pub record Formed (w n N : ℕ) (b : List ℕ) : Type 0 where
@@ -16,18 +16,12 @@ pub record Formed (w n N : ℕ) (b : List ℕ) : Type 0 where
 unfoldable pub link_word : ℕ → ℕ → List ℕ → ℕ → ℕ → ℕ → ℕ
 link_word w n b at x i = cond (leb i n) (number_at w b (at + w * i)) x
 
-unfoldable pub link_of : Links → ℕ → ℕ
-link_of l zero = l.a0
-link_of l (suc zero) = l.a1
-link_of l (suc (suc zero)) = l.a2
-link_of l (suc (suc (suc i))) = l.a3
+abbrev pub link_of : List ℕ → ℕ → ℕ
+link_of l i = get_or l i 0
 
 -- l has the links of x
-pub record LinksOf (w n : ℕ) (b : List ℕ) (at x : ℕ) (l : Links) : Type 0 where
-  pub a0 : l.a0 ≡ link_word w n b at x 0
-  pub a1 : l.a1 ≡ link_word w n b at x 1
-  pub a2 : l.a2 ≡ link_word w n b at x 2
-  pub a3 : l.a3 ≡ link_word w n b at x 3
+abbrev pub LinksOf : (w n : ℕ) (b : List ℕ) (at x : ℕ) (l : List ℕ) → Type 0
+LinksOf w n b at x l = l ≡ list 4 (link_word w n b at x)
 
 -- the words of the k-th dart
 unfoldable pub row_of : ℕ → ℕ → List ℕ → ℕ → Field → ℕ

@@ -14,12 +14,12 @@ ghost use Rattle.table.specs.Words.{Sized};
 ghost use Rattle.file.specs.Form.{file_size};
 
 use base::clear;
-use form::{Framing, ascending, frame};
+use form::{ascending, frame};
 use places::size_in;
 use records::fill;
 use sections::{Part, head, section};
 
-// How many bytes N, a count, a slot and a link have in a file. What takes w below is compiled for this constant.
+// How many bytes N, a count, a slot and a link have in a file.
 const WIDTH: usize = 2;
 
 // How many bytes the file of a map with so many live darts has.
@@ -27,40 +27,37 @@ pub fn size(n: u32, darts: usize) -> usize
     requires { (n ≤ 3) × (darts ≤ 65535) }
     ensures { (result ≡ file_size n darts) × (result < 2 ^ 32) }
 {
-    size_in(WIDTH, n, darts)
+    size_in::<WIDTH>(n, darts)
 }
 
 // The darts of a file in a table, all other records zero; or a table of zeros, where the bytes are no file for n and the number of slots.
 pub fn load(n: u32, slots: usize, table: &mut [u32], bytes: &[u8]) -> bool
-    requires fact { (n ≡ 2) ⊎ (n ≡ 3) }
+    requires dimension { (n ≡ 2) ⊎ (n ≡ 3) }
     requires sized { Sized slots table.old }
     ensures { (result ≡ file_form n slots bytes.now) × (table.new ≡ loaded n slots table.old bytes.now) }
 {
     clear(table);
-    let found = frame(WIDTH, n, slots, bytes);
-    match found {
-        Framing::Darts(darts) => {
-            if !ascending(WIDTH, slots, bytes, darts) {
-                return false;
-            }
-            fill(WIDTH, n, slots, table, bytes, darts);
-            true
-        }
-        Framing::Broken => false,
+    let Some(darts) = frame::<WIDTH>(n, slots, bytes) else {
+        return false;
+    };
+    if !ascending::<WIDTH>(slots, bytes, darts) {
+        return false;
     }
+    fill::<WIDTH>(n, slots, table, bytes, darts);
+    true
 }
 
 // The file of a map with `live` live darts, at the start of `out`.
 pub fn write(n: u32, slots: usize, table: &[u32], live: usize, out: &mut [u8])
-    requires fact { (n ≡ 2) ⊎ (n ≡ 3) }
+    requires dimension { (n ≡ 2) ⊎ (n ≡ 3) }
     requires sized { Sized slots table.now }
     requires live_value { live ≡ live_darts (view slots table.now) }
-    requires table_in_bounds { length (file n (view slots table.now)) ≤ length out.old }
+    requires file_in_bounds { length (file n (view slots table.now)) ≤ length out.old }
     ensures { out.new ≡ file n (view slots table.now)
         ++ drop (length (file n (view slots table.now))) out.old }
 {
-    let a = head(WIDTH, n, slots, out);
-    let b = section(Part::Slots, WIDTH, n, slots, table, live, out, a);
-    let c = section(Part::Tags, WIDTH, n, slots, table, live, out, b);
-    let _end = section(Part::Links, WIDTH, n, slots, table, live, out, c);
+    let a = head::<WIDTH>(n, slots, out);
+    let b = section::<WIDTH>(Part::Slots, n, slots, table, live, out, a);
+    let c = section::<WIDTH>(Part::Tags, n, slots, table, live, out, b);
+    let _end = section::<WIDTH>(Part::Links, n, slots, table, live, out, c);
 }

@@ -1,4 +1,4 @@
-// The three sections of a file as they are written, with numbers of w bytes: a count, and then something of each live dart.
+// The three sections of a file as they are written, with numbers of W bytes: a count, and then something of each live dart.
 ghost use Rattle.std.specs.Prelude.{◌≡◌, suc, ◌+◌, ◌*◌, ◌≤◌, ◌<◌, length};
 ghost use Rattle.base.specs.Digits.{bytes_of};
 ghost use Rattle.model.specs.Map.{view, max_slots};
@@ -19,8 +19,7 @@ pub enum Part {
 }
 
 // αi(x)
-fn link(
-    w: usize,
+fn link<const W: usize>(
     slots: usize,
     table: &[u32],
     i: usize,
@@ -28,17 +27,17 @@ fn link(
     out: &mut [u8],
     from: Cursor,
 ) -> Cursor
-    requires width { Width w }
+    requires width { Width W }
     requires sized { Sized slots table.now }
-    requires x_lt_slots { (x < slots) × (i ≤ 3) × (from.at + w ≤ length out.old) }
-    ensures { Put out.old from.at (bytes_of w ((view slots table.now).link i x)) out.new result.at }
+    requires x_lt_slots { (x < slots) × (i ≤ 3) × (from.at + W ≤ length out.old) }
+    ensures { Put out.old from.at (bytes_of W ((view slots table.now).link i x)) out.new result.at }
 {
-    from.put(w, out, word(slots, table, i, x))
+    from.put::<W>(out, word(slots, table, i, x))
 }
 
 // α0(x) to αn(x)
-fn links(
-    w: usize,
+#[tactic(auto, using(crate::proofs::SectionLaws::link_rooms))]
+fn links<const W: usize>(
     n: u32,
     slots: usize,
     table: &[u32],
@@ -46,24 +45,25 @@ fn links(
     out: &mut [u8],
     from: Cursor,
 ) -> Cursor
-    requires kind { Kind w n }
+    requires kind { Kind W n }
     requires sized { Sized slots table.now }
-    requires x_lt_slots { (x < slots) × (from.at + w * (n + 1) ≤ length out.old) }
-    ensures { Put out.old from.at (link_bytes w (view slots table.now) x (suc n)) out.new result.at }
+    requires x_lt_slots { (x < slots) × (from.at + W * (n + 1) ≤ length out.old) }
+    ensures { Put out.old from.at (link_bytes W (view slots table.now) x (suc n)) out.new result.at }
 {
-    let a = link(w, slots, table, 0, x, out, from);
-    let b = link(w, slots, table, 1, x, out, a);
-    let c = link(w, slots, table, 2, x, out, b);
-    if n == 2 {
-        return c;
+    let mut at = from;
+    for i in 0..3 {
+        at = link::<W>(slots, table, i, x, out, at);
     }
-    link(w, slots, table, 3, x, out, c)
+    if n == 2 {
+        return at;
+    }
+    link::<W>(slots, table, 3, x, out, at)
 }
 
 // What a section has of x.
-fn dart(
+#[tactic(auto, using(crate::proofs::SectionLaws::part_sizes))]
+fn dart<const W: usize>(
     part: Part,
-    w: usize,
     n: u32,
     slots: usize,
     table: &[u32],
@@ -71,33 +71,32 @@ fn dart(
     out: &mut [u8],
     from: Cursor,
 ) -> Cursor
-    requires kind { Kind w n }
+    requires kind { Kind W n }
     requires sized { Sized slots table.now }
-    requires x_lt_slots { (x < slots) × (from.at + part_size w n part ≤ length out.old) }
-    ensures { Put out.old from.at (part_bytes w n (view slots table.now) part x) out.new result.at }
+    requires x_lt_slots { (x < slots) × (from.at + part_size W n part ≤ length out.old) }
+    ensures { Put out.old from.at (part_bytes W n (view slots table.now) part x) out.new result.at }
 {
     match part {
-        Part::Slots => from.put(w, out, x as u32),
-        Part::Tags => from.put_four(out, tag(slots, table, x)),
-        Part::Links => links(w, n, slots, table, x, out, from),
+        Part::Slots => from.put::<W>(out, x as u32),
+        Part::Tags => from.put::<4>(out, tag(slots, table, x)),
+        Part::Links => links::<W>(n, slots, table, x, out, from),
     }
 }
 
 // n and the number of slots, at the start of `out`.
-pub fn head(w: usize, n: u32, slots: usize, out: &mut [u8]) -> Cursor
-    requires kind { Kind w n }
-    requires slots_le_max_slots { (slots ≤ max_slots) × (1 + w ≤ length out.old) }
-    ensures { Put out.old 0 (head_bytes w n slots) out.new result.at }
+pub fn head<const W: usize>(n: u32, slots: usize, out: &mut [u8]) -> Cursor
+    requires kind { Kind W n }
+    requires head_in_bounds { (slots ≤ max_slots) × (1 + W ≤ length out.old) }
+    ensures { Put out.old 0 (head_bytes W n slots) out.new result.at }
 {
     let start = Cursor { at: 0 };
-    let next = start.put_one(out, n);
-    next.put(w, out, slots as u32)
+    let next = start.put::<1>(out, n);
+    next.put::<W>(out, slots as u32)
 }
 
 // A section of a map with `live` live darts.
-pub fn section(
+pub fn section<const W: usize>(
     part: Part,
-    w: usize,
     n: u32,
     slots: usize,
     table: &[u32],
@@ -105,19 +104,17 @@ pub fn section(
     out: &mut [u8],
     from: Cursor,
 ) -> Cursor
-    requires kind { Kind w n }
+    requires kind { Kind W n }
     requires sized { Sized slots table.now }
     requires live_value { live ≡ live_darts (view slots table.now) }
-    requires live_in_bounds { from.at + w + part_size w n part * live ≤ length out.old }
-    ensures { Put out.old from.at (section_bytes w n (view slots table.now) part) out.new result.at }
+    requires section_in_bounds { from.at + W + part_size W n part * live ≤ length out.old }
+    ensures { Put out.old from.at (section_bytes W n (view slots table.now) part) out.new result.at }
 {
-    let mut at = from.put(w, out, live as u32);
-    let mut x = 0;
-    while x < slots {
+    let mut at = from.put::<W>(out, live as u32);
+    for x in 0..slots {
         if state(slots, table, x) == 1 {
-            at = dart(part, w, n, slots, table, x, out, at);
+            at = dart::<W>(part, n, slots, table, x, out, at);
         }
-        x += 1;
     }
     at
 }

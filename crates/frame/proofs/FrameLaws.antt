@@ -2,24 +2,25 @@
 use Prim.Native.Nat.{ℕ, ◌+◌, ◌*◌, ◌-◌, ◌≤◌, ◌<◌}
 use mathlib.Core.Path.{◌≡◌, refl, sym, ap, ap₂, ◌∙◌}
 use mathlib.Core.Logic.{◌⊎◌, inl, inr, ⊎_elim}
-use mathlib.Core.Bool.{Bool, true, false, cond, false≢true}
+use mathlib.Core.Bool.{Bool, true, false, cond}
 use mathlib.Core.List.{List}
 use native.Mathlib.Nat.{eq-or-lt_of_le}
 use native.Mathlib.Omega.{arith}
 use lib.ListN.{length}
 use lib.Dec.{eqb, leb}
-use borrow.Author.Tests.{le-leb, lt-leb, leb-true, leb-false, eq-eqb, ne_eqb}
+use borrow.Author.Tests.{le-leb, lt-leb, eq-eqb, ne_eqb}
 use Rattle.base.specs.Test.{◌and◌, bit}
 use Rattle.base.proofs.TestLaws.{true_or_false, refuted}
-use Rattle.model.specs.Bytes.{byte, names_second, hookless, names_donors, dimension_of, places_of, nodes_of, has_donor, node_at, kind_at, hook_bytes, arcs_at}
+use Rattle.model.specs.Bytes.{byte, names_second, hookless, names_donors, dimension_of, places_of, nodes_of, has_donor, node_at, kind_at, arcs_at}
 use Rattle.model.specs.Scheme.{Side, left, right, in_form}
 use Rattle.model.proofs.NodePlaceLaws.{node-next, node-place, node-rises}
 use Rattle.model.proofs.FormLaws.{Parts, parts, places-few, arcs-few}
 use Rattle.frame.specs.Place.{after, fits}
 use Rattle.frame.specs.Nodes.{NodeSize, NodePlace, donor_bytes, node_end, PastNode}
 use Rattle.frame.specs.Frame.{mark_of, MarksOf, LaidOut}
+use Rattle.std.specs.Prelude.{Some, None}
+use Rattle.std.specs.Int.{from_bool}
 use Rattle.frame.specs.declared.cursor.Cursor.{Cursor}
-use Rattle.frame.specs.declared.cursor.Verdict.{Verdict}
 use Rattle.frame.specs.declared.Marks.{Marks}
 use Rattle.frame.specs.declared.Layout.{Layout}
 use Rattle.frame.proofs.PlaceLaws.{fitting}
@@ -29,46 +30,42 @@ two_or_three h k = ⊎_elim (λ e. inl (sym e)) (λ l. inr (omega arith)) (eq-or
 
 -- ---- the marks of the first byte
 
-pub marked : (weight start : ℕ) → weight ≤ start → 1 ≡ mark_of weight start
-marked weight start h = sym (ap bit (le-leb _ _ h))
+-- a flag as a number
+pub from_bool-bit : (flag : Bool) → from_bool flag ≡ bit flag
+from_bool-bit true = refl
+from_bool-bit false = refl
 
-pub unmarked : (weight start : ℕ) → start < weight → 0 ≡ mark_of weight start
-unmarked weight start h = sym (ap bit (lt-leb _ _ h))
+pub marked : (weight start : ℕ) → weight ≤ start → true ≡ mark_of weight start
+marked weight start h = sym (le-leb _ _ h)
+
+pub unmarked : (weight start : ℕ) → start < weight → false ≡ mark_of weight start
+unmarked weight start h = sym (lt-leb _ _ h)
 
 -- what the mark of a weight leaves of a first byte
-rest_of : (weight start : ℕ) → start - weight * mark_of weight start ≡ cond (leb weight start) (start - weight) start
+rest_of : (weight start : ℕ) → start - weight * bit (mark_of weight start) ≡ cond (leb weight start) (start - weight) start
 rest_of weight start = less (leb weight start)
   where
     less : (c : Bool) → start - weight * bit c ≡ cond c (start - weight) start
     less true = omega arith
     less false = omega arith
 
--- what the first byte says: how many bytes name a second hook, whether donors are named, and n
+-- what the first byte says: whether a second hook and donors are named, and n
 pub first_told : (b : List ℕ) {start : ℕ} {m : Marks} → start ≡ byte b 0 → MarksOf start m
-    → (m.hook ≡ hook_bytes b) × (m.donors ≡ bit (names_donors b)) × (m.n ≡ dimension_of b)
-unfolding names_second hookless names_donors dimension_of hook_bytes
+    → (m.hook ≡ names_second b) × (m.donors ≡ names_donors b) × (m.n ≡ dimension_of b)
+unfolding names_second hookless names_donors dimension_of
 first_told b {start} {m} e w =
     let hook : m.hook ≡ mark_of 32 (byte b 0) = w.hook_is ∙ ap (mark_of 32) e in
-    let rest : start - 32 * m.hook ≡ hookless b = ap₂ (λ (s k : ℕ). s - 32 * k) e hook ∙ rest_of 32 (byte b 0) in
+    let rest : start - 32 * bit m.hook ≡ hookless b = ap₂ (λ (s : ℕ) (k : Bool). s - 32 * bit k) e hook ∙ rest_of 32 (byte b 0) in
     let donors : m.donors ≡ mark_of 16 (hookless b) = w.donors_is ∙ ap (mark_of 16) rest in
-    (hook, donors, w.n_is ∙ ap₂ (λ (s k : ℕ). s - 16 * k) rest donors ∙ rest_of 16 (hookless b))
-
--- a mark that is not there, and one that is
-pub no_mark : (c : Bool) {mark : ℕ} → mark ≡ bit c → mark ≡ 0 → c ≡ false
-no_mark true e h = absurd (omega arith)
-no_mark false e h = refl
-
-pub has-mark : (c : Bool) {mark : ℕ} → mark ≡ bit c → (mark ≡ 0 → ⊥) → c ≡ true
-has-mark true e h = refl
-has-mark false e h = absurd (h e)
+    (hook, donors, w.n_is ∙ ap₂ (λ (s : ℕ) (k : Bool). s - 16 * bit k) rest donors ∙ rest_of 16 (hookless b))
 
 -- ---- where the nodes are
 
 module _ (b : List ℕ) where
   -- how many bytes name a donor
-  donor-bytes : {donors : ℕ} (kind : ℕ) → donors ≡ bit (names_donors b) → donor_bytes donors kind ≡ bit (has_donor b kind)
+  donor-bytes : {donors : Bool} (kind : ℕ) → donors ≡ names_donors b → donor_bytes donors kind ≡ bit (has_donor b kind)
   unfolding has_donor ◌and◌
-  donor-bytes {donors} kind e = ap (λ (d : ℕ). cond (eqb kind 3) d 0) e ∙ joined (names_donors b) (eqb kind 3)
+  donor-bytes kind e = ap (λ (d : Bool). cond (eqb kind 3) (bit d) 0) e ∙ joined (names_donors b) (eqb kind 3)
     where
       joined : (c d : Bool) → cond d (bit c) 0 ≡ bit (c and d)
       joined true true = refl
@@ -77,7 +74,7 @@ module _ (b : List ℕ) where
       joined false false = refl
 
   -- the next node comes after the words of node s and its donor, if it has one
-  pub node-after : {donors kind place extra : ℕ} (s : ℕ) → donors ≡ bit (names_donors b) → kind ≡ kind_at b s → place ≡ node_at b s + 1 + 2 * places_of b
+  pub node-after : {donors : Bool} {kind place extra : ℕ} (s : ℕ) → donors ≡ names_donors b → kind ≡ kind_at b s → place ≡ node_at b s + 1 + 2 * places_of b
       → extra ≡ donor_bytes donors kind → place + extra ≡ node_at b (s + 1)
   node-after {kind} {extra} s d k p e =
       let one : extra ≡ bit (has_donor b (kind_at b s)) = e ∙ donor-bytes kind d ∙ ap (λ (x : ℕ). bit (has_donor b x)) k in
@@ -85,26 +82,17 @@ module _ (b : List ℕ) where
 
 -- stepping over the node at `at`, if donors are named: its words, or its donor, may lie outside the bytes
 module _ (b : List ℕ) (size at : ℕ) where
-  outside : (from : Cursor) → length b < node_end b size at → PastNode b size at (record { ok = false; next = from })
-  outside from h = record { ok_is = sym (lt-leb _ _ h); next_is = λ e. absurd (false≢true e) }
+  pub words-cut : length b < at + size → PastNode b size at None
+  words-cut h = omega arith
 
-  within : (past : ℕ) → past ≡ node_end b size at → past ≤ length b → PastNode b size at (record { ok = true; next = record { at = past } })
-  within past e h = record { ok_is = sym (le-leb _ _ (rw e at h)); next_is = λ q. e }
+  pub plain-past : {kind : ℕ} → kind ≡ byte b at → (kind ≡ 3 → ⊥) → at + size ≤ length b → PastNode b size at (Some (record { at = at + size }))
+  plain-past k h l = rw (ne_eqb _ _ (λ e. h (k ∙ e))) (omega arith, l)
 
-  pub words-cut : (from : Cursor) → length b < at + size → PastNode b size at (record { ok = false; next = from })
-  words-cut from h = outside from (omega arith)
+  pub donor-cut : {kind : ℕ} → kind ≡ byte b at → kind ≡ 3 → length b ≤ at + size → PastNode b size at None
+  donor-cut k h l = rw (eq-eqb _ _ (sym k ∙ h)) (omega arith)
 
-  pub plain-past : {kind : ℕ} → kind ≡ byte b at → (kind ≡ 3 → ⊥) → at + size ≤ length b
-      → PastNode b size at (record { ok = true; next = record { at = at + size } })
-  plain-past k h l = within (at + size) (rw (ne_eqb _ _ (λ e. h (k ∙ e))) (omega arith)) l
-
-  pub donor-cut : {kind : ℕ} (from : Cursor) → kind ≡ byte b at → kind ≡ 3 → length b ≤ at + size
-      → PastNode b size at (record { ok = false; next = from })
-  donor-cut from k h l = outside from (rw (eq-eqb _ _ (sym k ∙ h)) (omega arith))
-
-  pub donor-past : {kind : ℕ} → kind ≡ byte b at → kind ≡ 3 → at + size < length b
-      → PastNode b size at (record { ok = true; next = record { at = at + size + 1 } })
-  donor-past k h l = within (at + size + 1) (rw (eq-eqb _ _ (sym k ∙ h)) refl) (omega arith)
+  pub donor-past : {kind : ℕ} → kind ≡ byte b at → kind ≡ 3 → at + size < length b → PastNode b size at (Some (record { at = at + size + 1 }))
+  donor-past k h l = rw (eq-eqb _ _ (sym k ∙ h)) (refl, omega arith)
 
 -- ---- the form is refuted
 
@@ -150,20 +138,15 @@ module _ (b : List ℕ) where
   other-end h = impossible (λ f. h (omega arith))
 
 -- stepping over node s, if donors are named: the next node follows it, or it does not lie within the bytes
-module _ {b : List ℕ} {places w s at : ℕ} {r : Verdict} (z : NodeSize b places 1) (e : w ≡ places) (p : NodePlace b s at)
-    (n : PastNode b (1 + 2 * w) at r) where
+module _ {b : List ℕ} {places w s at : ℕ} (z : NodeSize b places true) (e : w ≡ places) (p : NodePlace b s at) where
   next : node_end b (1 + 2 * w) at ≡ node_at b (s + 1)
   next = node-after b s z.donors_is (ap (byte b) p.place_is) (omega (arith, z.places_is, p.place_is)) refl
 
-  pub node-passed : r.ok ≡ true → NodePlace b (s + 1) r.next.at
-  node-passed h =
-      let here : r.next.at ≡ node_end b (1 + 2 * w) at = n.next_is h in
-      record { place_is = here ∙ next; inside = rw here (leb-true _ _ (sym n.ok_is ∙ h)) }
+  pub node-passed : {c : Cursor} → PastNode b (1 + 2 * w) at (Some c) → NodePlace b (s + 1) c.at
+  node-passed n = record { place_is = n.0 ∙ next; inside = n.1 }
 
-  pub node-cut : s < nodes_of b → r.ok ≡ false → in_form b ≡ false
-  node-cut l h =
-      let out : length b < node_end b (1 + 2 * w) at = leb-false _ _ (sym n.ok_is ∙ h) in
-      no_node b s l (rw next at out)
+  pub node-cut : s < nodes_of b → PastNode b (1 + 2 * w) at None → in_form b ≡ false
+  node-cut l n = no_node b s l (rw next at n)
 
 -- ---- what a layout tells
 

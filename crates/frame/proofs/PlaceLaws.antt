@@ -1,7 +1,7 @@
 -- What the cursor's answers tell of the bytes.
 use Prim.Native.Nat.{ℕ, ◌+◌, ◌≤◌, ◌<◌}
 use mathlib.Core.Path.{◌≡◌, refl, sym, ap, ◌∙◌}
-use mathlib.Core.Bool.{Bool, true, false, cond}
+use mathlib.Core.Bool.{true, false}
 use mathlib.Core.List.{List}
 use native.Mathlib.Omega.{arith}
 use borrow.Author.Tests.{lt-ltb, le-ltb, ltb-true, ltb-false, le-leb, lt-leb, leb-true}
@@ -12,24 +12,23 @@ use Rattle.base.proofs.FilledLaws.{stored_next}
 use Rattle.model.specs.Bytes.{byte}
 use Rattle.frame.specs.Place.{TakenAt, ArcAt, step_at, after, fits, section_at}
 use Rattle.frame.specs.declared.cursor.Cursor.{Cursor}
-use Rattle.frame.specs.declared.cursor.Taken.{Taken}
-use Rattle.frame.specs.declared.cursor.Step.{Step}
-use Rattle.frame.specs.declared.cursor.Step.TheVariants.{Byte, End}
-use Rattle.frame.specs.declared.cursor.Section.{Section}
-use Rattle.frame.specs.declared.cursor.Section.TheVariants.{Count, Bad}
+use Rattle.frame.proofs.OptionLaws.{cond_none}
+use Rattle.std.specs.Prelude.{Some, None}
+use Rattle.std.proofs.lemmas.Option.{cond_some, some_pair_parts}
 
 -- ---- a byte that is there
 
 -- a byte that was taken p bytes after a place
-pub taken_at : (b : List ℕ) (from p : ℕ) {at : ℕ} {r : Taken} → TakenAt b at r → at ≡ from + p → (r.value ≡ byte b (from + p)) × (r.next.at ≡ from + (p + 1))
+pub taken_at : (b : List ℕ) (from p : ℕ) {at : ℕ} {r : ℕ × Cursor} → TakenAt b at r → at ≡ from + p
+    → (r.0 ≡ byte b (from + p)) × (r.1.at ≡ from + (p + 1))
 taken_at b from p t e = (t.value_is ∙ ap (byte b) e, omega (arith, t.next_is))
 
 -- three bytes in a row are an arc
-pub arc_of_lem : (b : List ℕ) (at : ℕ) {x y z : Taken} → TakenAt b at x → TakenAt b x.next.at y → TakenAt b y.next.at z
-    → ArcAt b at (record { dim = x.value; near = y.value; far = z.value; next = z.next })
+pub arc_of_lem : (b : List ℕ) (at : ℕ) {x y z : ℕ × Cursor} → TakenAt b at x → TakenAt b x.1.at y → TakenAt b y.1.at z
+    → ArcAt b at (record { dim = x.0; near = y.0; far = z.0 }, z.1)
 arc_of_lem b at {x} {y} {z} p q r =
-    let second : x.next.at ≡ at + 1 = p.next_is in
-    let third : y.next.at ≡ at + 2 = omega (arith, q.next_is) in
+    let second : x.1.at ≡ at + 1 = p.next_is in
+    let third : y.1.at ≡ at + 2 = omega (arith, q.next_is) in
     record {
       dim_is = p.value_is;
       near_is = q.value_is ∙ ap (byte b) second;
@@ -45,30 +44,25 @@ stored-byte l base b at m {d} {i} e q w = ap (λ (x : ℕ). set d i x) w ∙ sto
 -- ---- a byte or the end
 
 module _ (b : List ℕ) (at : ℕ) where
-  pub step-byte : at < length b → Byte (byte b at) (record { at = at + 1 }) ≡ step_at b at
+  pub step-byte : at < length b → Some (byte b at, record { at = at + 1 }) ≡ step_at b at
   unfolding step_at
   step-byte h = rw (lt-ltb _ _ h) refl
 
-  pub step_end : length b ≤ at → End ≡ step_at b at
+  pub step_end : length b ≤ at → None ≡ step_at b at
   unfolding step_at
   step_end h = rw (le-ltb _ _ h) refl
 
-told_byte : (t : Bool) (v w : ℕ) (c d : Cursor) → cond t (Byte v c) End ≡ Byte w d → (t ≡ true) × (w ≡ v) × (d ≡ c)
-told_byte true v w c d e = (refl, cc, cc)
-told_byte false v w c d e = absurd (let z : ◌≡◌ {A = ℕ} 0 1 = cc in omega arith)
-
-told_end : (t : Bool) (v : ℕ) (c : Cursor) → cond t (Byte v c) End ≡ End → t ≡ false
-told_end true v c e = absurd (let z : ◌≡◌ {A = ℕ} 0 1 = cc in omega arith)
-told_end false v c e = refl
-
-module _ (b : List ℕ) {at : ℕ} {r : Step} (s : r ≡ step_at b at) where
-  pub stepped : {v : ℕ} {c : Cursor} → r ≡ Byte v c → (at < length b) × (v ≡ byte b at) × (c.at ≡ at + 1)
+module _ (b : List ℕ) {at : ℕ} where
+  pub stepped : {v : ℕ} {c : Cursor} → Some (v, c) ≡ step_at b at → (at < length b) × (v ≡ byte b at) × (c.at ≡ at + 1)
   unfolding step_at
-  stepped e = let t = told_byte _ _ _ _ _ (sym s ∙ e) in (ltb-true _ _ t.0, t.1, ap (λ (d : Cursor). d.at) t.2)
+  stepped e =
+      let t = cond_some _ _ _ (sym e) in
+      let p = some_pair_parts _ _ _ _ (ap Some t.1) in
+      (ltb-true _ _ t.0, sym p.0, ap (λ (d : Cursor). d.at) (sym p.1))
 
-  pub ended : r ≡ End → length b ≤ at
+  pub ended : None ≡ step_at b at → length b ≤ at
   unfolding step_at
-  ended e = ltb-false _ _ (told_end _ _ _ (sym s ∙ e))
+  ended e = ltb-false _ _ (cond_none _ _ (sym e))
 
 -- ---- a count
 
@@ -90,11 +84,11 @@ module _ (b : List ℕ) (at least most size : ℕ) where
   unfolding fits
   fitting f = and_of (and_of (le-leb _ _ f.some) (le-leb _ _ f.few)) (le-leb _ _ f.within)
 
-  pub section-count : {m k : ℕ} → m ≡ byte b at → k ≡ after b at size → Fitted → Count m (record { at = k }) ≡ section_at b at least most size
+  pub section-count : {m k : ℕ} → m ≡ byte b at → k ≡ after b at size → Fitted → Some (m, record { at = k }) ≡ section_at b at least most size
   unfolding section_at
   section-count p z f = rw (p, z, fitting f) refl
 
-  pub section-bad : fits b at least most size ≡ false → Bad ≡ section_at b at least most size
+  pub section-bad : fits b at least most size ≡ false → None ≡ section_at b at least most size
   unfolding section_at
   section-bad e = rw e refl
 
@@ -110,23 +104,16 @@ module _ (b : List ℕ) (at least most size : ℕ) where
   unfolding fits
   beyond h = and_no_right _ (lt-leb _ _ h)
 
-told_count : (t : Bool) (m m' : ℕ) (c c' : Cursor) → cond t (Count m c) Bad ≡ Count m' c' → (t ≡ true) × (m' ≡ m) × (c' ≡ c)
-told_count true m m' c c' e = (refl, cc, cc)
-told_count false m m' c c' e = absurd (let z : ◌≡◌ {A = ℕ} 0 1 = cc in omega arith)
-
-told_bad : (t : Bool) (m : ℕ) (c : Cursor) → cond t (Count m c) Bad ≡ Bad → t ≡ false
-told_bad true m c e = absurd (let z : ◌≡◌ {A = ℕ} 0 1 = cc in omega arith)
-told_bad false m c e = refl
-
 -- what a count's answer tells, with the place, the bound and the size as the model names them
-module _ (b : List ℕ) (at least most size : ℕ) {at' most' size' : ℕ} {r : Section} (p : at' ≡ at) (q : most' ≡ most) (z : size' ≡ size)
-    (s : r ≡ section_at b at' least most' size') where
-  pub counted : {m : ℕ} {c : Cursor} → r ≡ Count m c → (m ≡ byte b at) × (c.at ≡ after b at size) × Fitted b at least most size
+module _ (b : List ℕ) (at least most size : ℕ) {at' most' size' : ℕ} (p : at' ≡ at) (q : most' ≡ most) (z : size' ≡ size) where
+  pub counted : {m : ℕ} {c : Cursor} → Some (m, c) ≡ section_at b at' least most' size'
+      → (m ≡ byte b at) × (c.at ≡ after b at size) × Fitted b at least most size
   unfolding section_at
   counted e =
-      let t = told_count _ _ _ _ _ (sym (rw (p, q, z) at s) ∙ e) in
-      (t.1, ap (λ (d : Cursor). d.at) t.2, fitted b at least most size t.0)
+      let t = cond_some _ _ _ (sym (rw (p, q, z) at e)) in
+      let u = some_pair_parts _ _ _ _ (ap Some t.1) in
+      (sym u.0, ap (λ (d : Cursor). d.at) (sym u.1), fitted b at least most size t.0)
 
-  pub uncounted : r ≡ Bad → fits b at least most size ≡ false
+  pub uncounted : None ≡ section_at b at' least most' size' → fits b at least most size ≡ false
   unfolding section_at
-  uncounted e = told_bad _ _ _ (sym (rw (p, q, z) at s) ∙ e)
+  uncounted e = cond_none _ _ (sym (rw (p, q, z) at e))

@@ -11,8 +11,8 @@ use borrow.Author.Tests.{ne_eqb, leb-true, leb-false}
 use Rattle.base.specs.Test.{◌and◌, ◌or◌, ◌⇒◌}
 use Rattle.base.specs.Below.{all_below, count_below}
 use Rattle.base.specs.First.{least}
-use Rattle.base.proofs.TestLaws.{and_no_left, impossible, true_or_false}
-use Rattle.base.proofs.BelowLaws.{all_not, all-step, all_same, any_at, any_of, count-zero, one-to-three}
+use Rattle.base.proofs.TestLaws.{and_no_left, impossible, refuted, true_or_false}
+use Rattle.base.proofs.BelowLaws.{all-at, all_of, all_not, all-step, all_same, any_at, any_of, count-zero, one-to-three}
 use Rattle.base.proofs.FirstLaws.{least-same}
 use Rattle.base.proofs.ListLaws.{get_or-list}
 use Rattle.model.specs.Codes.{arc_code}
@@ -55,6 +55,11 @@ module _ (n kind : ℕ) (lefts rights : List ℕ) (s : ℕ) where
   pub incident_not : (i : ℕ) → i ≤ n → (b : Bool) → b ≡ AtDim i → b ≡ false → false ≡ incident_by n kind lefts rights s
   unfolding incident_by
   incident_not i h b e f = sym (all_not (suc n) AtDim i (omega arith) (sym e ∙ f))
+
+  -- the dimensions below 3 are asked in any case
+  pub incident_fewer : 2 ≤ n → all_below 3 AtDim ≡ false → false ≡ incident_by n kind lefts rights s
+  unfolding incident_by
+  incident_fewer h e = sym (refuted (λ w. all_of 3 AtDim (λ k l. all-at (suc n) AtDim w k (omega arith))) e)
 
   -- the dimensions below 3 are all that there are, or dimension 3 is left
   module _ (i : ℕ) (h : i ≤ 3) (l : 3 ≤ i) (e : all_below i AtDim ≡ true) where

@@ -1,13 +1,12 @@
 -- Cycles, over the codes of arcs.
 use Rattle.std.specs.Prelude.{ℕ, suc, ◌+◌, ◌-◌, ◌<◌, ◌≡◌, Bool, true, false, not, cond, List, get_or, eqb, ltb, leb}
-use Rattle.std.proofs.Math.Option.{Option}
+use Rattle.std.specs.Prelude.{Option, Result, ⊤}
 use Rattle.base.specs.Test.{◌and◌, ◌or◌}
 use Rattle.base.specs.First.{first, some_if}
 use Rattle.model.specs.Codes.{entry}
 use Rattle.model.specs.Answer.{fault_of}
 use Rattle.model.specs.declared.Refusal.{Refusal}
 use Rattle.model.specs.declared.Refusal.TheVariants.{BadCycle}
-use Rattle.model.specs.declared.Fault.{Fault}
 
 -- two dimensions differ by at least 2
 unfoldable pub far_apart : ℕ → ℕ → Bool
@@ -54,5 +53,5 @@ module _ (orbit kinds lefts rights : List ℕ) where
   at_node n s = first (suc n) (λ i. first (suc n) (at_pair s i))
 
   -- the offence of the least node that has one, at its first pair
-  unfoldable pub cycles_fault : ℕ → ℕ → Fault
+  unfoldable pub cycles_fault : ℕ → ℕ → Result ⊤ Refusal
   cycles_fault n nodes = fault_of (first nodes (at_node n))

@@ -2,53 +2,42 @@
 use Prim.Native.Nat.{ℕ, ◌≤◌, ◌<◌}
 use mathlib.Core.Path.{◌≡◌, refl, ◌∙◌}
 use mathlib.Core.Bool.{true, false}
-use mathlib.Core.List.{List, [], ◌∷◌}
-use native.Mathlib.Omega.{arith}
-use lib.ListN.{length, set, drop}
+use mathlib.Core.List.{List, ◌++◌}
+use lib.ListN.{length, drop}
 use borrow.Author.Tests.{lt-ltb, le-ltb}
+use Rattle.std.specs.Prelude.{Ok, Err}
 use Rattle.base.specs.First.{some_if, ◌or_else◌, there}
 use Rattle.model.specs.Map.{Map, view}
 use Rattle.model.specs.WellFormed.{well_formed}
 use Rattle.model.specs.Count.{counts}
 use Rattle.model.specs.Calls.{zeros, stored_ok, map_fault, output_fault_at, count_size, count_fault, count_answer, count_store, count_out}
-use Rattle.model.specs.declared.Answer.{Answer}
-use Rattle.model.specs.declared.Answer.TheVariants.{Done, Refused}
+use Rattle.model.specs.Answer.{Answer}
+use Rattle.model.specs.declared.Reply.TheVariants.{Done}
 use Rattle.model.specs.declared.Refusal.TheVariants.{BadCall, BadTable, ShortOutput}
 use Rattle.demands.specs.Promises.{MapCounted}
 use Rattle.demands.proofs.OneOutcome.{same_outcome}
-use Rattle.kernel.specs.Stages.{six_at, CountStaged}
-
--- six words, one after the other
-pub six-set : (out : List ℕ) (a b c d e f : ℕ) → count_size ≤ length out
-    → set (set (set (set (set (set out 0 a) 1 b) 2 c) 3 d) 4 e) 5 f ≡ a ∷ b ∷ c ∷ d ∷ e ∷ f ∷ drop count_size out
-six-set (x0 ∷ x1 ∷ x2 ∷ x3 ∷ x4 ∷ x5 ∷ l) a b c d e f h = refl
-six-set [] a b c d e f h = absurd (omega arith)
-six-set (x0 ∷ []) a b c d e f h = absurd (omega arith)
-six-set (x0 ∷ x1 ∷ []) a b c d e f h = absurd (omega arith)
-six-set (x0 ∷ x1 ∷ x2 ∷ []) a b c d e f h = absurd (omega arith)
-six-set (x0 ∷ x1 ∷ x2 ∷ x3 ∷ []) a b c d e f h = absurd (omega arith)
-six-set (x0 ∷ x1 ∷ x2 ∷ x3 ∷ x4 ∷ []) a b c d e f h = absurd (omega arith)
+use Rattle.kernel.specs.Stages.{CountStaged}
 
 -- ---- behind the test of the sizes
 
 module _ (n : ℕ) (m : Map) (out : List ℕ) where
-  pub staged_7 : well_formed n m ≡ false → CountStaged n m out (Refused BadTable) out
+  pub staged_7 : well_formed n m ≡ false → CountStaged n m out (Err BadTable) out
   unfolding output_fault_at map_fault some_if ◌or_else◌ there
   staged_7 w = record { answer = rw w refl; output = rw w refl }
 
   module _ (w : well_formed n m ≡ true) where
-    pub staged_12 : length out < count_size → CountStaged n m out (Refused ShortOutput) out
+    pub staged_12 : length out < count_size → CountStaged n m out (Err ShortOutput) out
     unfolding output_fault_at map_fault some_if ◌or_else◌ there
     staged_12 h = let s = lt-ltb (length out) count_size h in record { answer = rw (w, s) refl; output = rw (w, s) refl }
 
-    pub staged_0 : count_size ≤ length out → (c out' : List ℕ) → c ≡ counts n m → out' ≡ six_at c out → CountStaged n m out Done out'
+    pub staged_0 : count_size ≤ length out → (c out' : List ℕ) → c ≡ counts n m → out' ≡ c ++ drop count_size out → CountStaged n m out (Ok Done) out'
     unfolding output_fault_at map_fault some_if ◌or_else◌ there counts
     staged_0 h c out' q e = let s = le-ltb (length out) count_size h in record { answer = rw (w, s) refl; output = e ∙ rw (w, s, q) refl }
 
 -- ---- the call
 
 module _ (n N : ℕ) (t store out : List ℕ) where
-  pub count_unfit : stored_ok n N t store ≡ false → MapCounted n N t store out (Refused BadCall) store out
+  pub count_unfit : stored_ok n N t store ≡ false → MapCounted n N t store out (Err BadCall) store out
   unfolding count_answer count_store count_out count_fault output_fault_at map_fault some_if ◌or_else◌ there
   count_unfit e = same_outcome (rw e refl) refl (rw e refl) (rw e refl)
 

@@ -2,8 +2,8 @@
 use Prim.Native.Nat.{ℕ}
 use mathlib.Core.Path.{◌≡◌, refl, sym, ap, ◌∙◌, subst}
 use mathlib.Core.Logic.{by_cases}
-use mathlib.Core.Bool.{Bool, true, false, not, true≢false}
-use mathlib.Core.Option.{Option, none, some}
+use mathlib.Core.Bool.{Bool, true, false, not}
+use Rattle.std.specs.Prelude.{Some, None, Ok, Err}
 use mathlib.Core.List.{List}
 use native.Mathlib.Decide.{ℕ_discrete}
 use native.Mathlib.Omega.{arith}
@@ -11,32 +11,29 @@ use lib.ListN.{length}
 use borrow.Author.Tests.{eqb-true, eqb-false, eq-eqb, ne_eqb, ltb-true, ltb-false, lt-ltb, le-ltb, not-true}
 use Rattle.base.specs.First.{some_if, ◌or_else◌, there}
 use Rattle.base.specs.Test.{◌and◌}
-use Rattle.base.proofs.TestLaws.{and_same, same_test}
+use Rattle.base.proofs.TestLaws.{same_test}
 use Rattle.base.proofs.ListLaws.{length-list}
-use Rattle.model.specs.Answer.{fault_of}
+use Rattle.model.specs.Answer.{Answer}
 use Rattle.model.specs.Map.{view}
 use Rattle.model.specs.Scheme.{left, right, in_form, words_of, scheme_of, has_second}
 use Rattle.model.specs.Conditions.{scheme_fault}
 use Rattle.model.specs.Twice.{twice_of}
 use Rattle.model.specs.Accepted.{Accepted}
+use Rattle.model.specs.Shaped.{Shaped}
 use Rattle.model.specs.Site.{site_at}
 use Rattle.model.specs.Calls.{zeros, bytes_fault, check_scheme, first_dart, second_dart, as_many, takes, stored_ok}
 use Rattle.model.specs.Calls.{edit_fault_at, edit_fault, edit_answer, edit_table, edit_store}
 use Rattle.model.specs.declared.Scheme.{Scheme}
 use Rattle.model.specs.declared.Darts.{Darts}
 use Rattle.model.specs.declared.Darts.TheVariants.{One, Two}
-use Rattle.model.specs.declared.Answer.{Answer}
-use Rattle.model.specs.declared.Answer.TheVariants.{Done, Refused}
+use Rattle.model.specs.declared.Reply.TheVariants.{Done}
 use Rattle.model.specs.declared.Refusal.{Refusal}
 use Rattle.model.specs.declared.Refusal.TheVariants.{BadCall, BadForm}
-use Rattle.model.specs.declared.Fault.{Fault}
-use Rattle.model.specs.declared.Fault.TheVariants.{Clean, Given}
 use Rattle.model.proofs.SchemeLaws.{shaped}
 use Rattle.model.proofs.CallLaws.{bytes-accepted, bytes-many, darts-alone}
 use Rattle.scheme.specs.Reading.{reading}
 use Rattle.scheme.specs.declared.Reading.{Reading}
-use Rattle.conditions.specs.Verdict.{Judging, VerdictOf}
-use Rattle.conditions.specs.declared.Verdict.{Verdict}
+use Rattle.scheme.proofs.ReadLaws.{formed-read}
 use Rattle.demands.specs.Promises.{SchemeChecked, MapEdited}
 use Rattle.demands.proofs.OneOutcome.{same_outcome}
 use Rattle.edit.specs.Apply.{AppliedAt}
@@ -45,90 +42,34 @@ use Rattle.kernel.specs.Stages.{many_by, Staged}
 
 -- ---- the scheme's bytes
 
-module _ (b : List ℕ) (r : Reading) (e : r ≡ reading b) where
-  read_ok : r.ok ≡ in_form b
-  unfolding reading
-  read_ok = ap (λ (x : Reading). x.ok) e
+module _ (b : List ℕ) (r : Reading) (e : Some r ≡ reading b) where
+  pub form-good : in_form b ≡ true
+  form-good = (formed-read b e).0
 
-  pub form-bad : r.ok ≡ false → in_form b ≡ false
-  form-bad h = sym read_ok ∙ h
+  pub read-scheme : r.scheme ≡ scheme_of b
+  read-scheme = ap (λ (x : Reading). x.scheme) (formed-read b e).1
 
-  pub form-good : r.ok ≡ true → in_form b ≡ true
-  form-good h = sym read_ok ∙ h
+  pub read-shaped : Shaped r.scheme
+  read-shaped = rw read-scheme (shaped b form-good)
 
-  module _ (q : in_form b ≡ true) where
-    pub read-scheme : r.scheme ≡ scheme_of b
-    unfolding reading
-    read-scheme = ap (λ (x : Reading). x.scheme) e ∙ rw q refl
+  pub long-words : length r.scheme.lwords ≡ 64
+  unfolding scheme_of words_of
+  long-words = rw read-scheme (length-list 64 _)
 
-    pub long-words : length r.scheme.lwords ≡ 64
-    unfolding scheme_of words_of
-    long-words = rw read-scheme (length-list 64 _)
+  pub left-twice : r.ltwice ≡ twice_of r.scheme left
+  left-twice = rw (formed-read b e).1 refl
 
-    pub left-twice : r.ltwice ≡ twice_of r.scheme left
-    unfolding reading
-    left-twice = rw e refl
-
-    pub right-twice : r.rtwice ≡ twice_of r.scheme right
-    unfolding reading
-    right-twice = rw e refl
-
-    -- what the conditions ask of a scheme that was read
-    abbrev pub judge_asks : Judging r.scheme.n r.scheme.places r.scheme.nodes r.scheme.second r.scheme.orbit r.scheme.kinds
-        r.scheme.lwords r.scheme.ltargets r.scheme.rtargets r.scheme.lcount r.scheme.larcs r.ltwice r.rtwice
-    judge_asks = record {
-      scheme = r.scheme;
-      shaped = rw read-scheme (shaped b q);
-      n_is = refl;
-      places_is = refl;
-      nodes_is = refl;
-      second_is = refl;
-      orbit_is = refl;
-      kinds_is = refl;
-      lwords_is = refl;
-      ltargets_is = refl;
-      rtargets_is = refl;
-      lcount_is = refl;
-      larcs_is = refl;
-      ltwice_is = left-twice;
-      rtwice_is = right-twice;
-      long_words = long-words;
-    }
+  pub right-twice : r.rtwice ≡ twice_of r.scheme right
+  right-twice = rw (formed-read b e).1 refl
 
 -- refusals 2 to 5, where `taken` says whether the call takes the bytes
-pub form-refused : (taken : Bool) (b : List ℕ) → taken ≡ false → bytes_fault taken b ≡ some BadForm
+pub form-refused : (taken : Bool) (b : List ℕ) → taken ≡ false → bytes_fault taken b ≡ Some BadForm
 unfolding bytes_fault some_if ◌or_else◌
 form-refused taken b e = rw e
 
 pub form_judged : (taken : Bool) (b : List ℕ) (S : Scheme) → taken ≡ true → S ≡ scheme_of b → bytes_fault taken b ≡ scheme_fault S
 unfolding bytes_fault some_if ◌or_else◌
 form_judged taken b S e s = rw (e, s)
-
--- where the call takes the bytes, what the judge found is their first fault
-pub fault_judged : (taken : Bool) (b : List ℕ) (r : Reading) → r ≡ reading b → in_form b ≡ true → taken ≡ true → (v : Verdict)
-    → VerdictOf r.scheme v → v.fault ≡ fault_of (bytes_fault taken b)
-fault_judged taken b r e q t v o = o.fault ∙ ap fault_of (sym (form_judged taken b r.scheme t (read-scheme b r e q)))
-
--- what a search comes to in code tells what it finds
-pub found_none : (o : Option Refusal) → Clean ≡ fault_of o → o ≡ none
-found_none none e = refl
-found_none (some f) e = absurd (true≢false (ap clean e))
-  where
-    clean : Fault → Bool
-    clean Clean = true
-    clean (Given f) = false
-
-pub found_some : (o : Option Refusal) (f : Refusal) → Given f ≡ fault_of o → o ≡ some f
-found_some none f e = absurd (true≢false (ap given e))
-  where
-    given : Fault → Bool
-    given Clean = false
-    given (Given f) = true
-found_some (some g) f e = ap {B = Option Refusal} some (sym (ap named e))
-  where
-    named : Fault → Refusal
-    named Clean = g
-    named (Given f) = f
 
 -- ---- the darts
 
@@ -143,18 +84,22 @@ many_by_lem (Two d e) S = same_test _ _
     (λ q. let some = ltb-true 0 S.second q in ap not (ne_eqb S.second 0 (λ z. absurd (omega arith))))
 
 -- so what is read of the bytes tells whether the call takes them
-pub taken_is : (D : Darts) (b : List ℕ) (r : Reading) → r ≡ reading b → (q : Bool) → q ≡ (r.ok and many_by D r.scheme.second) → q ≡ takes D b
-taken_is D b r e q m = m ∙ ap (λ (x : Bool). x and many_by D r.scheme.second) (read_ok b r e)
-    ∙ and_same (in_form b) (λ f. many_by_lem D r.scheme ∙ ap (as_many D) (read-scheme b r e f))
+pub taken_is : (D : Darts) (b : List ℕ) (r : Reading) → Some r ≡ reading b → (q : Bool) → q ≡ many_by D r.scheme.second → q ≡ takes D b
+unfolding ◌and◌
+taken_is D b r e q m = m ∙ many_by_lem D r.scheme ∙ ap (as_many D) (read-scheme b r e) ∙ rw (form-good b r e) refl
+
+pub taken-not : (D : Darts) (b : List ℕ) → in_form b ≡ false → takes D b ≡ false
+unfolding ◌and◌
+taken-not D b e = rw e refl
 
 -- ---- all stages
 
 module _ (n N : ℕ) (t b : List ℕ) (D : Darts) where
-  pub stage_refused : {f : Refusal} → bytes_fault (takes D b) b ≡ some f → Staged n N t b D (Refused f) t
+  pub stage_refused : {f : Refusal} → bytes_fault (takes D b) b ≡ Some f → Staged n N t b D (Err f) t
   unfolding ◌or_else◌
   stage_refused e = refused (rw e refl)
 
-  pub stage_on : {S : Scheme} {d e : ℕ} {r : Answer} {t' : List ℕ} → bytes_fault (takes D b) b ≡ none → S ≡ scheme_of b
+  pub stage_on : {S : Scheme} {d e : ℕ} {r : Answer} {t' : List ℕ} → bytes_fault (takes D b) b ≡ None → S ≡ scheme_of b
       → d ≡ first_dart D → e ≡ second_dart D → AppliedAt n (site_at (view N t) S d e) t r t' → Staged n N t b D r t'
   unfolding ◌or_else◌
   stage_on {S} {d} {e} {r} {t'} f s p q a =
@@ -163,7 +108,7 @@ module _ (n N : ℕ) (t b : List ℕ) (D : Darts) where
       (subst (λ (x : ℕ). AppliedAt n (site_at (view N t) S d x) t r t') q a)))
 
 -- bytes with no fault are an accepted scheme's, and one with a single hook is for one dart
-module _ (D : Darts) (b : List ℕ) (S : Scheme) (f : bytes_fault (takes D b) b ≡ none) (s : S ≡ scheme_of b) where
+module _ (D : Darts) (b : List ℕ) (S : Scheme) (f : bytes_fault (takes D b) b ≡ None) (s : S ≡ scheme_of b) where
   pub no_fault_accepted : Accepted S
   no_fault_accepted = subst Accepted (sym s) (bytes-accepted D b f)
 
@@ -173,16 +118,16 @@ module _ (D : Darts) (b : List ℕ) (S : Scheme) (f : bytes_fault (takes D b) b 
 -- ---- the calls
 
 module _ (b : List ℕ) where
-  pub scheme-refused : {f : Refusal} → bytes_fault (in_form b) b ≡ some f → SchemeChecked b (Refused f)
+  pub scheme-refused : {f : Refusal} → bytes_fault (in_form b) b ≡ Some f → SchemeChecked b (Err f)
   unfolding check_scheme
   scheme-refused e = same_outcome (rw e refl) refl refl refl
 
-  pub scheme-done : bytes_fault (in_form b) b ≡ none → SchemeChecked b Done
+  pub scheme-done : bytes_fault (in_form b) b ≡ None → SchemeChecked b (Ok Done)
   unfolding check_scheme
   scheme-done e = same_outcome (rw e refl) refl refl refl
 
 module _ (n N : ℕ) (t store b : List ℕ) (d : Darts) where
-  pub edit_unfit : stored_ok n N t store ≡ false → MapEdited n N t store b d (Refused BadCall) t store
+  pub edit_unfit : stored_ok n N t store ≡ false → MapEdited n N t store b d (Err BadCall) t store
   unfolding edit_answer edit_table edit_store edit_fault edit_fault_at some_if ◌or_else◌ there
   edit_unfit e = same_outcome (rw e refl) (rw e refl) (rw e refl) refl
 

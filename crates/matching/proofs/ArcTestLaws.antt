@@ -1,5 +1,5 @@
--- The laws of `arcs`: the loops of `straight` and `turned` with one place more, the first place at which the arc does not hold, and the
--- end; then each way out of `explicit` and `arc`, and the loop of `arcs`.
+-- The laws of `arcs`: the loop of `follows` with one place more, the first place at which the arc does not hold, and the end; then each
+-- way out of `explicit` and `arc`, and the loop of `arcs`.
 use Prim.Native.Nat.{ℕ, ◌+◌, ◌*◌, ◌-◌, ◌/◌, ◌%◌, ◌≤◌, ◌<◌}
 use mathlib.Core.Path.{◌≡◌, sym, ap, ◌∙◌}
 use mathlib.Core.Bool.{Bool, true, false}
@@ -20,11 +20,11 @@ module _ (link : ℕ → ℕ) (s : List ℕ) (from base : ℕ) (to : ℕ → ℕ
   unfolding follows
   follows-none = all_none _
 
-  -- x, y, z are what the loop reads at place r
-  module _ (r x y z : ℕ) (a : x ≡ get_or s (from + r) 0) (b : y ≡ link x) (c : z ≡ get_or s (base + to r) 0) where
+  -- q, x, y, z are what the loop reads at place r
+  module _ (r q x y z : ℕ) (n : q ≡ to r) (a : x ≡ get_or s (from + r) 0) (b : y ≡ link x) (c : z ≡ get_or s (base + q) 0) where
     read : eqb y z ≡ eqb (link (dart_at s from r)) (dart_at s base (to r))
     unfolding dart_at
-    read = rw (b, a, c)
+    read = rw (b, a, c, n)
 
     pub follows-more : y ≡ z → follows link s r from base to ≡ true → follows link s (r + 1) from base to ≡ true
     unfolding follows
@@ -47,19 +47,6 @@ dart-read N s from size r x o h e = rw e (o.slot r h)
 pub turn_below : (N : ℕ) (s : List ℕ) (p r q size : ℕ) → q ≡ get_or s (4 * N + 4 * r + p) 0 → Turns N s p size → r < size → q < size
 unfolding next
 turn_below N s p r q size e o h = rw e (o.place r h)
-
--- q, x, y, z are what the loop reads at place r
-module _ (N : ℕ) (link : ℕ → ℕ) (s : List ℕ) (from p r q x y z : ℕ) (n : q ≡ get_or s (4 * N + 4 * r + p) 0)
-    (a : x ≡ get_or s (from + r) 0) (b : y ≡ link x) (c : z ≡ get_or s (from + q) 0) where
-  turn-read : z ≡ get_or s (from + next N s r p) 0
-  unfolding next
-  turn-read = c ∙ ap (λ (k : ℕ). get_or s (from + k) 0) n
-
-  pub turned_more : y ≡ z → follows link s r from from (λ o. next N s o p) ≡ true → follows link s (r + 1) from from (λ o. next N s o p) ≡ true
-  turned_more = follows-more link s from from (λ o. next N s o p) r x y z a b turn-read
-
-  pub turned_stop : (size : ℕ) → r < size → eqb y z ≡ false → false ≡ follows link s size from from (λ o. next N s o p)
-  turned_stop = follows_stop link s from from (λ o. next N s o p) r x y z a b turn-read
 
 -- ---- one arc
 

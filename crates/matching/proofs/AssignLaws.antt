@@ -2,12 +2,15 @@
 use Prim.Native.Nat.{ℕ, ◌+◌, ◌*◌, ◌-◌, ◌/◌, ◌%◌, ◌≤◌, ◌<◌}
 use mathlib.Core.Path.{◌≡◌, refl, sym, ap, ap₂, ◌∙◌, subst}
 use mathlib.Core.Logic.{◌⊎◌, inl, inr, ⊎_elim, by_cases}
-use mathlib.Core.Bool.{Bool, true, false, true≢false}
+use mathlib.Core.Bool.{Bool, true, false}
 use mathlib.Core.List.{List}
 use native.Mathlib.Nat.{mul-le-mul_right}
 use native.Mathlib.Decide.{dec_lt}
 use native.Mathlib.Omega.{arith}
 use lib.ListN.{length, get_or}
+use Rattle.std.specs.Bool.{then_some}
+use Rattle.std.proofs.Common.{None}
+use Rattle.std.proofs.lemmas.Option.{none-some, same_Some}
 use borrow.Author.Tests.{eqb-true, eq-eqb, ne_eqb, ltb-true, lt-ltb, le-ltb}
 use Rattle.base.specs.Test.{◌or◌}
 use Rattle.base.proofs.TestLaws.{or_cases, or_right, same_test}
@@ -34,6 +37,18 @@ use Rattle.orbit.proofs.PlaceLaws.{place_in_lem, place_of}
 use Rattle.matching.proofs.ImageRowLaws.{longer-less, longer_trans, longer-mark, longer-kept}
 use Rattle.matching.proofs.RetraceLaws.{next-longer, hung-walked}
 use Rattle.matching.proofs.RowTreeLaws.{good, node-below, hooks-some, hook-node, dart-at, dart-slot, row_inside, images, arc-image, turn-image}
+
+-- ---- no match
+
+-- where two pairs fall on one dart, or the other dart is in the orbit
+pub unmatched : {E : Site} {s s' : List ℕ} {size : ℕ} → matches E ≡ false → length s' ≡ length s → MatchFound E s s' size None
+unmatched e long = record {
+  is = sym e;
+  long = long;
+  assigned = λ rows f. absurd (none-some _ f);
+  kept = λ rows f. absurd (none-some _ f);
+  wide = λ rows f. absurd (none-some _ f);
+}
 
 -- ---- the tests
 
@@ -425,39 +440,29 @@ module _ {M : Map} {s : List ℕ} {size : ℕ} {nodes parents dims : List ℕ} {
 
   -- s₀ is the store before the second hook had its row
   pub matched : (s₀ : List ℕ) → Taken N s₀ size → Longer N s₀ s size → (b : Bool) → b ≡ arcs_test m s' size nodes dims roots codes rows (4 * count)
-      → MatchFound E s₀ s' rows size b
-  matched s₀ T L b e =
+      → MatchFound E s₀ s' size (then_some b rows)
+  matched s₀ T L true e =
       let longer = longer_trans N s₀ s size L s' (longer-less N s s' (roots * size) G.longer size first-row) in
       record {
         is = e ∙ same_test _ _ tests-match match-tests;
         long = G.taken.long ∙ sym T.long;
-        assigned = λ f. assigned-rows (tests-match (sym e ∙ f));
-        kept = λ f. longer-kept N s₀ s' size longer (count * size) T G.taken (omega (arith, first-row, more)) size (omega arith);
-        wide = λ f. G.wide;
+        assigned = λ rows' f. rw (← same_Some _ _ f) (assigned-rows (tests-match (sym e)));
+        kept = λ rows' f. longer-kept N s₀ s' size longer (count * size) T G.taken (omega (arith, first-row, more)) size (omega arith);
+        wide = λ rows' f. rw (← same_Some _ _ f) G.wide;
       }
+  matched s₀ T L false e = unmatched (sym (e ∙ same_test _ _ tests-match match-tests)) (G.taken.long ∙ sym T.long)
 
 -- what the rows start from, once the hooks have theirs
-module _ {m : Map} {s : List ℕ} {size : ℕ} {orbit : List ℕ} {k other : ℕ} {nodes parents dims : List ℕ} {roots count : ℕ} {codes rows₀ : List ℕ}
-    (P : Posed m s size orbit k other nodes parents dims roots count codes rows₀) {s' : List ℕ} {w : Bool}
-    (H : HungAll m s s' size orbit k other roots w) (e : w ≡ true) where
+module _ {m : Map} {s : List ℕ} {size : ℕ} {orbit : List ℕ} {k other : ℕ} {nodes parents dims : List ℕ} {roots count : ℕ} {codes : List ℕ}
+    (P : Posed m s size orbit k other nodes parents dims roots count codes) {s' : List ℕ} (H : HungAll m s s' size orbit k other roots true) where
   abbrev pub ready : BeforeMatching m s' size nodes parents dims roots count
   ready = record {
     at = P.ready.at;
-    walked = hung-walked P.ready (H.done e P.ready).0 (H.done e P.ready).1;
-    hung = (H.done e P.ready).0;
+    walked = hung-walked P.ready (H.done refl P.ready).0 (H.done refl P.ready).1;
+    hung = (H.done refl P.ready).0;
     rooted = P.rooted;
   }
 
   pub matched-at : {s'' rows : List ℕ} → RowsGrown m nodes parents dims roots s' s'' rows size count → (b : Bool)
-      → b ≡ arcs_test m s'' size nodes dims roots codes rows (4 * count) → MatchFound (site P.ready.at) s s'' rows size b
-  matched-at G b f = matched ready G P.coded s P.ready.taken (H.done e P.ready).1 b f
-
--- where two pairs fall on one dart, or the other dart is in the orbit
-pub unmatched : {E : Site} {s s' rows : List ℕ} {size : ℕ} → matches E ≡ false → length s' ≡ length s → MatchFound E s s' rows size false
-unmatched e long = record {
-  is = sym e;
-  long = long;
-  assigned = λ f. absurd (true≢false (sym f));
-  kept = λ f. absurd (true≢false (sym f));
-  wide = λ f. absurd (true≢false (sym f));
-}
+      → b ≡ arcs_test m s'' size nodes dims roots codes rows (4 * count) → MatchFound (site P.ready.at) s s'' size (then_some b rows)
+  matched-at G b f = matched ready G P.coded s P.ready.taken (H.done refl P.ready).1 b f

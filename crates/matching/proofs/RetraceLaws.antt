@@ -9,6 +9,8 @@ use native.Mathlib.Nat.{mul-le-mul_right}
 use native.Mathlib.Decide.{ℕ_discrete, dec_lt}
 use native.Mathlib.Omega.{arith}
 use lib.ListN.{get_or}
+use Rattle.std.proofs.Common.{Option, Some, None}
+use Rattle.std.proofs.lemmas.Option.{none-some, same_Some}
 use Rattle.base.proofs.TestLaws.{true_or_false}
 use Rattle.base.proofs.RowLaws.{row-end}
 use Rattle.model.specs.Map.{Map}
@@ -337,25 +339,30 @@ module _ {M : Map} {s : List ℕ} {size : ℕ} {dims : List ℕ} {k head tail : 
                   ∙ ap (λ (r : ℕ). place N₂ s'' (size + r)) (sym same);
             }
 
-        pub expand_more : {s'' : List ℕ} {end' : ℕ} → Met N₂ s' size end q y s'' end' → (end' ≡ 0 → ⊥)
+        pub expand_more : {s'' : List ℕ} {end' : ℕ} → Met N₂ s' size end q y s'' (Some end')
             → (tail ≤ end') × (Standing E₂ s'' size (4 * head + (p + 1)) end' × Longer N₂ s s'' (size + tail))
-        expand_more (inl v) ne = (omega (arith, v.0), rw (v.0, v.1) (step-old v.2 v.3, L))
-        expand_more {s''} (inr (inl v)) ne =
+        expand_more (inl v) = let e = same_Some _ _ v.0 in (omega arith, rw (e, v.1) (step-old v.2 v.3, L))
+        expand_more {s''} (inr (inl v)) =
+            let e = same_Some _ _ v.0 in
             let more = pushed-longer N₂ s' s'' (size + end) y y_live.slot v.2 in
             let longer = longer_trans N₂ s s' (size + tail) L s'' (longer-less N₂ s' s'' (size + end) more (size + tail) (omega arith)) in
-            (omega (arith, v.0), rw v.0 (step-new v.1 v.2 more, longer))
-        expand_more (inr (inr v)) ne = absurd (ne v.0)
+            (omega arith, rw e (step-new v.1 v.2 more, longer))
+        expand_more (inr (inr v)) = absurd (none-some _ (sym v.0))
 
-        pub expand_none : {s'' : List ℕ} {end' : ℕ} → Met N₂ s' size end q y s'' end' → end' ≡ 0 → matches E₂ ≡ false
-        expand_none (inl v) z = absurd (omega (arith, v.0, some'))
-        expand_none (inr (inl v)) z = absurd (omega (arith, v.0))
-        expand_none (inr (inr v)) z = unmet T.at walked' (4 * head + p) end q y O q_low T.named y_slot y_image v.2
+        pub expand_none : {s'' : List ℕ} → Met N₂ s' size end q y s'' None → Retraced E₂ s s'' size tail (head + 1) None
+        expand_none (inl v) = absurd (none-some _ v.0)
+        expand_none (inr (inl v)) = absurd (none-some _ v.0)
+        expand_none (inr (inr v)) = record {
+          done = λ e z. absurd (none-some e z);
+          none = λ z. unmet T.at walked' (4 * head + p) end q y O q_low T.named y_slot y_image v.2;
+        }
 
   pub expand_done : {s' : List ℕ} {p end : ℕ} → Standing E₂ s' size (4 * head + p) end → Longer N₂ s s' (size + tail) → tail ≤ end → p ≡ k
-      → Retraced E₂ s s' size tail (head + 1) end
+      → Retraced E₂ s s' size tail (head + 1) (Some end)
   expand_done {s'} {p} {end} O L grown e = record {
-    done = λ some. (grown, standing-place E₂ s' size head p end (omega (arith, T.places_are)) (omega (arith, few_positions)) O, L);
-    none = λ z. absurd (omega (arith, T.some));
+    done = λ end' is. rw (← same_Some _ _ is)
+        (grown, standing-place E₂ s' size head p end (omega (arith, T.places_are)) (omega (arith, few_positions)) O, L);
+    none = λ z. absurd (none-some _ (sym z));
   }
 
 -- ---- the loop of `retrace`
@@ -367,18 +374,21 @@ module _ {M : Map} {s : List ℕ} {size : ℕ} {dims : List ℕ} {k tail : ℕ} 
   abbrev N₃ : ℕ
   N₃ = M.slots
 
-  pub retrace_first : Retraced E₃ s s size tail 0 tail
+  pub retrace_first : Retraced E₃ s s size tail 0 (Some tail)
   retrace_first = record {
-    done = λ some. (omega arith, T.standing, record { places = λ e h. refl; rest = λ i h. refl });
-    none = λ z. absurd (omega (arith, T.some));
+    done = λ e is. rw (← same_Some _ _ is) (omega arith, T.standing, record { places = λ e h. refl; rest = λ i h. refl });
+    none = λ z. absurd (none-some _ (sym z));
   }
 
-  module _ {s' : List ℕ} {head end : ℕ} (D : Retraced E₃ s s' size tail head end) (some : 1 ≤ end) where
+  module _ {s' : List ℕ} {head end : ℕ} (D : Retraced E₃ s s' size tail head (Some end)) where
     abbrev O₃ : Standing E₃ s' size (4 * head) end
-    O₃ = (D.done some).1
+    O₃ = (D.done end refl).1
+
+    abbrev some₃ : 1 ≤ end
+    some₃ = omega (arith, T.some, (D.done end refl).0)
 
     abbrev walked₃ : WalkedAt E₃ s' size
-    walked₃ = still_walked T.at T.walked T.standing.taken (omega arith) (D.done some).2 O₃.taken (omega (arith, (D.done some).0))
+    walked₃ = still_walked T.at T.walked T.standing.taken (omega arith) (D.done end refl).2 O₃.taken (omega (arith, (D.done end refl).0))
 
     abbrev pub retracing : head < size → Retracing M s' size dims k head end
     retracing b = record {
@@ -386,17 +396,17 @@ module _ {M : Map} {s : List ℕ} {size : ℕ} {dims : List ℕ} {k tail : ℕ} 
       walked = walked₃;
       named = T.named;
       standing = O₃;
-      some = some;
+      some = some₃;
       low = b;
       dims_are = T.dims_are;
       places_are = T.places_are;
     }
 
-    pub retrace_more : {s'' : List ℕ} {end' : ℕ} → Retraced E₃ s' s'' size end (head + 1) end' → Retraced E₃ s s'' size tail (head + 1) end'
+    pub retrace_more : {s'' : List ℕ} {end' : Option ℕ} → Retraced E₃ s' s'' size end (head + 1) end' → Retraced E₃ s s'' size tail (head + 1) end'
     retrace_more {s''} F = record {
-      done = λ l.
-          let d = D.done some in
-          let f = F.done l in
+      done = λ e l.
+          let d = D.done end refl in
+          let f = F.done e l in
           let more = longer-less N₃ s' s'' (size + end) f.2 (size + tail) (omega (arith, d.0)) in
           (omega (arith, d.0, f.0), f.1, longer_trans N₃ s s' (size + tail) d.2 s'' more);
       none = F.none;
@@ -406,14 +416,14 @@ module _ {M : Map} {s : List ℕ} {size : ℕ} {dims : List ℕ} {k tail : ℕ} 
     pub retrace_done : head ≡ size → RetracedAll E₃ s s' size true
     retrace_done e = record {
       done = λ q.
-          let last = stands T.at walked₃ O₃ some (size - 1) (omega (arith, T.low)) (omega arith) in
+          let last = stands T.at walked₃ O₃ some₃ (size - 1) (omega (arith, T.low)) (omega arith) in
           let full : end ≡ size = omega (arith, O₃.fits) in
-          (rw (e, full) at O₃, longer-less N₃ s s' (size + tail) (D.done some).2 size (omega arith));
+          (rw (e, full) at O₃, longer-less N₃ s s' (size + tail) (D.done end refl).2 size (omega arith));
       none = λ q. absurd (true≢false q);
     }
 
-  pub retrace_none : {s' : List ℕ} {head end : ℕ} → Retraced E₃ s s' size tail head end → end ≡ 0 → RetracedAll E₃ s s' size false
-  retrace_none D z = record { done = λ q. absurd (true≢false (sym q)); none = λ q. D.none z }
+  pub retrace_none : {s' : List ℕ} {head : ℕ} → Retraced E₃ s s' size tail head None → RetracedAll E₃ s s' size false
+  retrace_none D = record { done = λ q. absurd (true≢false (sym q)); none = λ q. D.none refl }
 
 -- ---- `hang`
 
@@ -433,55 +443,57 @@ module _ {m : Map} {s : List ℕ} {size : ℕ} {dims : List ℕ} {k other roots 
       still_walked R.at R.walked R.taken (omega arith) l H.taken (let e = row-end size 0 roots some in omega arith)
 
   -- the dart that the call names takes the first place, if it has none yet
-  module _ (two : roots ≡ 1 → ⊥) {s' : List ℕ} {tail : ℕ} (M : Met N₄ s size 0 0 other s' tail) where
+  module _ (two : roots ≡ 1 → ⊥) where
     pub named : 1 ≤ R.at.scheme.second
     named = (second-named _ (λ z. two (R.roots_are ∙ z))).1
 
     other-image : matches E₄ ≡ true → other ≡ image E₄ (place N₄ s 0) R.at.scheme.second
     other-image q = R.other_is ∙ first-image R.at R.walked q
 
-    pub first_met : (tail ≡ 0 → ⊥) → (1 ≤ tail) × (Standing E₄ s' size (4 * 0) tail × Longer N₄ s s' size)
-    first_met ne = ⊎_elim
+    pub first-unmet : {s' : List ℕ} → Met N₄ s size 0 0 other s' None → matches E₄ ≡ false
+    first-unmet M = ⊎_elim
         (λ v. absurd (omega (arith, v.2)))
         (λ w. ⊎_elim
-        (λ v.
-        let live : LiveDart E₄.map other = subst (LiveDart E₄.map) (sym R.other_is) R.at.sound.other in
-        let P = standing_push E₄ s size (4 * 0) 0 other (standing-none E₄ s size R.taken) R.walked.some live (λ z. R.other_is) other-image s' v.2 in
-        let more = pushed-longer N₄ s s' (size + 0) other live.slot v.2 in
-        (omega (arith, v.0), (rw v.0 P, longer-less N₄ s s' (size + 0) more size (omega arith))))
-        (λ v. absurd (ne v.0))
-        w)
-        M
-
-    pub first-unmet : tail ≡ 0 → matches E₄ ≡ false
-    first-unmet z = ⊎_elim
-        (λ v. absurd (omega (arith, v.2)))
-        (λ w. ⊎_elim
-        (λ v. absurd (omega (arith, v.0)))
+        (λ v. absurd (none-some _ v.0))
         (λ v. unmet R.at R.walked (4 * 0) 0 0 other (standing-none E₄ s size R.taken) R.walked.some named other-slot other-image v.2)
         w)
         M
 
-    abbrev pub ready : (tail ≡ 0 → ⊥) → Retracing m s' size dims k 0 tail
-    ready ne = record {
-      at = R.at;
-      walked = let f = (first_met ne).1 in
-          still_walked R.at R.walked R.taken (omega arith) f.1 f.0.taken (omega arith);
-      named = named;
-      standing = (first_met ne).1.0;
-      some = (first_met ne).0;
-      low = R.walked.some;
-      dims_are = R.dims_are;
-      places_are = R.places_are;
-    }
+    module _ {s' : List ℕ} {tail : ℕ} (M : Met N₄ s size 0 0 other s' (Some tail)) where
+      pub first_met : (1 ≤ tail) × (Standing E₄ s' size (4 * 0) tail × Longer N₄ s s' size)
+      first_met = ⊎_elim
+          (λ v. absurd (omega (arith, v.2)))
+          (λ w. ⊎_elim
+          (λ v.
+          let live : LiveDart E₄.map other = subst (LiveDart E₄.map) (sym R.other_is) R.at.sound.other in
+          let P = standing_push E₄ s size (4 * 0) 0 other (standing-none E₄ s size R.taken) R.walked.some live (λ z. R.other_is) other-image s' v.2 in
+          let more = pushed-longer N₄ s s' (size + 0) other live.slot v.2 in
+          let e = same_Some _ _ v.0 in
+          (omega arith, (rw e P, longer-less N₄ s s' (size + 0) more size (omega arith))))
+          (λ v. absurd (none-some _ (sym v.0)))
+          w)
+          M
 
-    -- both hooks have their rows
-    pub hung-both : {s'' : List ℕ} → (tail ≡ 0 → ⊥) → Standing E₄ s'' size (4 * size) size × Longer N₄ s' s'' size
-        → Hung E₄ s'' size roots × Longer N₄ s s'' size
-    hung-both {s''} ne D =
-        let both : roots ≡ 2 = R.roots_are ∙ (second-named R.at.scheme.second (λ z. two (R.roots_are ∙ z))).0 in
-        let rows : roots * size ≡ size + size = ap (λ (z : ℕ). z * size) both ∙ omega arith in
-        (record { taken = rw rows D.0.taken; second = λ z. D.0 }, longer_trans N₄ s s' size (first_met ne).1.1 s'' D.1)
+      abbrev pub ready : Retracing m s' size dims k 0 tail
+      ready = record {
+        at = R.at;
+        walked = let f = first_met.1 in
+            still_walked R.at R.walked R.taken (omega arith) f.1 f.0.taken (omega arith);
+        named = named;
+        standing = first_met.1.0;
+        some = first_met.0;
+        low = R.walked.some;
+        dims_are = R.dims_are;
+        places_are = R.places_are;
+      }
+
+      -- both hooks have their rows
+      pub hung-both : {s'' : List ℕ} → Standing E₄ s'' size (4 * size) size × Longer N₄ s' s'' size
+          → Hung E₄ s'' size roots × Longer N₄ s s'' size
+      hung-both {s''} D =
+          let both : roots ≡ 2 = R.roots_are ∙ (second-named R.at.scheme.second (λ z. two (R.roots_are ∙ z))).0 in
+          let rows : roots * size ≡ size + size = ap (λ (z : ℕ). z * size) both ∙ omega arith in
+          (record { taken = rw rows D.0.taken; second = λ z. D.0 }, longer_trans N₄ s s' size first_met.1.1 s'' D.1)
 
 module _ {m : Map} {s : List ℕ} {size : ℕ} {dims : List ℕ} {k other roots : ℕ} where
   -- no second hook
@@ -497,14 +509,14 @@ module _ {m : Map} {s : List ℕ} {size : ℕ} {dims : List ℕ} {k other roots 
     none = λ q. absurd (true≢false q);
   }
 
-  module _ (two : roots ≡ 1 → ⊥) {s' : List ℕ} {tail : ℕ} (M : Met m.slots s size 0 0 other s' tail) where
+  module _ (two : roots ≡ 1 → ⊥) {s' : List ℕ} where
     -- the dart that the call names has a place in the orbit
-    pub hung-none : tail ≡ 0 → HungAll m s s' size dims k other roots false
-    hung-none z = record { done = λ q. absurd (true≢false (sym q)); none = λ q R. first-unmet R two M z }
+    pub hung-none : Met m.slots s size 0 0 other s' None → HungAll m s s' size dims k other roots false
+    hung-none M = record { done = λ q. absurd (true≢false (sym q)); none = λ q R. first-unmet R two M }
 
-    pub hung-all : {s'' : List ℕ} {w : Bool} (ne : tail ≡ 0 → ⊥) → ((T : Retracing m s' size dims k 0 tail) → RetracedAll (site T.at) s' s'' size w)
-        → HungAll m s s'' size dims k other roots w
-    hung-all ne D = record {
-      done = λ q R. hung-both R two M ne ((D (ready R two M ne)).done q);
-      none = λ q R. (D (ready R two M ne)).none q;
+    pub hung-all : {tail : ℕ} (M : Met m.slots s size 0 0 other s' (Some tail)) {s'' : List ℕ} {w : Bool}
+        → ((T : Retracing m s' size dims k 0 tail) → RetracedAll (site T.at) s' s'' size w) → HungAll m s s'' size dims k other roots w
+    hung-all M D = record {
+      done = λ q R. hung-both R two M ((D (ready R two M)).done q);
+      none = λ q R. (D (ready R two M)).none q;
     }

@@ -2,7 +2,7 @@
 use Prim.Native.Nat.{ℕ, zero, suc, ◌+◌, ◌*◌, ◌-◌, ◌≤◌, ◌<◌}
 use mathlib.Core.Path.{◌≡◌, refl, sym, ap, ◌∙◌, subst}
 use mathlib.Core.Logic.{◌⊎◌, inl, inr, ⊎_elim, by_cases}
-use mathlib.Core.Bool.{Bool, true, false, true≢false}
+use mathlib.Core.Bool.{true, false, true≢false}
 use mathlib.Core.List.{List}
 use native.Mathlib.Nat.{not-suc-le-zero, mul-le-mul_right}
 use native.Mathlib.Decide.{ℕ_discrete, dec_lt}
@@ -296,12 +296,9 @@ module _ {M : Map} {s : List ℕ} {size : ℕ} {nodes parents dims : List ℕ} {
 
 -- ---- the loop over the entries
 
-pub rows-done : {m : Map} {nodes parents dims s s' rows : List ℕ} {roots size count k : ℕ} → k ≤ count → count ≤ k
+pub rows-done : {m : Map} {nodes parents dims s s' rows : List ℕ} {roots size count k : ℕ} → k ≡ count
     → RowsGrown m nodes parents dims roots s s' rows size k → RowsMade m nodes parents dims roots s s' rows size count true
-rows-done {count = count} {k = k} h l G = record {
-  done = λ e. let same : k ≡ count = omega arith in rw (← same) G;
-  none = λ e. absurd (true≢false e);
-}
+rows-done same G = record { done = λ e. rw (← same) G; none = λ e. absurd (true≢false e) }
 
 -- the nodes of an entry are within the arrays
 module _ {m : Map} {s : List ℕ} {size : ℕ} {nodes parents dims : List ℕ} {roots count : ℕ}
@@ -329,20 +326,20 @@ module _ {m : Map} {s : List ℕ} {size : ℕ} {nodes parents dims : List ℕ} {
           ((rw b (dim-below R k l h), few, rw a from.0, rw (a, e) from.1), rw (a, b) (linked R G l h)),
         )
 
-    pub rows_more : (s'' : List ℕ) (y : ℕ) → y ≡ get_or nodes k 0 → (w : Bool) → RowMade m.slots (m.link i) (get_or rows x 0) s' s'' end size w → w ≡ true
+    pub rows_more : (s'' : List ℕ) (y : ℕ) → y ≡ get_or nodes k 0 → RowMade m.slots (m.link i) (get_or rows x 0) s' s'' end size true
         → RowsGrown m nodes parents dims roots s s'' (set rows y (m.slots + end)) size (k + 1)
-    rows_more s'' y c w C z =
-        let D : Row m.slots (m.link (get_or dims k 0)) (get_or rows (get_or parents k 0) 0) s' s'' (k * size) size = rw (a, b, e) at (C.done z) in
+    rows_more s'' y c C =
+        let D : Row m.slots (m.link (get_or dims k 0)) (get_or rows (get_or parents k 0) 0) s' s'' (k * size) size = rw (a, b, e) at (C.done refl) in
         rw (c, e) (grown-more R G l h s'' D)
 
-  pub rows-clash : (s'' : List ℕ) (w : Bool) → RowMade m.slots (m.link i) (get_or rows x 0) s' s'' end size w → w ≡ false
+  pub rows-clash : (s'' : List ℕ) → RowMade m.slots (m.link i) (get_or rows x 0) s' s'' end size false
       → RowsMade m nodes parents dims roots s s'' rows size count false
-  rows-clash s'' w C z = record {
+  rows-clash s'' C = record {
     done = λ f. absurd (true≢false (sym f));
     none = λ f R. ⊎_elim
         (λ q.
         let y : (r : ℕ) × (r < size) × Row m.slots (m.link (get_or dims k 0)) (get_or rows (get_or parents k 0) 0) s' s'' (k * size) r
-        × (1 ≤ mark s'' (m.link (get_or dims k 0) (dart_at s' (get_or rows (get_or parents k 0) 0) r))) = rw (a, b, e) at (C.clash z) in
+        × (1 ≤ mark s'' (m.link (get_or dims k 0) (dart_at s' (get_or rows (get_or parents k 0) 0) r))) = rw (a, b, e) at (C.clash refl) in
         absurd (taken_twice R q G (omega arith) l h s'' y.0 y.1 y.2 y.3))
         (λ q. q)
         (true_or_false (matches (site R.at)));

@@ -1,6 +1,7 @@
 -- The row of the second hook. It is made along the links in the walk's order: step 4 × r + p follows the link at position p of the dart for place r.
 -- `second_dart_of` of Match.antt is the same over a path from the dart.
 use Rattle.std.specs.Prelude.{ℕ, ◌+◌, ◌*◌, ◌≤◌, ◌<◌, ◌≡◌, ◌⊎◌, ◌≢◌, Bool, true, false, List, get_or}
+use Rattle.std.specs.Prelude.{Option, Some, None}
 use Rattle.model.specs.Map.{Map}
 use Rattle.model.specs.Scheme.{orbit_dim}
 use Rattle.model.specs.Site.{Site}
@@ -18,12 +19,12 @@ pub record Longer (N : ℕ) (s s' : List ℕ) (end : ℕ) : Type 0 where
 -- What `meet` does with dart y at place q of the second hook's row, which has `end` darts so far. One of three:
 --   q is filled and holds y: nothing changes;
 --   q is the next free place of the row and y has none: y takes it, and the row is one longer;
---   another dart stands for q, or y has a place already: there is no match, `end'` is 0, and the store is unchanged.
-abbrev pub Met : ℕ → List ℕ → ℕ → ℕ → ℕ → ℕ → List ℕ → ℕ → Type 0
+--   another dart stands for q, or y has a place already: there is no match, `end'` is None, and the store is unchanged.
+abbrev pub Met : ℕ → List ℕ → ℕ → ℕ → ℕ → ℕ → List ℕ → Option ℕ → Type 0
 Met N s size end q y s' end' =
-    ((end' ≡ end) × (s' ≡ s) × (q < end) × (place N s (size + q) ≡ y))
-    ⊎ (((end' ≡ end + 1) × (q ≡ end) × Pushed N s (size + end) y s')
-    ⊎ ((end' ≡ 0) × (s' ≡ s) × (((q < end) × (place N s (size + q) ≢ y)) ⊎ ((q ≡ end) × (1 ≤ mark s y)))))
+    ((end' ≡ Some end) × (s' ≡ s) × (q < end) × (place N s (size + q) ≡ y))
+    ⊎ (((end' ≡ Some (end + 1)) × (q ≡ end) × Pushed N s (size + end) y s')
+    ⊎ ((end' ≡ None) × (s' ≡ s) × (((q < end) × (place N s (size + q) ≢ y)) ⊎ ((q ≡ end) × (1 ≤ mark s y)))))
 
 -- The row has the darts for place r and for the place to which the link at position p leads from r in the orbit, and that link joins them.
 pub record Follows (E : Site) (s : List ℕ) (size end r p : ℕ) : Type 0 where
@@ -69,10 +70,10 @@ pub record Retracing (m : Map) (s : List ℕ) (size : ℕ) (dims : List ℕ) (k 
   pub places_are : k ≡ at.scheme.places
 
 -- Either the links of the darts for the places below `head` were followed, and the row, which had `tail` darts, has `end`; or there is no match, and
--- `end` is 0.
-pub record Retraced (E : Site) (s s' : List ℕ) (size tail head end : ℕ) : Type 0 where
-  pub done : 1 ≤ end → (tail ≤ end) × Standing E s' size (4 * head) end × Longer E.map.slots s s' (size + tail)
-  pub none : end ≡ 0 → matches E ≡ false
+-- `end` is None.
+pub record Retraced (E : Site) (s s' : List ℕ) (size tail head : ℕ) (end : Option ℕ) : Type 0 where
+  pub done : (e : ℕ) → end ≡ Some e → (tail ≤ e) × Standing E s' size (4 * head) e × Longer E.map.slots s s' (size + tail)
+  pub none : end ≡ None → matches E ≡ false
 
 -- the row has its dart for every place, and all links were followed; or else there is no match
 pub record RetracedAll (E : Site) (s s' : List ℕ) (size : ℕ) (whole : Bool) : Type 0 where

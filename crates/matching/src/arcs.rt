@@ -1,61 +1,35 @@
 // The tests of the left arcs over the whole orbit, save those of the trees.
-ghost use Rattle.std.specs.Prelude.{◌≡◌, ◌*◌, ◌<◌, ◌≤◌, get_or};
+ghost use Rattle.std.specs.Prelude.{◌≡◌, ℕ, ◌*◌, ◌<◌, ◌≤◌, get_or};
 ghost use Rattle.model.specs.Map.{view};
 ghost use Rattle.table.specs.Words.{Sized};
-ghost use Rattle.orbit.specs.Store.{next};
-ghost use Rattle.matching.specs.ArcTests.{Testable, Turns, follows, explicit_test, arc_test, arcs_test, Firm};
+ghost use Rattle.matching.specs.ArcTests.{Testable, follows, explicit_test, arc_test, arcs_test, Firm};
 
-use conditions::arcs::wide;
 use orbit::store::word;
 use table::words::link;
 
-// The i-links lead from the row at `from` to the row at `to`.
-fn straight(
+// The i-links lead from the row at `from` to the row at `base`: from the dart at each place r of the orbit to the one at place to(r).
+fn follows<F: Fn(usize) -> usize>(
     slots: usize,
     table: &[u32],
     store: &[u32],
     size: usize,
     i: usize,
     from: usize,
-    to: usize,
+    base: usize,
+    to: F,
 ) -> bool
     requires sized { Sized slots table.now }
-    requires testable { Testable slots store.now size from to }
-    requires i_bound { i ≤ 3 }
-    ensures { result ≡ follows ((view slots table.now).link i) store.now size from to (λ q. q) }
+    requires testable { Testable slots store.now size from base }
+    requires dimension { i ≤ 3 }
+    requires callable { (r : ℕ) → r < size → F.pre to r }
+    requires place { (r q : ℕ) → r < size → F.post to r q → q < size }
+    ensures { (next : ℕ → ℕ) → ((r q : ℕ) → r < size → F.post to r q → q ≡ next r)
+        → result ≡ follows ((view slots table.now).link i) store.now size from base next }
 {
-    let mut r = 0;
-    while r < size {
-        if link(slots, table, i, word(store, from + r)) != word(store, to + r) {
+    for r in 0..size {
+        if link(slots, table, i, word(store, from + r)) != word(store, base + to(r)) {
             return false;
         }
-        r += 1;
-    }
-    true
-}
-
-// The i-links lead within the row at `from` as the links at position p of the orbit type lead within the orbit.
-fn turned(
-    slots: usize,
-    table: &[u32],
-    store: &[u32],
-    size: usize,
-    i: usize,
-    from: usize,
-    p: usize,
-) -> bool
-    requires sized { Sized slots table.now }
-    requires testable { Testable slots store.now size from from }
-    requires i_bound { (i ≤ 3) × (p < 4) × Turns slots store.now p size }
-    ensures { result ≡ follows ((view slots table.now).link i) store.now size from from (λ q. next slots store.now q p) }
-{
-    let mut r = 0;
-    while r < size {
-        let q = word(store, 4 * slots + 4 * r + p);
-        if link(slots, table, i, word(store, from + r)) != word(store, from + q) {
-            return false;
-        }
-        r += 1;
     }
     true
 }
@@ -76,17 +50,13 @@ fn explicit(
 ) -> bool
     requires sized { Sized slots table.now }
     requires testable { Testable slots store.now size from (get_or rows.now t 0) }
-    requires i_bound { (i ≤ 3) × (j < 16) × (t < 16) }
+    requires entry { j < 16 }
+    requires dimension { i ≤ 3 }
+    requires target { t < 16 }
     ensures { result ≡ explicit_test (view slots table.now) store.now size dims.now rows.now j i from t }
 {
     let to = rows[t];
-    if from < to {
-        return true;
-    }
-    if wide(dims[j]) == i {
-        return true;
-    }
-    straight(slots, table, store, size, i, from, to)
+    from < to || usize::from(dims[j]) == i || follows(slots, table, store, size, i, from, to, |r| r)
 }
 
 // The arc of entry j at dimension i, if it has one.
@@ -106,12 +76,13 @@ fn arc(
 ) -> bool
     requires sized { Sized slots table.now }
     requires firm { Firm slots store.now size nodes.now codes.now rows.now count }
-    requires j_lt_count { (j < count) × (i < 4) }
+    requires entry { j < count }
+    requires dimension { i < 4 }
     ensures { result ≡ arc_test (view slots table.now) store.now size nodes.now dims.now roots
         codes.now rows.now j i }
 {
-    let v = wide(nodes[j]);
-    let code = wide(codes[4 * v + i]);
+    let v = usize::from(nodes[j]);
+    let code = usize::from(codes[4 * v + i]);
     if code == 255 {
         return true;
     }
@@ -119,10 +90,21 @@ fn arc(
     if code < 16 {
         return explicit(slots, table, store, size, dims, rows, j, i, from, code);
     }
-    if j < roots {
+    let of_hook = j < roots;
+    if of_hook {
         return true;
     }
-    turned(slots, table, store, size, i, from, code - 16)
+    let position = code - 16;
+    follows(
+        slots,
+        table,
+        store,
+        size,
+        i,
+        from,
+        from,
+        |r| word(store, 4 * slots + 4 * r + position),
+    )
 }
 
 // Every arc of the entries.
@@ -143,9 +125,8 @@ pub(crate) fn arcs(
     ensures { result ≡ arcs_test (view slots table.now) store.now size nodes.now dims.now roots
         codes.now rows.now (4 * count) }
 {
-    let mut k = 0;
-    while k < 4 * count {
-        if !arc(
+    (0..4 * count).all(|k| {
+        arc(
             slots,
             table,
             store,
@@ -158,10 +139,6 @@ pub(crate) fn arcs(
             rows,
             k / 4,
             k % 4,
-        ) {
-            return false;
-        }
-        k += 1;
-    }
-    true
+        )
+    })
 }

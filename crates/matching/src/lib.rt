@@ -9,39 +9,35 @@ ghost use Rattle.model.specs.Map.{view};
 ghost use Rattle.table.specs.Words.{Sized};
 ghost use Rattle.matching.specs.Assign.{Posed, Answered};
 
-// Looks for the match at the orbit in the store, with the second hook at `other`, along the scheme's trees and by the codes of its left arcs. It returns
-// whether there is one; if so, `rows` says where the rows of the left nodes begin.
-pub fn assign<'a>(
+// Looks for the match at the orbit in the store, with the second hook at `other`, along the scheme's trees and by the codes of its left arcs. If there
+// is one, it returns where the rows of the left nodes begin.
+pub fn assign(
     slots: usize,
     table: &[u32],
     store: &mut [u32],
     size: usize,
-    orbit: &'a [u8; 4],
+    orbit: &[u8; 4],
     k: usize,
     other: usize,
-    nodes: &'a [u8; 16],
-    parents: &'a [u8; 16],
-    dims: &'a [u8; 16],
+    nodes: &[u8; 16],
+    parents: &[u8; 16],
+    dims: &[u8; 16],
     roots: usize,
     count: usize,
-    codes: &'a [u8; 64],
-    rows: &mut [usize; 16],
-) -> bool
+    codes: &[u8; 64],
+) -> Option<[usize; 16]>
     requires sized { Sized slots table.now }
-    requires posed { Posed (view slots table.now) store.old size orbit.now k other nodes.now parents.now dims.now roots count codes.now rows.old }
+    requires posed { Posed (view slots table.now) store.old size orbit.now k other nodes.now parents.now dims.now roots count codes.now }
     ensures { Answered (view slots table.now) store.old size orbit.now k other
-        nodes.now parents.now dims.now roots count codes.now rows.old
-        store.new rows.new result }
+        nodes.now parents.now dims.now roots count codes.now store.new result }
 {
-    if !retrace::hang(slots, table, store, size, orbit, k, other, roots) {
-        return false;
-    }
-    if !images::rows(
-        slots, table, store, size, nodes, parents, dims, roots, count, rows,
-    ) {
-        return false;
-    }
+    retrace::hang(slots, table, store, size, orbit, k, other, roots)?;
+    let mut rows = [0; 16];
+    images::rows(
+        slots, table, store, size, nodes, parents, dims, roots, count, &mut rows,
+    )?;
     arcs::arcs(
-        slots, table, store, size, nodes, dims, roots, count, codes, rows,
+        slots, table, store, size, nodes, dims, roots, count, codes, &rows,
     )
+    .then_some(rows)
 }

@@ -1,38 +1,46 @@
 // The darts of the second hook, one for each place of the orbit. The first is the one that the call names. The others are found by following, from dart
 // to dart, the links that the walk followed within the orbit. They are followed in the walk's order, so the places come in turn.
-ghost use Rattle.std.specs.Prelude.{◌+◌, ◌<◌, ◌≤◌};
+ghost use Rattle.std.specs.Prelude.{◌+◌, ◌<◌, ◌≤◌, is_some};
 ghost use Rattle.model.specs.Map.{view, max_slots};
 ghost use Rattle.table.specs.Words.{Sized};
 ghost use Rattle.orbit.specs.Store.{Taken};
 ghost use Rattle.orbit.specs.At.{site};
 ghost use Rattle.matching.specs.Retrace.{Met, Retracing, Retraced, RetracedAll, BeforeHanging, HungAll};
 
-use conditions::arcs::wide;
 use orbit::store::{push, word};
 use table::words::link;
 
 // Puts dart y at place q of the row, which has `end` darts. If q is filled, y must be the dart there. If q is the next place, y takes it, and must not
-// have one already. It returns the new number of darts, or 0 where y cannot stand at q.
-fn meet(slots: usize, store: &mut [u32], size: usize, end: usize, q: usize, y: usize) -> usize
-    requires slots_le_max_slots { slots ≤ max_slots }
+// have one already. It returns the new number of darts, and None where y cannot stand at q.
+#[tactic(auto, unfolding(orbit::specs::Store::place, orbit::specs::Store::mark))]
+fn meet(
+    slots: usize,
+    store: &mut [u32],
+    size: usize,
+    end: usize,
+    q: usize,
+    y: usize,
+) -> Option<usize>
+    requires few_slots { slots ≤ max_slots }
     requires taken { Taken slots store.old (size + end) }
-    requires y_lt_slots { (y < slots) × (q ≤ end) }
+    requires slot { y < slots }
+    requires place { q ≤ end }
     ensures { Met slots store.old size end q y store.new result }
 {
     if q < end {
         if word(store, slots + size + q) != y {
-            return 0;
+            return None;
         }
-        return end;
+        return Some(end);
     }
     if word(store, y) != 0 {
-        return 0;
+        return None;
     }
     push(slots, store, size + end, y);
-    end + 1
+    Some(end + 1)
 }
 
-// Follows the links of the dart that stands for place `head`. It returns the new end of the row, and 0 where there is no match.
+// Follows the links of the dart that stands for place `head`. It returns the new end of the row, and None where there is no match.
 fn expand(
     slots: usize,
     table: &[u32],
@@ -42,7 +50,7 @@ fn expand(
     k: usize,
     head: usize,
     tail: usize,
-) -> usize
+) -> Option<usize>
     requires sized { Sized slots table.now }
     requires retracing { Retracing (view slots table.now) store.old size dims.now k head tail }
     ensures { (T : Retracing (view slots table.now) store.old size dims.now k head tail)
@@ -51,24 +59,19 @@ fn expand(
     let x = word(store, slots + size + head);
     let at = 4 * slots + 4 * head;
     let mut end = tail;
-    let mut p = 0;
     // four turns, which the compiler writes out, left at the end of the orbit type
-    while p < 4 {
+    for p in 0..4 {
         if p == k {
-            return end;
+            return Some(end);
         }
-        let y = link(slots, table, wide(dims[p]), x);
+        let y = link(slots, table, usize::from(dims[p]), x);
         let q = word(store, at + p);
-        end = meet(slots, store, size, end, q, y);
-        if end == 0 {
-            return 0;
-        }
-        p += 1;
+        end = meet(slots, store, size, end, q, y)?;
     }
-    end
+    Some(end)
 }
 
-// Follows the links of the darts for all places, in a row that has the first dart. It returns false where there is no match.
+// Follows the links of the darts for all places, in a row that has the first dart. It answers None where there is no match.
 fn retrace(
     slots: usize,
     table: &[u32],
@@ -77,25 +80,20 @@ fn retrace(
     dims: &[u8; 4],
     k: usize,
     tail: usize,
-) -> bool
+) -> Option<()>
     requires sized { Sized slots table.now }
     requires retracing { Retracing (view slots table.now) store.old size dims.now k 0 tail }
     ensures { (T : Retracing (view slots table.now) store.old size dims.now k 0 tail)
-        → RetracedAll (site T.at) store.old store.new size result }
+        → RetracedAll (site T.at) store.old store.new size (is_some result) }
 {
     let mut end = tail;
-    let mut head = 0;
-    while head < size {
-        end = expand(slots, table, store, size, dims, k, head, end);
-        if end == 0 {
-            return false;
-        }
-        head += 1;
+    for head in 0..size {
+        end = expand(slots, table, store, size, dims, k, head, end)?;
     }
-    true
+    Some(())
 }
 
-// Makes the row of the second hook, if there is one, from the place `size` on. It returns false where there is no match.
+// Makes the row of the second hook, if there is one, from the place `size` on. It answers None where there is no match.
 pub(crate) fn hang(
     slots: usize,
     table: &[u32],
@@ -105,17 +103,14 @@ pub(crate) fn hang(
     k: usize,
     other: usize,
     roots: usize,
-) -> bool
+) -> Option<()>
     requires sized { Sized slots table.now }
     requires before_hanging { BeforeHanging (view slots table.now) store.old size dims.now k other roots }
-    ensures { HungAll (view slots table.now) store.old store.new size dims.now k other roots result }
+    ensures { HungAll (view slots table.now) store.old store.new size dims.now k other roots (is_some result) }
 {
     if roots == 1 {
-        return true;
+        return Some(());
     }
-    let tail = meet(slots, store, size, 0, 0, other);
-    if tail == 0 {
-        return false;
-    }
+    let tail = meet(slots, store, size, 0, 0, other)?;
     retrace(slots, table, store, size, dims, k, tail)
 }

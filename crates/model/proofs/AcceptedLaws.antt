@@ -3,7 +3,7 @@ use Prim.Native.Nat.{ℕ, suc, ◌+◌, ◌≤◌, ◌<◌}
 use mathlib.Core.Path.{◌≡◌, refl, sym, ap, ◌∙◌, subst}
 use mathlib.Core.Logic.{◌⊎◌, inl, inr, ⊎_elim, ◌↔◌}
 use mathlib.Core.Bool.{Bool, true, not, cond, true≢false}
-use mathlib.Core.Option.{Option, none, some}
+use Rattle.std.specs.Prelude.{Option, Some, None}
 use native.Mathlib.Omega.{arith}
 use lib.Dec.{eqb, leb}
 use borrow.Author.Tests.{eqb-true, eqb-false, eq-eqb, leb-true, le-leb, not-false}
@@ -25,13 +25,13 @@ use Rattle.model.specs.declared.Refusal.{Refusal}
 use Rattle.model.specs.declared.Refusal.TheVariants.{BadHook, BadIncidence, BadCycle}
 
 -- a refusal that names a node is given just where a node was found
-pub noted-at : (f : ℕ → Refusal) (o : Option ℕ) (a : Refusal) → noted f o ≡ some a → (s : ℕ) × (o ≡ some s) × (f s ≡ a)
-noted-at f none a e = absurd (some_not_none e refl)
-noted-at f (some s) a e = (s, refl, cc)
+pub noted-at : (f : ℕ → Refusal) (o : Option ℕ) (a : Refusal) → noted f o ≡ Some a → (s : ℕ) × (o ≡ Some s) × (f s ≡ a)
+noted-at f None a e = absurd (some_not_none e refl)
+noted-at f (Some s) a e = (s, refl, cc)
 
-pub noted-none : (f : ℕ → Refusal) (o : Option ℕ) → noted f o ≡ none → o ≡ none
-noted-none f none e = refl
-noted-none f (some s) e = absurd (some_not_none {o = some (f s)} {a = f s} refl e)
+pub noted-none : (f : ℕ → Refusal) (o : Option ℕ) → noted f o ≡ None → o ≡ None
+noted-none f None e = refl
+noted-none f (Some s) e = absurd (some_not_none {o = Some (f s)} {a = f s} refl e)
 
 one_of_three : (k : ℕ) → 1 ≤ k → k ≤ 3 → (eqb k 1 ≡ true) ⊎ ((eqb k 2 ≡ true) ⊎ (eqb k 3 ≡ true))
 one_of_three k l h = ⊎_elim (λ e. inl e)
@@ -119,16 +119,16 @@ module _ (S : Scheme) (f : Shaped S) where
 
   -- ---- a scheme without a fault is consistent, and the other way
 
-  module _ (r : scheme_fault S ≡ none) where
-    no_hook_lem : hook_fault S ≡ none
+  module _ (r : scheme_fault S ≡ None) where
+    no_hook_lem : hook_fault S ≡ None
     unfolding scheme_fault
     no_hook_lem = noted-none BadHook _ (or_else_none _ _ r).0
 
-    no_incidence_lem : incidence_fault S ≡ none
+    no_incidence_lem : incidence_fault S ≡ None
     unfolding scheme_fault
     no_incidence_lem = noted-none BadIncidence _ (or_else_none _ _ (or_else_none _ _ r).1).0
 
-    no_cycle_lem : cycle_fault S ≡ none
+    no_cycle_lem : cycle_fault S ≡ None
     unfolding scheme_fault
     no_cycle_lem = (or_else_none _ _ (or_else_none _ _ r).1).1
 
@@ -146,27 +146,27 @@ module _ (S : Scheme) (f : Shaped S) where
     accepted = record { shaped = f; consistent = consistent }
 
   module _ (a : Consistent S) where
-    hook-none : hook_fault S ≡ none
+    hook-none : hook_fault S ≡ None
     unfolding hook_fault ◌or_else◌
     hook-none =
         let wrong = least-none_of S.nodes _ (λ s h. not_both (is_hook S s) (hook_ok S s) (λ e. (hook_iff S s).1 (a.hooks s e))) in
         rw wrong (least-none_of S.nodes _ (λ s h. not_both (has S left s) (there (path_to S s)) (λ l. reached-found S f (a.reach s h l))))
 
-    incidence-none : incidence_fault S ≡ none
+    incidence-none : incidence_fault S ≡ None
     unfolding incidence_fault
     incidence-none = least-none_of S.nodes _ (λ s h. ap not ((incident_iff S s).1 (a.incidence s h)))
 
-    cycle_none : cycle_fault S ≡ none
+    cycle_none : cycle_fault S ≡ None
     unfolding cycle_fault some_if
     cycle_none = first-none_of S.nodes _ (λ s h. first-none_of (suc S.n) _ (λ i k. first-none_of (suc S.n) _ (λ j l.
         ap (λ (c : Bool). some_if c (BadCycle s i j))
         (not_both (leb (i + 2) j) (cycle_ok S s i j) (λ e. (cyclic_iff S s i j).1 (a.cycles s i j h (leb-true _ _ e) (omega arith)))))))
 
-    consistent-free : scheme_fault S ≡ none
+    consistent-free : scheme_fault S ≡ None
     unfolding scheme_fault ◌or_else◌
     consistent-free = rw (hook-none, incidence-none) cycle_none
 
-  pub consistent_iff : (scheme_fault S ≡ none) ↔ Consistent S
+  pub consistent_iff : (scheme_fault S ≡ None) ↔ Consistent S
   consistent_iff = (consistent, consistent-free)
 
 -- each side of an accepted scheme has at most one arc of each dimension at a node

@@ -2,7 +2,7 @@
 use Prim.Native.Nat.{ℕ, ◌*◌, ◌≤◌}
 use mathlib.Core.Path.{◌≡◌, refl, sym, ap, ap₂, ◌∙◌, subst}
 use mathlib.Core.Bool.{Bool, not, cond}
-use mathlib.Core.Option.{Option, none, some}
+use Rattle.std.specs.Prelude.{Option, Some, None, Ok}
 use mathlib.Core.List.{List, []}
 use lib.ListN.{length, get_or, replicate}
 use lib.Dec.{eqb, ltb}
@@ -29,8 +29,8 @@ use Rattle.model.specs.declared.Scheme.{Scheme}
 use Rattle.model.specs.declared.Darts.{Darts}
 use Rattle.model.specs.declared.Refusal.{Refusal}
 use Rattle.model.specs.declared.Refusal.TheVariants.{BadCall, BadTable, NoDart, NoMatch, NoRoom, ShortOutput}
-use Rattle.model.specs.declared.Answer.{Answer}
-use Rattle.model.specs.declared.Answer.TheVariants.{Done, Edited, Written}
+use Rattle.model.specs.declared.Reply.{Reply}
+use Rattle.model.specs.declared.Reply.TheVariants.{Done, Edited, Written}
 use Rattle.model.proofs.WellFormedLaws.{well_formed_iff}
 use Rattle.model.proofs.AcceptedLaws.{small}
 use Rattle.model.proofs.MatchIff.{good-orbit}
@@ -47,33 +47,33 @@ use Rattle.model.proofs.FileLaws.{same-file}
 -- ---- answers and what is written
 
 -- two calls with the same refusal answer the same, where they do with none
-answered-same : {o o' : Option Refusal} {d d' : Answer} → o ≡ o' → (o ≡ none → d ≡ d') → answered d o ≡ answered d' o'
+answered-same : {o o' : Option Refusal} {d d' : Reply} → o ≡ o' → (o ≡ None → d ≡ d') → answered d o ≡ answered d' o'
 answered-same {o} {o'} {d} {d'} e done = ap (answered d) e ∙ go o' (sym e)
   where
     go : (p : Option Refusal) → p ≡ o → answered d p ≡ answered d' p
-    go none q = done (sym q)
-    go (some f) q = refl
+    go None q = ap Ok (done (sym q))
+    go (Some f) q = refl
 
 -- and write the same, nothing where they are refused
-same_unless : {o o' : Option Refusal} {v v' : List ℕ} → o ≡ o' → (o ≡ none → v ≡ v') → cond (there o) [] v ≡ cond (there o') [] v'
+same_unless : {o o' : Option Refusal} {v v' : List ℕ} → o ≡ o' → (o ≡ None → v ≡ v') → cond (there o) [] v ≡ cond (there o') [] v'
 unfolding there
 same_unless {o} {o'} {v} {v'} e done = ap (λ (p : Option Refusal). cond (there p) [] v) e ∙ go o' (sym e)
   where
     go : (p : Option Refusal) → p ≡ o → cond (there p) [] v ≡ cond (there p) [] v'
-    go none q = done (sym q)
-    go (some f) q = refl
+    go None q = done (sym q)
+    go (Some f) q = refl
 
 -- a count that is done has written its numbers, and a write its file
 module _ (n N : ℕ) (t : List ℕ) (l : Lent) where
   pub count-written : written count (outcome_of n N t count l) ≡ cond (there (count_fault n N t l.store l.output)) [] (counts n (view N t))
   unfolding count_answer count_out
   count-written =
-      written_is (count_fault n N t l.store l.output) Done (λ v. count_size) (counts n (view N t)) l.output refl (sym (counts-six n (view N t)))
+      written_is (count_fault n N t l.store l.output) Done (λ v. count_size) (counts n (view N t)) l.output (sym (counts-six n (view N t)))
 
   pub write-written : written write (outcome_of n N t write l) ≡ cond (there (write_fault n N t l.output)) [] (file n (view N t))
   unfolding write_answer write_out
   write-written =
-      written_is (write_fault n N t l.output) (Written (length (file n (view N t)))) (λ v. get_or v 0 0) (file n (view N t)) l.output refl refl
+      written_is (write_fault n N t l.output) (Written (length (file n (view N t)))) (λ v. get_or v 0 0) (file n (view N t)) l.output refl
 
 -- ---- two tables
 
@@ -169,7 +169,7 @@ module _ (n N : ℕ) (t t' : List ℕ) (a : AlikeTables n N t t') where
     unfolding edit_answer
     same-edit = answered-same same-fault (λ q. same-done (sound n N t store b d q) (granted n N t store b d q).dimension)
 
-    edited_like : edit_fault n N t store b d ≡ none → Alike (edited E) (edited E')
+    edited_like : edit_fault n N t store b d ≡ None → Alike (edited E) (edited E')
     edited_like q =
         let g = sound n N t store b d q in
         let same = (granted n N t store b d q).dimension in
@@ -181,7 +181,7 @@ module _ (n N : ℕ) (t t' : List ℕ) (a : AlikeTables n N t t') where
     edit-alike = go (edit_fault n N t store b d) refl
       where
         go : (o : Option Refusal) → edit_fault n N t store b d ≡ o → AlikeTables n N (edit_table n N t store b d) (edit_table n N t' store' b d)
-        go none q =
+        go None q =
             let q' = sym same-fault ∙ q in
             record {
               one = holds_slotted n N _ (edit-holds n N t store b d q);
@@ -189,7 +189,7 @@ module _ (n N : ℕ) (t t' : List ℕ) (a : AlikeTables n N t t') where
               alike = rw (edit-table n N t store b d q, edit-table n N t' store' b d q')
                   (alike_trans (words-alike (edited E)) (alike_trans (edited_like q) (alike-sym (words-alike (edited E')))));
             }
-        go (some r) q = rw (refused-table n N t store b d r q, refused-table n N t' store' b d r (sym same-fault ∙ q)) a
+        go (Some r) q = rw (refused-table n N t store b d r q, refused-table n N t' store' b d r (sym same-fault ∙ q)) a
 
     -- both stores come back zero; where their length is wrong each stays as it was (`store_kept`)
     pub same_store : length store ≡ 16 * N → edit_store n N t store b d ≡ edit_store n N t' store' b d
@@ -212,7 +212,7 @@ module _ (n N : ℕ) (t t' : List ℕ) (a : AlikeTables n N t t') where
     same-count-fault = same-output-fault count_size l.output l'.output (ap₂ (λ (s : Bool) (k : ℕ). s and eqb k (16 * N)) same-sizes e) k
 
     -- the cells are counted where the map has been found well-formed
-    cells_same : count_fault n N t l.store l.output ≡ none → counts n m ≡ counts n m'
+    cells_same : count_fault n N t l.store l.output ≡ None → counts n m ≡ counts n m'
     unfolding count_fault
     cells_same q =
         let well = (output-passed _ n m _ _ q).1 in

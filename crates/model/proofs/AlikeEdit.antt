@@ -3,7 +3,7 @@ use Prim.Native.Nat.{ℕ, ◌+◌, ◌*◌, ◌≤◌, ◌<◌}
 use mathlib.Core.Path.{◌≡◌, refl, sym, ap, ap₂, ◌∙◌}
 use mathlib.Core.Logic.{⊎_elim}
 use mathlib.Core.Bool.{Bool, true, false, cond, true≢false}
-use mathlib.Core.Option.{Option, none, some, get_or}
+use Rattle.std.specs.Prelude.{Option, Some, None, unwrap_or}
 use lib.Dec.{eqb}
 use Rattle.base.specs.Test.{◌and◌, ◌or◌}
 use Rattle.base.specs.Below.{any_below, count_below}
@@ -48,12 +48,12 @@ module _ (E : Site) (m' : Map) (a : Alike E.map m') where
 -- ---- a word of the new map, by the pair of its slot
 
 new-word-same : (E : Site) (m' : Map) (o : Option Pair) (old old' : ℕ) (f f' : ℕ → ℕ → ℕ)
-    → (o ≡ none → old ≡ old')
-    → ((p : Pair) → o ≡ some p → f p.dart p.node ≡ f' p.dart p.node)
+    → (o ≡ None → old ≡ old')
+    → ((p : Pair) → o ≡ Some p → f p.dart p.node ≡ f' p.dart p.node)
     → new_word E o old f ≡ new_word (moved E m') o old' f'
 unfolding new_word
-new-word-same E m' none old old' f f' stood new = stood refl
-new-word-same E m' (some p) old old' f f' stood new = new p refl
+new-word-same E m' None old old' f f' stood new = stood refl
+new-word-same E m' (Some p) old old' f f' stood new = new p refl
 
 unnamed-same : (E : Site) (m' : Map) (b : Bool) (i x : ℕ) → (b ≡ false → E.map.link i x ≡ m'.link i x)
     → unnamed_link E b i x ≡ unnamed_link (moved E m') b i x
@@ -92,7 +92,7 @@ module _ (E : Site) (m' : Map) (a : Alike E.map m') (w : WellFormed E.scheme.n E
   pub same-dart : (u s : ℕ) → O u ≡ true → s < S.nodes → dart_of E u s ≡ dart_of E' u s
   unfolding dart_of free_slot rank
   same-dart u s e h = cond_same (added S s) _ _ _ _
-      (λ n. ap (λ (k : Option ℕ). get_or k 0) (nth_same m.slots _ _ (rank E u s) same-free
+      (λ n. ap (λ (k : Option ℕ). unwrap_or k 0) (nth_same m.slots _ _ (rank E u s) same-free
       ∙ ap (λ (z : ℕ). nth_lowest z (is_free E' (image E')) (rank E u s)) a.slots))
       (λ n. same-image E g m' a o A u e s h (left_of s h n))
 
@@ -128,7 +128,7 @@ module _ (E : Site) (m' : Map) (a : Alike E.map m') (w : WellFormed E.scheme.n E
         ∙ ap (λ (z : Option Pair). new_word E' z (left_word E' x (m'.state x)) (λ u s. 1)) (same-pair x)
 
     -- where no pair has the slot, it was live before
-    stood-live : (edited E).state x ≡ 1 → pair_of E x ≡ none → m.state x ≡ 1
+    stood-live : (edited E).state x ≡ 1 → pair_of E x ≡ None → m.state x ≡ 1
     stood-live l n = (bare-live ready x (sym (field_other ready State x n) ∙ l)).0
 
     -- where a pair that is not added has it, too

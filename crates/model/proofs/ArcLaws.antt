@@ -3,7 +3,7 @@ use Prim.Native.Nat.{ℕ, ◌+◌, ◌≤◌, ◌<◌}
 use mathlib.Core.Path.{◌≡◌, refl, sym, ap, ap₂, ◌∙◌, subst}
 use mathlib.Core.Logic.{⊎_elim}
 use mathlib.Core.Bool.{Bool, true, false, true≢false}
-use mathlib.Core.Option.{Option, none, some}
+use Rattle.std.specs.Prelude.{Option, Some, None}
 use native.Mathlib.Omega.{arith}
 use lib.Dec.{eqb}
 use borrow.Author.Tests.{eqb-true, eq-eqb}
@@ -31,23 +31,23 @@ module _ (S : Scheme) (side : Side) where
     where
       go : (o : Option ℕ) → first (arcs S side) (λ a. some_if (touches S side s i a) (far S side s a)) ≡ o → (r : Option ℕ) → arc_of o r ≡ explicit t
           → (a : ℕ) × (a < arcs S side) × (touches S side s i a ≡ true) × (far S side s a ≡ t)
-      go (some v) q r e =
+      go (Some v) q r e =
           let f = first-at (arcs S side) _ v q in
           let w = when-at _ f.2 in
           (f.0, f.1, w.0, (cc))
-      go none q (some p) e = absurd (let z : ◌≡◌ {A = ℕ} 0 1 = cc in omega arith)
-      go none q none e = absurd (let z : ◌≡◌ {A = ℕ} 0 1 = cc in omega arith)
+      go None q (Some p) e = absurd (let z : ◌≡◌ {A = ℕ} 0 1 = cc in omega arith)
+      go None q None e = absurd (let z : ◌≡◌ {A = ℕ} 0 1 = cc in omega arith)
 
   pub implicit-from : (s i p : ℕ) → arc_at S side s i ≡ implicit p → (p < S.places) × (word S side s p ≡ i)
   unfolding arc_at far_end
   implicit-from s i p e = go (first (arcs S side) (λ a. some_if (touches S side s i a) (far S side s a))) (least S.places (reads S side s i)) refl e
     where
       go : (o r : Option ℕ) → least S.places (reads S side s i) ≡ r → arc_of o r ≡ implicit p → (p < S.places) × (word S side s p ≡ i)
-      go (some v) r q e = absurd (let z : ◌≡◌ {A = ℕ} 0 1 = cc in omega arith)
-      go none none q e = absurd (let z : ◌≡◌ {A = ℕ} 0 1 = cc in omega arith)
-      go none (some o) q e =
+      go (Some v) r q e = absurd (let z : ◌≡◌ {A = ℕ} 0 1 = cc in omega arith)
+      go None None q e = absurd (let z : ◌≡◌ {A = ℕ} 0 1 = cc in omega arith)
+      go None (Some o) q e =
           let same : o ≡ p = cc in
-          let l = least_at S.places (reads S side s i) p (q ∙ ap {B = Option ℕ} some same) in
+          let l = least_at S.places (reads S side s i) p (q ∙ ap {B = Option ℕ} Some same) in
           (l.0, eqb-true _ _ l.1)
 
   -- the far end is the other one
@@ -78,9 +78,9 @@ module _ (S : Scheme) (side : Side) where
       go : (o : Option ℕ) → first (arcs S side) (λ a. some_if (touches S side s i a) (far S side s a)) ≡ o → (r : Option ℕ)
           → least S.places (reads S side s i) ≡ r
           → arc_of o r ≡ absent → count_below (arcs S side) (touches S side s i) + count_below S.places (reads S side s i) ≡ 0
-      go (some v) q r w e = absurd (let z : ◌≡◌ {A = ℕ} 0 1 = cc in omega arith)
-      go none q (some p) w e = absurd (let z : ◌≡◌ {A = ℕ} 0 1 = cc in omega arith)
-      go none q none w e =
+      go (Some v) q r w e = absurd (let z : ◌≡◌ {A = ℕ} 0 1 = cc in omega arith)
+      go None q (Some p) w e = absurd (let z : ◌≡◌ {A = ℕ} 0 1 = cc in omega arith)
+      go None q None w e =
           let x = count-zero (arcs S side) (touches S side s i) (λ a k. when-none _ (far S side s a) (first-none (arcs S side) _ q a k)) in
           let y = count-zero S.places (reads S side s i) (λ p k. least-none S.places (reads S side s i) w p k) in
           omega arith

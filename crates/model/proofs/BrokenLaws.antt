@@ -3,7 +3,7 @@
 use Prim.Native.Nat.{ℕ}
 use mathlib.Core.Path.{◌≡◌, refl}
 use mathlib.Core.Bool.{true, false}
-use mathlib.Core.Option.{none}
+use Rattle.std.specs.Prelude.{None, Err}
 use mathlib.Core.List.{List}
 use borrow.Author.Tests.{eq-eqb}
 use Rattle.base.specs.First.{some_if, there, ◌or_else◌}
@@ -15,7 +15,6 @@ use Rattle.model.specs.Calls.{edit_fault_at, edit_fault, edit_answer, edit_table
 use Rattle.model.specs.Calls.{output_fault_at, write_fault, write_answer, write_out}
 use Rattle.model.specs.declared.Darts.{Darts}
 use Rattle.model.specs.declared.Refusal.TheVariants.{BadTable}
-use Rattle.model.specs.declared.Answer.TheVariants.{Refused}
 
 module _ (n N : ℕ) (t : List ℕ) (broken : well_formed n (view N t) ≡ false) where
   module _ (sizes : sizes_ok n N t ≡ true) where
@@ -23,16 +22,16 @@ module _ (n N : ℕ) (t : List ℕ) (broken : well_formed n (view N t) ≡ false
     unfolding table_fault map_fault some_if ◌or_else◌
     broken-fault = rw (sizes, broken) refl
 
-    pub broken_check : check_table n N t ≡ Refused BadTable
+    pub broken_check : check_table n N t ≡ Err BadTable
     unfolding check_table some_if
     broken_check = rw broken-fault refl
 
-    pub broken-write : (out : List ℕ) → (write_answer n N t out ≡ Refused BadTable) × (write_out n N t out ≡ out)
+    pub broken-write : (out : List ℕ) → (write_answer n N t out ≡ Err BadTable) × (write_out n N t out ≡ out)
     unfolding write_answer write_out write_fault output_fault_at table_fault some_if ◌or_else◌ there
     broken-write out = (rw broken-fault refl, rw broken-fault refl)
 
-  pub broken-edit : (store b : List ℕ) (d : Darts) → stored_ok n N t store ≡ true → bytes_fault (takes d b) b ≡ none → (scheme_of b).n ≡ n
-      → (edit_answer n N t store b d ≡ Refused BadTable) × (edit_table n N t store b d ≡ t)
+  pub broken-edit : (store b : List ℕ) (d : Darts) → stored_ok n N t store ≡ true → bytes_fault (takes d b) b ≡ None → (scheme_of b).n ≡ n
+      → (edit_answer n N t store b d ≡ Err BadTable) × (edit_table n N t store b d ≡ t)
   unfolding edit_answer edit_table edit_fault edit_fault_at site_fault some_if ◌or_else◌ there
   broken-edit store b d sizes scheme same =
       let dimension = eq-eqb (scheme_of b).n n same in (rw (sizes, scheme, dimension, broken) refl, rw (sizes, scheme, dimension, broken) refl)

@@ -2,7 +2,7 @@
 use Prim.Native.Nat.{ℕ, ◌≤◌}
 use mathlib.Core.Path.{◌≡◌, refl, sym, ap, ◌∙◌}
 use mathlib.Core.Bool.{Bool, true, false, not, cond, true≢false}
-use mathlib.Core.Option.{none, some}
+use Rattle.std.specs.Prelude.{Some, None}
 use mathlib.Core.List.{List}
 use lib.ListN.{length}
 use borrow.Author.Tests.{eqb-true, ltb-true, ltb-false, not-false}
@@ -31,11 +31,11 @@ use Rattle.model.proofs.MatchIff.{match-ready}
 use Rattle.model.proofs.EditLaws.{Ready}
 use Rattle.model.proofs.KeepLaws.{edit-keeps}
 
-pub passed : (t : Bool) (a : Refusal) → some_if (not t) a ≡ none → t ≡ true
+pub passed : (t : Bool) (a : Refusal) → some_if (not t) a ≡ None → t ≡ true
 passed t a e = not-false t (when-none (not t) a e)
 
 -- what has been tested of a call that writes to an output and is not refused
-pub output-passed : (fit : Bool) (n : ℕ) (m : Map) (size : ℕ) (out : List ℕ) → output_fault_at fit n m size out ≡ none
+pub output-passed : (fit : Bool) (n : ℕ) (m : Map) (size : ℕ) (out : List ℕ) → output_fault_at fit n m size out ≡ None
     → (fit ≡ true) × (well_formed n m ≡ true) × (size ≤ length out)
 unfolding output_fault_at map_fault
 output-passed fit n m size out q =
@@ -44,11 +44,11 @@ output-passed fit n m size out q =
     (passed _ _ r.0, passed _ _ r.1, ltb-false (length out) size (when-none _ _ p.1))
 
 -- bytes with no fault in an edit are an accepted scheme's, which has as many hooks as there are darts
-pub bytes-accepted : (D : Darts) (b : List ℕ) → bytes_fault (takes D b) b ≡ none → Accepted (scheme_of b)
+pub bytes-accepted : (D : Darts) (b : List ℕ) → bytes_fault (takes D b) b ≡ None → Accepted (scheme_of b)
 unfolding bytes_fault
 bytes-accepted D b e = let r = or_else_none _ _ e in accepted (scheme_of b) (shaped b (and_left _ _ (passed _ _ r.0))) r.1
 
-pub bytes-many : (D : Darts) (b : List ℕ) → bytes_fault (takes D b) b ≡ none → as_many D (scheme_of b) ≡ true
+pub bytes-many : (D : Darts) (b : List ℕ) → bytes_fault (takes D b) b ≡ None → as_many D (scheme_of b) ≡ true
 unfolding bytes_fault
 bytes-many D b e = and_right _ _ (passed _ _ (or_else_none _ _ e).0)
 
@@ -66,7 +66,7 @@ pub record Granted (n N : ℕ) (t store b : List ℕ) (d : Darts) : Type 0 where
   pub sizes : sizes_ok n N t ≡ true
   pub form : in_form b ≡ true
   pub many : as_many d (scheme_of b) ≡ true
-  pub accepted : scheme_fault (scheme_of b) ≡ none
+  pub accepted : scheme_fault (scheme_of b) ≡ None
   pub dimension : (scheme_of b).n ≡ n
   pub well : well_formed n (view N t) ≡ true
   pub dart : LiveDart (view N t) (first_dart d)
@@ -74,7 +74,7 @@ pub record Granted (n N : ℕ) (t store b : List ℕ) (d : Darts) : Type 0 where
   pub match : matches (site_of N t b d) ≡ true
   pub room : added_darts (site_of N t b d) ≤ room_of (site_of N t b d)
 
-module _ (n N : ℕ) (t store b : List ℕ) (d : Darts) (q : edit_fault n N t store b d ≡ none) where
+module _ (n N : ℕ) (t store b : List ℕ) (d : Darts) (q : edit_fault n N t store b d ≡ None) where
   pub granted : Granted n N t store b d
   unfolding edit_fault edit_fault_at bytes_fault site_fault fit_fault
   granted =
@@ -130,6 +130,6 @@ module _ (n N : ℕ) (t store b : List ℕ) (d : Darts) (q : edit_fault n N t st
       (words-well (scheme_of b).n m (small (scheme_of b) (shaped b g.form)) (edit-keeps (site_of N t b d) sound.well ready))
 
 -- an edit that is refused leaves the table as it was
-pub refused-table : (n N : ℕ) (t store b : List ℕ) (d : Darts) (a : Refusal) → edit_fault n N t store b d ≡ some a → edit_table n N t store b d ≡ t
+pub refused-table : (n N : ℕ) (t store b : List ℕ) (d : Darts) (a : Refusal) → edit_fault n N t store b d ≡ Some a → edit_table n N t store b d ≡ t
 unfolding edit_table
 refused-table n N t store b d a q = ap (λ (c : Bool). cond c t (table_of (edited (site_of N t b d)))) (there_of q)

@@ -2,7 +2,7 @@
 use Prim.Native.Nat.{ℕ, ◌≤◌, ◌<◌}
 use mathlib.Core.Path.{◌≡◌, refl, ap, subst}
 use mathlib.Core.Bool.{Bool, true, false, cond}
-use mathlib.Core.Option.{Option, none, some}
+use Rattle.std.specs.Prelude.{Option, Some, None}
 use native.Mathlib.Omega.{arith}
 use lib.Dec.{eqb}
 use Rattle.base.specs.First.{least}
@@ -25,7 +25,7 @@ module _ (S : Scheme) (f : Shaped S) (side : Side) where
   places-few : S.places ≤ 4
   places-few = let a = f.places_few in let b = small S f in omega arith
 
-  end_below : (s i t : ℕ) → far_end (arc_part S side) (arcs S side) s i ≡ some t → t < S.nodes
+  end_below : (s i t : ℕ) → far_end (arc_part S side) (arcs S side) s i ≡ Some t → t < S.nodes
   unfolding far_end
   end_below s i t e =
       let r = first-at (arcs S side) _ t e in
@@ -42,9 +42,9 @@ module _ (S : Scheme) (f : Shaped S) (side : Side) where
     where
       go : (o : Option ℕ) → far_end (arc_part S side) (arcs S side) s i ≡ o → (r : Option ℕ) → least S.places (reads S side s i) ≡ r
           → Small S.nodes (arc_of o r)
-      go (some t) e r g = end_below s i t e
-      go none e (some p) g = let l = least_at S.places _ p g in let k = places-few in omega (arith, l.0)
-      go none e none g = omega arith
+      go (Some t) e r g = end_below s i t e
+      go None e (Some p) g = let l = least_at S.places _ p g in let k = places-few in omega (arith, l.0)
+      go None e None g = omega arith
 
 -- arcs with one code are one arc
 pub one-arc : (nodes : ℕ) → nodes ≤ 16 → (a c : Arc) → Small nodes a → Small nodes c → arc_code a ≡ arc_code c → a ≡ c

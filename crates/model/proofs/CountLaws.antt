@@ -4,7 +4,7 @@ use Prim.Native.Nat.{ℕ, zero, suc, ◌+◌, ◌≤◌, ◌<◌}
 use mathlib.Core.Path.{◌≡◌, refl, sym, ap, ◌∙◌, fun_ext}
 use mathlib.Core.Logic.{◌⊎◌, inl, inr, ⊎_elim, ◌↔◌}
 use mathlib.Core.Bool.{Bool, true, false, not, cond, true≢false}
-use mathlib.Core.Option.{Option, none, some}
+use Rattle.std.specs.Prelude.{Option, Some, None}
 use native.Mathlib.Nat.{add-zero, le_antisymm}
 use native.Mathlib.Numerals.{add-one}
 use native.Mathlib.Omega.{arith}
@@ -97,8 +97,8 @@ module _ (m : Map) (k : ℕ) (dim : ℕ → ℕ) where
       where
         go : (o : Option ℕ) → least m.slots (orbit m k dim y) ≡ o
             → (x : ℕ) × (x < m.slots) × (smallest m k dim x ≡ true) × (orbit m k dim x y ≡ true)
-        go none e = absurd (true≢false (sym (orbit_self m k dim n w dims y h l) ∙ least-none m.slots _ e y h))
-        go (some x) e =
+        go None e = absurd (true≢false (sym (orbit_self m k dim n w dims y h l) ∙ least-none m.slots _ e y h))
+        go (Some x) e =
             let f = least_at m.slots (orbit m k dim y) x e in (
               x,
               f.0,
@@ -213,7 +213,7 @@ module _ (m : Map) (k : ℕ) (dim dim' : ℕ → ℕ) (e : (p : ℕ) → p < k �
   -- the orbits are the same
   pub orbit-by : orbit m k dim ≡ orbit m k dim'
   unfolding orbit orbit_path
-  orbit-by = ap {B = ℕ → ℕ → Bool} (λ (l : ℕ → ℕ → Option ℕ) (d x : ℕ). there (get_or (paths m.slots (eqb d) l) x none)) leads-by
+  orbit-by = ap {B = ℕ → ℕ → Bool} (λ (l : ℕ → ℕ → Option ℕ) (d x : ℕ). there (get_or (paths m.slots (eqb d) l) x None)) leads-by
 
   -- and as many
   pub cells-by : cells m k dim ≡ cells m k dim'

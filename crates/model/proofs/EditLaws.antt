@@ -3,7 +3,7 @@ use Prim.Native.Nat.{ℕ, ◌≤◌, ◌<◌}
 use mathlib.Core.Path.{◌≡◌, refl, sym, ap, ap₂, ◌∙◌, subst}
 use mathlib.Core.Logic.{◌⊎◌, ⊎_elim}
 use mathlib.Core.Bool.{Bool, true, false, true≢false}
-use mathlib.Core.Option.{Option, none, some, get_or}
+use Rattle.std.specs.Prelude.{Option, Some, None, unwrap_or}
 use native.Mathlib.Nat.{lt_of_lt_of_le}
 use native.Mathlib.Omega.{arith}
 use lib.Dec.{eqb}
@@ -70,7 +70,7 @@ module _ {E : Site} (r : Ready E) where
       let f = nth_found m.slots free (rank E u s) (rank_below u s e h a) in
       let n = nth_at m.slots free (rank E u s) f.0 f.1 in
       subst (λ (x : ℕ). (x < m.slots) × (free x ≡ true) × (count_below x free ≡ rank E u s))
-      (sym (dart-added E u s a ∙ ap (λ (o : Option ℕ). get_or o 0) f.1)) n
+      (sym (dart-added E u s a ∙ ap (λ (o : Option ℕ). unwrap_or o 0) f.1)) n
 
   -- ---- the map without the deleted darts
 
@@ -151,7 +151,7 @@ module _ {E : Site} (r : Ready E) where
 
   -- ---- the pair of a slot
 
-  pub pair-at : (x : ℕ) (p : Pair) → pair_of E x ≡ some p
+  pub pair-at : (x : ℕ) (p : Pair) → pair_of E x ≡ Some p
       → (O p.dart ≡ true) × (p.node < S.nodes) × (has S right p.node ≡ true) × (dart_of E p.dart p.node ≡ x)
   unfolding pair_of
   pair-at x p e =
@@ -167,24 +167,24 @@ module _ {E : Site} (r : Ready E) where
       )
 
   module _ (u s : ℕ) (e : O u ≡ true) (h : s < S.nodes) (y : has S right s ≡ true) where
-    sole : (v t : ℕ) (p : Pair) → t < S.nodes → some_if (O v and (has S right t and eqb (dart_of E v t) (dart_of E u s))) (pair v t) ≡ some p → p ≡ pair u s
+    sole : (v t : ℕ) (p : Pair) → t < S.nodes → some_if (O v and (has S right t and eqb (dart_of E v t) (dart_of E u s))) (pair v t) ≡ Some p → p ≡ pair u s
     sole v t p l q =
         let w = when-at _ q in
         let z = and_right _ _ w.0 in
         let d = right_injective v t u s (and_left _ _ w.0) e l h (and_left _ _ z) y (eqb-true _ _ (and_right _ _ z)) in
         sym w.1 ∙ ap₂ pair d.0 d.1
 
-    inner : first S.nodes (λ t. some_if (O u and (has S right t and eqb (dart_of E u t) (dart_of E u s))) (pair u t)) ≡ some (pair u s)
+    inner : first S.nodes (λ t. some_if (O u and (has S right t and eqb (dart_of E u t) (dart_of E u s))) (pair u t)) ≡ Some (pair u s)
     unfolding some_if
     inner = first-only S.nodes _ s (pair u s) h
         (ap (λ (b : Bool). some_if b (pair u s)) (and_of e (and_of y (eq-eqb (dart_of E u s) _ refl)))) (λ t p l q. sole u t p l q)
 
-    pub pair_of_lem : pair_of E (dart_of E u s) ≡ some (pair u s)
+    pub pair_of_lem : pair_of E (dart_of E u s) ≡ Some (pair u s)
     unfolding pair_of
     pair_of_lem = first-only m.slots _ u (pair u s) (slot u e) inner
         (λ v p l q. let f = first-at S.nodes _ p q in sole v f.0 p f.1 f.2)
 
-  pub pair-none : (x : ℕ) → ((u s : ℕ) → O u ≡ true → s < S.nodes → has S right s ≡ true → dart_of E u s ≡ x → ⊥) → pair_of E x ≡ none
+  pub pair-none : (x : ℕ) → ((u s : ℕ) → O u ≡ true → s < S.nodes → has S right s ≡ true → dart_of E u s ≡ x → ⊥) → pair_of E x ≡ None
   unfolding pair_of some_if
   pair-none x f = first-none_of m.slots _ (λ u b. first-none_of S.nodes _ (λ s h. ⊎_elim
       (λ t. let z = and_right _ _ t in absurd (f u s (and_left _ _ t) h (and_left _ _ z) (eqb-true _ _ (and_right _ _ z))))
@@ -194,7 +194,7 @@ module _ {E : Site} (r : Ready E) where
   -- ---- the new map
 
   -- a slot that is no preserved or added pair's dart stays as it stood, or is deleted
-  pub field_other : (k : Field) (x : ℕ) → pair_of E x ≡ none → field_of (edited E) k x ≡ field_of bare k x
+  pub field_other : (k : Field) (x : ℕ) → pair_of E x ≡ None → field_of (edited E) k x ≡ field_of bare k x
   unfolding edited new_word
   field_other State x e = rw e refl
   field_other (Link i) x e = rw e refl
@@ -204,7 +204,7 @@ module _ {E : Site} (r : Ready E) where
     pub pair-freed : deleted S s ≡ true → freed E (image E) (dart_of E u s) ≡ true
     pair-freed d = freed_of E (image E) _ u s (slot u e) e h d (sym (dart-left E u s (deleted-left S s d)))
 
-    pub field_deleted : (k : Field) → deleted S s ≡ true → pair_of E (dart_of E u s) ≡ none → field_of (edited E) k (dart_of E u s) ≡ 0
+    pub field_deleted : (k : Field) → deleted S s ≡ true → pair_of E (dart_of E u s) ≡ None → field_of (edited E) k (dart_of E u s) ≡ 0
     field_deleted k d q = field_other k _ q ∙ field_freed k _ (pair-freed d)
 
     module _ (k : has S right s ≡ true) where

@@ -2,7 +2,7 @@
 use Prim.Native.Nat.{ℕ, suc, ◌≤◌, ◌<◌}
 use mathlib.Core.Path.{◌≡◌, refl, ap, ap₂, ◌∙◌}
 use mathlib.Core.Bool.{Bool, true, false, cond}
-use mathlib.Core.Option.{none, some}
+use Rattle.std.specs.Prelude.{Some, None}
 use mathlib.Core.List.{List, [], ◌++◌}
 use native.Mathlib.Omega.{arith}
 use lib.Dec.{ltb}
@@ -63,7 +63,7 @@ module _ (w n N : ℕ) (b : List ℕ) (form : form_in w n N b ≡ true) where
   slots_ascend o k g h = ltb-true _ _ (all-at k _ (and_right _ _ (slot_test k h)) o g)
 
   -- a slot of the file stands at one place
-  pub place_in_lem : (k : ℕ) → k < darts_in w b → place_in w b (slot_in w b k) ≡ some k
+  pub place_in_lem : (k : ℕ) → k < darts_in w b → place_in w b (slot_in w b k) ≡ Some k
   unfolding place_in
   place_in_lem k h = least-only (darts_in w b) _ k h (eq-eqb (slot_in w b k) (slot_in w b k) refl) (λ j g e.
       let same : slot_in w b j ≡ slot_in w b k = eqb-true _ _ e in
@@ -72,7 +72,7 @@ module _ (w n N : ℕ) (b : List ℕ) (form : form_in w n N b ≡ true) where
       omega (arith, ltb-false j k not-before, ltb-false k j not_after))
 
   -- another slot stands nowhere
-  pub none_in : (x : ℕ) → ((k : ℕ) → k < darts_in w b → slot_in w b k ≡ x → ⊥) → place_in w b x ≡ none
+  pub none_in : (x : ℕ) → ((k : ℕ) → k < darts_in w b → slot_in w b k ≡ x → ⊥) → place_in w b x ≡ None
   unfolding place_in
   none_in x other = least-none_of (darts_in w b) _ (λ k h. ne_eqb (slot_in w b k) x (other k h))
 

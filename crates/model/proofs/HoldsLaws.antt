@@ -3,7 +3,7 @@ use Prim.Native.Nat.{ℕ, ◌*◌, ◌≤◌, ◌<◌}
 use mathlib.Core.Path.{◌≡◌, refl, sym, ap, ◌∙◌, subst}
 use mathlib.Core.Logic.{inl, inr, ⊎_elim, ◌↔◌}
 use mathlib.Core.Bool.{Bool, true, false, cond}
-use mathlib.Core.Option.{Option, none, some}
+use Rattle.std.specs.Prelude.{Option, Some, None, Ok}
 use mathlib.Core.List.{List, []}
 use native.Mathlib.Omega.{arith}
 use lib.ListN.{length, take, replicate, length-replicate}
@@ -24,8 +24,8 @@ use Rattle.model.specs.Calls.{loaded, load_table, output_after}
 use Rattle.model.specs.Sequence.{Slotted, Holds}
 use Rattle.model.specs.declared.Darts.{Darts}
 use Rattle.model.specs.declared.Refusal.{Refusal}
-use Rattle.model.specs.declared.Answer.{Answer}
-use Rattle.model.specs.declared.Answer.TheVariants.{Done}
+use Rattle.model.specs.declared.Reply.{Reply}
+use Rattle.model.specs.declared.Reply.TheVariants.{Done}
 use Rattle.model.proofs.AnswerLaws.{answered-free, number_bounds}
 use Rattle.model.proofs.SizeLaws.{sizes_iff}
 use Rattle.model.proofs.WellFormedLaws.{well_formed_iff}
@@ -34,11 +34,11 @@ use Rattle.model.proofs.AlikeLaws.{words-well}
 use Rattle.model.proofs.CallLaws.{passed, granted, edit-table, edit-table-well, refused-table}
 
 module _ (n N : ℕ) (t : List ℕ) where
-  pub holds-free : Holds n N t → table_fault n N t ≡ none
+  pub holds-free : Holds n N t → table_fault n N t ≡ None
   unfolding table_fault map_fault some_if ◌or_else◌
   holds-free h = rw (h.sizes, (well_formed_iff n (view N t)).1 h.well) refl
 
-  pub holds_of : table_fault n N t ≡ none → Holds n N t
+  pub holds_of : table_fault n N t ≡ None → Holds n N t
   unfolding table_fault map_fault
   holds_of q = let r = or_else_none _ _ q in record { sizes = passed _ _ r.0; well = (well_formed_iff n (view N t)).0 (passed _ _ r.1) }
 
@@ -90,7 +90,7 @@ module _ (n N : ℕ) (t : List ℕ) where
 -- ---- what the calls leave
 
 -- an edit that is not refused
-pub edit-holds : (n N : ℕ) (t store b : List ℕ) (d : Darts) → edit_fault n N t store b d ≡ none → Holds n N (edit_table n N t store b d)
+pub edit-holds : (n N : ℕ) (t store b : List ℕ) (d : Darts) → edit_fault n N t store b d ≡ None → Holds n N (edit_table n N t store b d)
 unfolding edited
 edit-holds n N t store b d q =
     let g = granted n N t store b d q in
@@ -105,8 +105,8 @@ pub edit-kept : (n N : ℕ) (t store b : List ℕ) (d : Darts) → Holds n N t �
 edit-kept n N t store b d h = go (edit_fault n N t store b d) refl
   where
     go : (o : Option Refusal) → edit_fault n N t store b d ≡ o → Holds n N (edit_table n N t store b d)
-    go none q = edit-holds n N t store b d q
-    go (some r) q = rw (refused-table n N t store b d r q) h
+    go None q = edit-holds n N t store b d q
+    go (Some r) q = rw (refused-table n N t store b d r q) h
 
 -- an edit's store is zero afterwards, save where its length is wrong
 module _ (n N : ℕ) (t store b : List ℕ) (d : Darts) (s : sizes_ok n N t ≡ true) where
@@ -144,9 +144,9 @@ module _ (n N : ℕ) (t b : List ℕ) (s : sizes_ok n N t ≡ true) where
 
 -- ---- what a call has written to its output
 
--- a call that is done has written v, a refused one nothing; `done` is the answer where no refusal is found, and `size` how long v is by its values
-pub written_is : (o : Option Refusal) (done : Answer) (size : List ℕ → ℕ) (v out : List ℕ) → number done ≡ 0 → size (values done) ≡ length v
-    → take (cond (eqb (number (answered done o)) 0) (size (values (answered done o))) 0) (output_after o v out) ≡ cond (there o) [] v
+-- a call that is done has written v, a refused one nothing; `reply` is what it returns where no refusal is found, and `size` how long v is by its values
+pub written_is : (o : Option Refusal) (reply : Reply) (size : List ℕ → ℕ) (v out : List ℕ) → size (values (Ok reply)) ≡ length v
+    → take (cond (eqb (number (answered reply o)) 0) (size (values (answered reply o))) 0) (output_after o v out) ≡ cond (there o) [] v
 unfolding there
-written_is none done size v out zero long = rw (zero, long) (take-append_seam v _)
-written_is (some f) done size v out zero long = rw (ne_eqb (refusal_number f) 0 (λ e. omega (arith, (number_bounds f).0)))
+written_is None reply size v out long = rw long (take-append_seam v _)
+written_is (Some f) reply size v out long = rw (ne_eqb (refusal_number f) 0 (λ e. omega (arith, (number_bounds f).0)))

@@ -3,7 +3,7 @@ use Prim.Native.Nat.{ℕ, ◌<◌}
 use mathlib.Core.Path.{◌≡◌, refl, sym, ap, ◌∙◌, subst}
 use mathlib.Core.Logic.{◌⊎◌, inl, inr, ⊎_elim, ◌↔◌}
 use mathlib.Core.Bool.{Bool, true, false, not, true≢false}
-use mathlib.Core.Option.{none, some}
+use Rattle.std.specs.Prelude.{Some, None}
 use mathlib.Core.List.{List, [], ◌∷◌, ◌++◌}
 use native.Mathlib.Omega.{arith}
 use lib.Dec.{eqb}
@@ -48,7 +48,7 @@ module _ (S : Scheme) where
 
 module _ (S : Scheme) where
   -- what is found between s and t is the dimension of an arc that joins them
-  pub arc_between : (s t i : ℕ) → left_arc S s t ≡ some i → (a : ℕ) × (a < arcs S left) × (arc_part S left a 0 ≡ i) × Joins S a s t
+  pub arc_between : (s t i : ℕ) → left_arc S s t ≡ Some i → (a : ℕ) × (a < arcs S left) × (arc_part S left a 0 ≡ i) × Joins S a s t
   unfolding left_arc
   arc_between s t i e =
       let f = first-at (arcs S left) _ i e in
@@ -63,7 +63,7 @@ module _ (S : Scheme) where
       )
 
   -- and an arc that joins them is found
-  pub between_arc : (s t a : ℕ) → a < arcs S left → Joins S a s t → (i : ℕ) × (left_arc S s t ≡ some i)
+  pub between_arc : (s t a : ℕ) → a < arcs S left → Joins S a s t → (i : ℕ) × (left_arc S s t ≡ Some i)
   unfolding left_arc some_if
   between_arc s t a h j = first_of (arcs S left) _ a (arc_part S left a 0) h (rw (joined j))
     where
@@ -81,13 +81,13 @@ module _ (S : Scheme) where
   path_reaches h k (step {p} {x} {y} {i} l b e) = let a = arc_between x y i e in over_arc (path_reaches h k l) a.0 a.1 a.3
 
   -- the path that is found from a node
-  pub path-from : (h s : ℕ) (p : List ℕ) → s < S.nodes → path_from S h s ≡ some p → Path h p s
+  pub path-from : (h s : ℕ) (p : List ℕ) → s < S.nodes → path_from S h s ≡ Some p → Path h p s
   unfolding path_from
   path-from h s p b e = path-leads S.nodes (eqb h) (left_arc S) s p b e
 
   -- what is found is found from the first hook, or else from the second
   pub path_cases : (s : ℕ) → there (path_to S s) ≡ true
-      → (there (path_from S first_hook s) ≡ true) ⊎ ((path_from S first_hook s ≡ none) × (there (path_from S S.second s) ≡ true))
+      → (there (path_from S first_hook s) ≡ true) ⊎ ((path_from S first_hook s ≡ None) × (there (path_from S S.second s) ≡ true))
   unfolding path_to
   path_cases s e =
       let g = there-at (path_to S s) e in
@@ -133,7 +133,7 @@ module _ (S : Scheme) where
         (path_cases s e)
 
     -- from the first hook to itself the path is the empty one
-    pub hook-path : path_from S first_hook first_hook ≡ some []
+    pub hook-path : path_from S first_hook first_hook ≡ Some []
     unfolding path_from
     hook-path = path-start S.nodes (eqb first_hook) (left_arc S) first_hook f.nodes_some (eq-eqb first_hook first_hook refl)
 

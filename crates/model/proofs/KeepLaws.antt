@@ -3,7 +3,7 @@ use Prim.Native.Nat.{ℕ, ◌+◌, ◌≤◌, ◌<◌}
 use mathlib.Core.Path.{◌≡◌, refl, sym, ap, ◌∙◌, subst}
 use mathlib.Core.Logic.{◌⊎◌, inl, inr, ⊎_elim}
 use mathlib.Core.Bool.{true, true≢false}
-use mathlib.Core.Option.{Option, none, some}
+use Rattle.std.specs.Prelude.{Option, Some, None}
 use native.Mathlib.Omega.{arith}
 use borrow.Author.Tests.{eqb-true}
 use Rattle.model.specs.Map.{Map, State, Link}
@@ -46,7 +46,7 @@ module _ (E : Site) (w : WellFormed E.scheme.n E.map) (ready : Ready E) where
 
   -- a live dart is no pair's, or a left pair's
   before : (y : ℕ) → y < m.slots → m.state y ≡ 1
-      → ((pair_of E y ≡ none) × (bare.state y ≡ 1)) ⊎ ((v t : ℕ) × (O v ≡ true) × (t < S.nodes) × (has S left t ≡ true) × (y ≡ D v t))
+      → ((pair_of E y ≡ None) × (bare.state y ≡ 1)) ⊎ ((v t : ℕ) × (O v ≡ true) × (t < S.nodes) × (has S left t ≡ true) × (y ≡ D v t))
   before y h l = ⊎_elim
       (λ q.
       let f = freed-at E (image E) y q in
@@ -56,9 +56,9 @@ module _ (E : Site) (w : WellFormed E.scheme.n E.map) (ready : Ready E) where
       (true_or_false (freed E (image E) y))
     where
       go : bare.state y ≡ 1 → (p : Option Pair) → pair_of E y ≡ p
-          → ((pair_of E y ≡ none) × (bare.state y ≡ 1)) ⊎ ((v t : ℕ) × (O v ≡ true) × (t < S.nodes) × (has S left t ≡ true) × (y ≡ D v t))
-      go b none e = inl (e, b)
-      go b (some p) e =
+          → ((pair_of E y ≡ None) × (bare.state y ≡ 1)) ⊎ ((v t : ℕ) × (O v ≡ true) × (t < S.nodes) × (has S left t ≡ true) × (y ≡ D v t))
+      go b None e = inl (e, b)
+      go b (Some p) e =
           let q = L.pair-at ready y p e in
           inr (⊎_elim
           (λ k. (p.dart, p.node, q.0, q.1, k, sym q.3))
@@ -85,7 +85,7 @@ module _ (E : Site) (w : WellFormed E.scheme.n E.map) (ready : Ready E) where
 
   -- x is no pair's dart, or a preserved pair's whose node has no i-arc
   data Loose (i x : ℕ) : Type 0 where
-    loose_other : pair_of E x ≡ none → x < m.slots → bare.state x ≡ 1 → Loose i x
+    loose_other : pair_of E x ≡ None → x < m.slots → bare.state x ≡ 1 → Loose i x
     loose_kept : (u s : ℕ) → O u ≡ true → s < S.nodes → preserved S s ≡ true → arc_at S left s i ≡ absent → x ≡ D u s → Loose i x
 
   loose_dart : {i x : ℕ} → Loose i x → (x < m.slots) × (m.state x ≡ 1)
@@ -130,15 +130,15 @@ module _ (E : Site) (w : WellFormed E.scheme.n E.map) (ready : Ready E) where
   -- ---- live darts after the edit
 
   data Live (x : ℕ) : Type 0 where
-    live_other : pair_of E x ≡ none → x < m.slots → bare.state x ≡ 1 → Live x
+    live_other : pair_of E x ≡ None → x < m.slots → bare.state x ≡ 1 → Live x
     live_pair : (u s : ℕ) → O u ≡ true → s < S.nodes → has S right s ≡ true → x ≡ D u s → Live x
 
   live_at : (x : ℕ) → x < m.slots → new.state x ≡ 1 → Live x
   live_at x h l = go (pair_of E x) refl
     where
       go : (p : Option Pair) → pair_of E x ≡ p → Live x
-      go none e = live_other e h (sym (L.field_other ready State x e) ∙ l)
-      go (some p) e =
+      go None e = live_other e h (sym (L.field_other ready State x e) ∙ l)
+      go (Some p) e =
           let q = L.pair-at ready x p e in
           live_pair p.dart p.node q.0 q.1 q.2 (sym q.3)
 
@@ -281,7 +281,7 @@ module _ (E : Site) (w : WellFormed E.scheme.n E.map) (ready : Ready E) where
     -- ---- darts at which the edit changes neither αi nor αj
 
     data Plain (x : ℕ) : Type 0 where
-      plain_other : pair_of E x ≡ none → x < m.slots → bare.state x ≡ 1 → Plain x
+      plain_other : pair_of E x ≡ None → x < m.slots → bare.state x ≡ 1 → Plain x
       plain_kept : (u s : ℕ) → O u ≡ true → s < S.nodes → preserved S s ≡ true → (Cycle S left s i j → ⊥) → x ≡ D u s → Plain x
 
     plain-dart : {x : ℕ} → Plain x → (x < m.slots) × (m.state x ≡ 1)
@@ -367,13 +367,13 @@ module _ (E : Site) (w : WellFormed E.scheme.n E.map) (ready : Ready E) where
   state_of x h = go (pair_of E x) refl
     where
       go : (p : Option Pair) → pair_of E x ≡ p → (new.state x ≡ 0) ⊎ (new.state x ≡ 1)
-      go none e =
+      go None e =
           let same = L.field_other ready State x e in
           ⊎_elim
           (λ f. inl (same ∙ L.field_freed ready State x f))
           (λ f. let stays = same ∙ L.field_stays ready State x f in ⊎_elim (λ z. inl (stays ∙ z)) (λ z. inr (stays ∙ z)) (w.states x h))
           (true_or_false (freed E (image E) x))
-      go (some p) e =
+      go (Some p) e =
           let q = L.pair-at ready x p e in
           inr (ap new.state (sym q.3) ∙ new-state p.dart p.node q.0 q.1 q.2)
 

@@ -3,8 +3,7 @@ use Prim.Native.Nat.{ℕ, ◌+◌, ◌*◌, ◌/◌, ◌%◌, ◌≤◌, ◌<◌
 use mathlib.Core.Path.{◌≡◌, refl, sym, ap, ap₂, ◌∙◌, subst}
 use mathlib.Core.Logic.{◌⊎◌, inl, inr, ⊎_elim}
 use mathlib.Core.Bool.{Bool, true, false, cond, true≢false}
-use mathlib.Core.Option
-use mathlib.Core.Option.{Option, none, some}
+use Rattle.std.specs.Prelude.{unwrap_or, Option, Some, None}
 use mathlib.Core.List.{List}
 use native.Mathlib.Nat.{mul-le-mul_right}
 use native.Mathlib.Omega.{arith}
@@ -34,10 +33,10 @@ up-to : (bound x v filling : ℕ) → x < bound → up_to bound x v filling ≡ 
 up-to bound x v filling h = rw (lt-ltb x bound h) refl
 
 -- the code of the explicit arc to a node, else of the implicit one at a position
-code_of : (o r : Option ℕ) → Option.get_or o (place_code r) ≡ arc_code (arc_of o r)
-code_of (some t) r = refl
-code_of none (some p) = refl
-code_of none none = refl
+code_of : (o r : Option ℕ) → unwrap_or o (place_code r) ≡ arc_code (arc_of o r)
+code_of (Some t) r = refl
+code_of None (Some p) = refl
+code_of None None = refl
 
 module _ (b : List ℕ) (q : in_form b ≡ true) where
   -- ---- the parts of the form
@@ -190,8 +189,8 @@ module _ (b : List ℕ) (q : in_form b ≡ true) where
       let at-s : (4 * s + i) / 4 ≡ s = omega arith in
       let at_i : (4 * s + i) % 4 ≡ i = omega arith in
       get_or-list 64 (4 * s + i) _ 0 (omega arith)
-      ∙ ap₂ (λ (x y : ℕ). Option.get_or (far_end (arc_byte b side) (arc_count b side) x y) (placed_at b side (4 * s + i))) at-s at_i
-      ∙ ap₂ (λ (o : Option ℕ) (p : ℕ). Option.get_or o p) (end_same side s i) (place_is_lem side s i h l)
+      ∙ ap₂ (λ (x y : ℕ). unwrap_or (far_end (arc_byte b side) (arc_count b side) x y) (placed_at b side (4 * s + i))) at-s at_i
+      ∙ ap₂ (λ (o : Option ℕ) (p : ℕ). unwrap_or o p) (end_same side s i) (place_is_lem side s i h l)
       ∙ code_of (far_end (arc_part (scheme_of b) side) (arc_count b side) s i) (least (places_of b) (reads (scheme_of b) side s i))
 
   -- a target is the code of what the node has at that dimension

@@ -1,6 +1,6 @@
 -- 'When a scheme is accepted', first sentence: what a node has on a side at a dimension. `arc_at` (Conditions.antt) says what it is in a scheme.
 use Rattle.std.specs.Prelude.{ℕ, Bool, cond, eqb}
-use Rattle.std.proofs.Math.Option.{Option, none, some}
+use Rattle.std.specs.Prelude.{Option, Some, None}
 use Rattle.base.specs.Test.{◌and◌, ◌or◌}
 use Rattle.base.specs.First.{first, some_if}
 
@@ -12,9 +12,9 @@ pub data Arc : Type 0 where
 
 -- the explicit arc to a node, if there is one, else the implicit arc at a position, if there is one
 abbrev pub arc_of : Option ℕ → Option ℕ → Arc
-arc_of (some t) o = explicit t
-arc_of none (some p) = implicit p
-arc_of none none = absent
+arc_of (Some t) o = explicit t
+arc_of None (Some p) = implicit p
+arc_of None None = absent
 
 -- `part a f` is byte f of arc a: its dimension (0), smaller node (1) and larger node (2)
 module _ (part : ℕ → ℕ → ℕ) where

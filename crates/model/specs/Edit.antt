@@ -2,7 +2,7 @@
 -- sentence, of the map before and the map after; `edited` is that rewriting (`rewriting` of proofs/RewritingLaws.antt).
 -- At the site E, m is the map, S the scheme, O the orbit, all as they were before the edit: nothing here reads a link that was rewritten.
 use Rattle.std.specs.Prelude.{ℕ, ◌+◌, ◌*◌, Bool, true, false, cond, eqb}
-use Rattle.std.proofs.Math.Option.{Option, none, some, get_or}
+use Rattle.std.specs.Prelude.{Option, Some, None, unwrap_or}
 use Rattle.base.specs.Test.{◌and◌, ◌or◌}
 use Rattle.base.specs.Below.{any_below, count_below}
 use Rattle.base.specs.First.{nth_lowest, first, some_if}
@@ -47,7 +47,7 @@ module _ (E : Site) where
 
   -- "New darts now take the lowest slots among" those that are free: the k-th added pair takes the k-th lowest
   unfoldable pub free_slot : ℕ → ℕ
-  free_slot k = get_or (nth_lowest m.slots (is_free (image E)) k) 0
+  free_slot k = unwrap_or (nth_lowest m.slots (is_free (image E)) k) 0
 
   -- "The pairs (u, s), s added, are ordered by u and then by s": which of them (u, s) is, counted from 0
   unfoldable pub rank : ℕ → ℕ → ℕ
@@ -102,8 +102,8 @@ module _ (E : Site) where
   -- a word of a slot by the preserved or added pair, if any, whose dart it is; f gives the words of such pairs. A slot that is taken "holds the new
   -- record only": of what stood there before nothing is asked
   unfoldable pub new_word : Option Pair → ℕ → (ℕ → ℕ → ℕ) → ℕ
-  new_word none old f = old
-  new_word (some p) old f = f p.dart p.node
+  new_word None old f = old
+  new_word (Some p) old f = f p.dart p.node
 
   -- the map after the edit
   unfoldable pub edited : Map

@@ -1,7 +1,7 @@
 -- 'The map file': the bytes that are written for a map, when bytes are a map file, and the map that is loaded from them.
 -- What ends in `In` is over the width w of a file's numbers. A map file is the instance at `width`, which stands nowhere else.
 use Rattle.std.specs.Prelude.{ℕ, suc, ◌+◌, ◌*◌, Bool, cond, List, [], ◌++◌, length, eqb, ltb, leb}
-use Rattle.std.proofs.Math.Option.{Option, none, some}
+use Rattle.std.specs.Prelude.{Option, Some, None}
 use Rattle.base.specs.Test.{◌and◌, bit}
 use Rattle.base.specs.Below.{all_below, count_below}
 use Rattle.base.specs.First.{least, there}
@@ -53,8 +53,8 @@ file n m = file_in width n m
 
 -- f of a place in the file, or 0 where there is none
 abbrev pub at_place : Option ℕ → (ℕ → ℕ) → ℕ
-at_place none f = 0
-at_place (some k) f = f k
+at_place None f = 0
+at_place (Some k) f = f k
 
 module _ (w : ℕ) (b : List ℕ) where
   -- L, and the slot and the tag of the k-th dart of the file

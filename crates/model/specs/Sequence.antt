@@ -8,11 +8,10 @@ use Rattle.base.specs.Test.{◌or◌}
 use Rattle.model.specs.Map.{view}
 use Rattle.model.specs.WellFormed.{WellFormed}
 use Rattle.model.specs.Alike.{Alike}
-use Rattle.model.specs.Answer.{number, values}
+use Rattle.model.specs.Answer.{Answer, number, values}
 use Rattle.model.specs.Calls.{sizes_ok, check_table, check_scheme, edit_answer, edit_table, edit_store, count_size, count_answer, count_store, count_out}
 use Rattle.model.specs.Calls.{load_answer, load_table, write_answer, write_out}
 use Rattle.model.specs.declared.Darts.{Darts}
-use Rattle.model.specs.declared.Answer.{Answer}
 
 -- ---- two maps of one dimension and slot count, with the same live slots and equal live records
 

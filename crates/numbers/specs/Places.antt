@@ -2,17 +2,17 @@
 use Rattle.std.specs.Prelude.{ℕ, ◌+◌, ◌^◌, ◌<◌, ◌≡◌, ◌⊎◌, List, length}
 use Rattle.std.proofs.lemmas.List.Edits.{sets}
 use Rattle.base.specs.Digits.{number_at}
-use Rattle.numbers.specs.declared.Number.{Number}
+use Rattle.numbers.specs.declared.Cursor.{Cursor}
 
--- the widths of a number among which a program chooses as it runs
+-- the widths that the numbers of a file may have
 abbrev pub Width : ℕ → Type 0
 Width w = (w ≡ 2) ⊎ (w ≡ 4)
 
 -- r is the number in the `width` bytes of b from `at` on, and the place after them
-pub record NumberRead (width : ℕ) (b : List ℕ) (at : ℕ) (r : Number) : Type 0 where
-  pub value : r.value ≡ number_at width b at
-  pub small : r.value < 256 ^ width
-  pub next : r.next.at ≡ at + width
+pub record NumberRead (width : ℕ) (b : List ℕ) (at : ℕ) (r : ℕ × Cursor) : Type 0 where
+  pub value : r.0 ≡ number_at width b at
+  pub small : r.0 < 256 ^ width
+  pub next : r.1.at ≡ at + width
 
 -- l' is l with the bytes vs from `at` on, and `next` is the place after them
 pub record Put (l : List ℕ) (at : ℕ) (vs l' : List ℕ) (next : ℕ) : Type 0 where

@@ -6,20 +6,22 @@ use mathlib.Core.Bool.{Bool, true, false}
 use mathlib.Core.List.{List}
 use native.Mathlib.Decide.{dec_lt}
 use native.Mathlib.Omega.{arith}
-use lib.ListN.{get_or, set}
-use lib.Seq.{get_or-set_same, get_or-set_other}
+use lib.ListN.{length, get_or, set, take}
+use lib.Seq.{get_or-set_same, get_or-set_other, get_or-take, length-take-le}
 use borrow.Author.Count.{below_more}
 use borrow.Author.Tests.{le-ltb}
 use Rattle.base.specs.Test.{◌or◌}
+use Rattle.base.specs.Below.{count_below}
 use Rattle.base.proofs.TestLaws.{same_test, or_left, or_right, or_cases}
 use Rattle.base.proofs.BelowLaws.{count_same}
 use Rattle.model.specs.Map.{Map}
 use Rattle.model.specs.WellFormed.{WellFormed}
 use Rattle.model.specs.Orbit.{orbit, InOrbit, itself, onward}
+use Rattle.model.proofs.CountLaws.{orbit-by}
 use Rattle.model.proofs.OrbitLaws.{reached-dart, orbit_iff}
 use Rattle.orbit.specs.Store.{mark, place, next, marked, among, Taken, Arrived, Walked, Kept}
 use Rattle.orbit.specs.Places.{Pushed, Blank}
-use Rattle.orbit.specs.Walk.{MoreTaken, Followed, Expanded, Begun, OrbitAdded}
+use Rattle.orbit.specs.Walk.{BeforeWalking, MoreTaken, Followed, Expanded, Begun, OrbitAdded}
 use Rattle.orbit.proofs.StoreLaws.{
   place-set-behind,
   taken-set-behind,
@@ -296,6 +298,40 @@ module _ (m : Map) (k : ℕ) (dim : ℕ → ℕ) (d : ℕ) (s₁ : List ℕ) (be
 
       pub walking-done : OrbitAdded m k dim d s₀ s tail × (begin ≡ 0 → Walked m k dim d s tail)
       walking-done = (record { taken = v.taken; is = is-joined }, is-walked)
+
+-- ---- the walk by the first k dimensions of a list
+
+module _ {m : Map} {k : ℕ} {dim dim' : ℕ → ℕ} (same : (p : ℕ) → p < k → dim p ≡ dim' p) where
+  -- an orbit type has the dimensions below k, so others change nothing
+  walked-by : {d : ℕ} {s : List ℕ} {size : ℕ} → Walked m k dim d s size → Walked m k dim' d s size
+  walked-by {d} {s} w =
+      let orbits = orbit-by m k dim dim' same in
+      record {
+        some = w.some;
+        fits = w.fits;
+        slot = w.slot;
+        back = w.back;
+        is = λ x h. w.is x h ∙ ap (λ (o : ℕ → ℕ → Bool). o d x) orbits;
+        found = w.found;
+        links = λ r p h b. let o = w.links r p h b in (o.0, o.1 ∙ ap (λ (i : ℕ). m.link i (place m.slots s r)) (same p b));
+        start = w.start;
+        reached = w.reached;
+        counted = ap (λ (o : ℕ → ℕ → Bool). count_below m.slots (o d)) (sym orbits) ∙ w.counted;
+      }
+
+module _ (dims : List ℕ) (k : ℕ) (few : k ≤ length dims) where
+  lent-at : (p : ℕ) → p < k → get_or (take k dims) p 0 ≡ get_or dims p 0
+  lent-at p h = get_or-take k dims p 0 h
+
+  -- the walk can begin by the first k
+  pub lent-ready : {m : Map} → BeforeWalking m dims k → BeforeWalking m (take k dims) (length (take k dims))
+  lent-ready r = rw (length-take-le k dims few)
+      (record { n = r.n; small = r.small; well = r.well; few = r.few; dim = λ p h. rw (lent-at p h) (r.dim p h) })
+
+  -- and what it finds is the orbit by them
+  pub lent-walked : {m : Map} {d : ℕ} {s : List ℕ} {size : ℕ} → Walked m (length (take k dims)) (λ p. get_or (take k dims) p 0) d s size
+      → Walked m k (λ p. get_or dims p 0) d s size
+  lent-walked w = walked-by lent-at (rw (length-take-le k dims few) at w)
 
 -- ---- after the walk
 

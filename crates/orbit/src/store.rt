@@ -4,18 +4,12 @@ ghost use Rattle.model.specs.Map.{max_slots};
 ghost use Rattle.orbit.specs.Store.{Taken, mark};
 ghost use Rattle.orbit.specs.Places.{Pushed, unmarked};
 
-fn wide(x: u32) -> usize
-    ensures { result ≡ x }
-{
-    x as usize
-}
-
 // The word at `at`, as a number.
 pub fn word(store: &[u32], at: usize) -> usize
     requires { at < length store.now }
     ensures { result ≡ get_or store.now at 0 }
 {
-    wide(store[at])
+    store[at] as usize
 }
 
 // The word at `at` becomes v.
@@ -28,9 +22,9 @@ pub fn keep(store: &mut [u32], at: usize, v: usize)
 
 // Slot y, which has no place, takes the place `end`, the first that is free.
 pub fn push(slots: usize, store: &mut [u32], end: usize, y: usize)
-    requires slots_le_max_slots { slots ≤ max_slots }
+    requires few_slots { slots ≤ max_slots }
     requires taken { Taken slots store.old end }
-    requires y_lt_slots { (y < slots) × (mark store.old y ≡ 0) }
+    requires slot_without_place { (y < slots) × (mark store.old y ≡ 0) }
     ensures { Pushed slots store.old end y store.new }
 {
     keep(store, y, end + 1);
@@ -38,6 +32,7 @@ pub fn push(slots: usize, store: &mut [u32], end: usize, y: usize)
 }
 
 // No slot has a place any more.
+#[tactic(auto, unfolding(crate::specs::Places::unmarked))]
 pub fn unmark(slots: usize, store: &mut [u32])
     requires { slots ≤ length store.old }
     ensures { store.new ≡ unmarked slots store.old }

@@ -6,14 +6,14 @@ use mathlib.Core.Bool.{Bool, true, false, not, cond}
 use mathlib.Core.List.{List}
 use lib.ListN.{length}
 use lib.Dec.{eqb, leb}
+use Rattle.std.specs.Prelude.{Err}
 use Rattle.base.specs.First.{some_if, ◌or_else◌}
 use Rattle.model.specs.Map.{view}
 use Rattle.model.specs.WellFormed.{well_formed}
 use Rattle.model.specs.File.{file_form, file_map}
-use Rattle.model.specs.Answer.{number, answered}
+use Rattle.model.specs.Answer.{Answer, number, answered}
 use Rattle.model.specs.Calls.{sizes_ok, map_fault, table_fault, check_table, load_fault_at, load_fault, load_answer, load_table}
-use Rattle.model.specs.declared.Answer.{Answer}
-use Rattle.model.specs.declared.Answer.TheVariants.{Done, Refused}
+use Rattle.model.specs.declared.Reply.TheVariants.{Done}
 use Rattle.model.specs.declared.Refusal.TheVariants.{BadCall, BadTable, BadFile}
 use Rattle.model.proofs.AlikeLaws.{words-formed}
 use Rattle.model.proofs.HoldsLaws.{dimension-small, load-table, load_slotted}
@@ -62,7 +62,7 @@ module _ (f : List ℕ) where
   open_refusals = go (leb 3 (length f)) (leb N most_slots)
     where
       go : (long few : Bool)
-          → cond long (cond few (cond (eqb (number (file_loaded f)) 0) (check_table n N (file_table f)) (file_loaded f)) (Refused BadCall)) (Refused BadFile)
+          → cond long (cond few (cond (eqb (number (file_loaded f)) 0) (check_table n N (file_table f)) (file_loaded f)) (Err BadCall)) (Err BadFile)
           ≡ answered Done (some_if (not long) BadFile or_else some_if (not few) BadCall or_else some_if (not (sizes_ok n N (empty_table N))) BadCall
           or_else some_if (not (file_form n N f)) BadFile or_else some_if (not (well_formed n (file_map n N f))) BadTable)
       go true true = taken_refusals

@@ -4,7 +4,8 @@ use mathlib.Core.Path.{◌≡◌, refl, ap, ◌∙◌}
 use mathlib.Core.Logic.{⊎_elim}
 use mathlib.Core.List.{List, ◌++◌}
 use native.Mathlib.Omega.{arith}
-use lib.ListN.{length, get_or, length-append}
+use lib.ListN.{length, get_or, take, drop, length-append}
+use Rattle.std.proofs.lemmas.Grind.{elements}
 use Rattle.base.specs.Lists.{joined}
 use Rattle.base.proofs.BelowLaws.{le_or_lt}
 use Rattle.base.proofs.ListLaws.{joined_step}
@@ -44,6 +45,16 @@ unfolding numbers_line
 numbers_length vs = length-append (decimal (get_or vs 0 0) ++ fields vs (length vs - 1)) line_feed
     ∙ ap (λ (k : ℕ). k + 1) (length-append (decimal (get_or vs 0 0)) (fields vs (length vs - 1)))
 
+-- the numbers behind the first
+abbrev pub rest : List ℕ → List ℕ
+rest vs = take (length vs - 1) (drop 1 vs)
+
+pub length-rest : (vs : List ℕ) → length (rest vs) ≡ length vs - 1
+length-rest vs = grind (arith, elements)
+
+pub get_or-rest : (vs : List ℕ) (k : ℕ) → k < length (rest vs) → get_or (rest vs) k 0 ≡ get_or vs (k + 1) 0
+get_or-rest vs k h = grind (arith, elements)
+
 -- behind its first number, from the place p of l on
 module _ (vs l : List ℕ) (p : ℕ) where
   pub fields-none : Put l p (fields vs 0) l p
@@ -55,17 +66,23 @@ module _ (vs l : List ℕ) (p : ℕ) where
     unfolding fields
     fields-more l'' q y = rw joined_step (put_then l p _ l' p' _ l'' q x y)
 
+    -- the same where the numbers behind the first are gone through
+    pub rest-more : k < length (rest vs) → (l'' : List ℕ) (q : ℕ) → Put l' p' (space ++ decimal (get_or (rest vs) k 0)) l'' q
+        → Put l p (fields vs (k + 1)) l'' q
+    rest-more h l'' q y = fields-more l'' q (rw (get_or-rest vs k h) at y)
+
     -- there is room for one number more, and at the end for the end of the line
-    pub fields-room : p + length (fields vs (length vs - 1)) + 1 ≤ length l → k + 1 < length vs
-        → p' + length (space ++ decimal (get_or vs (k + 1) 0)) ≤ length l'
+    pub fields-room : p + length (fields vs (length vs - 1)) + 1 ≤ length l → k < length (rest vs)
+        → p' + length (space ++ decimal (get_or (rest vs) k 0)) ≤ length l'
     unfolding fields
     fields-room room h =
         let more : List ℕ = space ++ decimal (get_or vs (k + 1) 0) in
         let step : length (fields vs (k + 1)) ≡ length (fields vs k) + length more = ap length (joined_step k _) ∙ length-append (fields vs k) more in
-        rw (put-length l p _ l' p' x, x.after) (omega (arith, step, fields-less vs (k + 1) (length vs - 1) (omega arith)))
+        let less = fields-less vs (k + 1) (length vs - 1) (omega (arith, length-rest vs)) in
+        rw (get_or-rest vs k h, put-length l p _ l' p' x, x.after) (omega (arith, step, less))
 
-    pub end-room : p + length (fields vs (length vs - 1)) + 1 ≤ length l → k ≡ length vs - 1 → p' + 1 ≤ length l'
-    end-room room e = rw (put-length l p _ l' p' x, x.after, e) (omega arith)
+    pub end-room : p + length (fields vs (length vs - 1)) + 1 ≤ length l → k ≡ length (rest vs) → p' + 1 ≤ length l'
+    end-room room e = rw (put-length l p _ l' p' x, x.after, e, length-rest vs) (omega arith)
 
 module _ (vs l : List ℕ) (at : ℕ) (room : at + length (numbers_line vs) ≤ length l) where
   pub first-room : at + length (decimal (get_or vs 0 0)) ≤ length l
@@ -75,7 +92,7 @@ module _ (vs l : List ℕ) (at : ℕ) (room : at + length (numbers_line vs) ≤ 
     pub rest-room : p₁ + length (fields vs (length vs - 1)) + 1 ≤ length l₁
     rest-room = rw (put-length l at _ l₁ p₁ x, x.after) (omega (arith, room, numbers_length vs))
 
-    pub numbers_put : (k : ℕ) (l₂ : List ℕ) (p₂ : ℕ) (l₃ : List ℕ) (p₃ : ℕ) → k ≡ length vs - 1 → Put l₁ p₁ (fields vs k) l₂ p₂ → Put l₂ p₂ line_feed l₃ p₃
+    pub numbers_put : (k : ℕ) (l₂ : List ℕ) (p₂ : ℕ) (l₃ : List ℕ) (p₃ : ℕ) → k ≡ length (rest vs) → Put l₁ p₁ (fields vs k) l₂ p₂ → Put l₂ p₂ line_feed l₃ p₃
         → Put l at (numbers_line vs) l₃ p₃
     unfolding numbers_line
-    numbers_put k l₂ p₂ l₃ p₃ e y z = rw (← e) (put_then _ _ _ _ _ _ _ _ (put_then _ _ _ _ _ _ _ _ x y) z)
+    numbers_put k l₂ p₂ l₃ p₃ e y z = rw (← length-rest vs, ← e) (put_then _ _ _ _ _ _ _ _ (put_then _ _ _ _ _ _ _ _ x y) z)

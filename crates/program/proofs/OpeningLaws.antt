@@ -10,15 +10,17 @@ use lib.Dec.{eqb, leb}
 use lib.ListN.{length, take, drop, length-replicate}
 use lib.Seq.{length-take-le, take_at}
 use borrow.Author.Tests.{le-leb, lt-leb, leb-true, eq-eqb, ne_eqb, eqb-false}
+use Rattle.std.specs.Prelude.{Result, Ok, Err}
 use Rattle.base.specs.Test.{◌and◌, ◌or◌}
 use Rattle.base.specs.Digits.{number_at}
 use Rattle.base.proofs.TestLaws.{and_of, and_no_left, and_no_right}
-use Rattle.model.specs.Answer.{number, answered}
+use Rattle.model.specs.Answer.{Answer, number, answered}
 use Rattle.model.specs.Map.{table_size, max_slots}
 use Rattle.model.specs.Calls.{check_table, load_fault_at, load_fault, load_answer, load_table}
-use Rattle.model.specs.declared.Answer.{Answer}
-use Rattle.model.specs.declared.Answer.TheVariants.{Done, Refused as refusal}
+use Rattle.model.specs.declared.Reply.TheVariants.{Done}
+use Rattle.model.specs.declared.Refusal.{Refusal}
 use Rattle.model.specs.declared.Refusal.TheVariants.{BadCall, BadFile}
+use Rattle.model.proofs.AnswerLaws.{number_bounds}
 use Rattle.model.proofs.HoldsLaws.{table-length, load_slotted}
 use Rattle.demands.specs.Promises.{TableChecked, FileLoaded}
 use Rattle.demands.proofs.OneOutcome.{answer_of, table_of_lem}
@@ -26,7 +28,6 @@ use Rattle.demands.proofs.RefusalLaws.{load-done}
 use Rattle.program.specs.Opening.{most_slots, empty_table, file_dimension, file_slots, file_loaded, file_table, open_answer, open_table}
 use Rattle.program.specs.Opening.{Named, MapOpen, OpenedAs}
 use Rattle.program.specs.declared.opening.Opened.{Opened}
-use Rattle.program.specs.declared.opening.Opened.TheVariants.{Map, Refused}
 
 -- ---- a load asks for no more of a table than its length
 
@@ -49,7 +50,7 @@ named_of f n N h e g = record { long = h; dimension = rw e (omega arith); slots 
 -- ---- the answer, case by case
 
 module _ (f : List ℕ) where
-  pub short-answer : length f < 3 → 11 ≡ number (open_answer f)
+  pub short-answer : length f < 3 → open_answer f ≡ Err BadFile
   unfolding open_answer
   short-answer h = rw (lt-leb 3 (length f) h) refl
 
@@ -82,28 +83,28 @@ module _ (f : List ℕ) (n N : ℕ) (named : Named f n N) where
         table_as n N t (empty_table N) f blank-long (ap number load-file ∙ z)
         ∙ ap₂ (λ (i j : ℕ). load_table i j (empty_table j) f) named.dimension named.slots
 
-    module _ (few : N ≤ most_slots) (r : Answer) (t' : List ℕ) (x : FileLoaded n N t f r t') (k : ℕ) (e : k ≡ number r) where
+    module _ (few : N ≤ most_slots) (r : Answer) (t' : List ℕ) (x : FileLoaded n N t f r t') where
       few-file : file_slots f ≤ most_slots
       few-file = rw (← named.slots) few
 
-      number-file : k ≡ number (file_loaded f)
-      number-file = e ∙ ap number (answer_of x ∙ load-file)
+      answer-file : r ≡ file_loaded f
+      answer-file = answer_of x ∙ load-file
 
-      pub load-refused : (k ≡ 0 → ⊥) → k ≡ number (open_answer f)
-      load-refused ne = number-file ∙ ap number (sym (refused-answer f named.long few-file (λ z. ne (number-file ∙ z))))
+      pub load-refused : (number r ≡ 0 → ⊥) → r ≡ open_answer f
+      load-refused ne = answer-file ∙ sym (refused-answer f named.long few-file (λ z. ne (ap number answer-file ∙ z)))
 
-      pub load-checked : (c : Answer) (j : ℕ) → k ≡ 0 → TableChecked n N t' c → j ≡ number c → j ≡ number (open_answer f)
-      load-checked c j z y g =
-          let zero : number (file_loaded f) ≡ 0 = sym number-file ∙ z in
+      pub load-checked : (c : Answer) → number r ≡ 0 → TableChecked n N t' c → c ≡ open_answer f
+      load-checked c z y =
+          let zero : number (file_loaded f) ≡ 0 = ap number (sym answer-file) ∙ z in
           let checked : check_table n N t' ≡ check_table (file_dimension f) (file_slots f) (file_table f) =
           ap (check_table n N) (table_of_lem x ∙ table-file zero)
           ∙ ap₂ (λ (i j : ℕ). check_table i j (file_table f)) named.dimension named.slots in
-          g ∙ ap number (answer_of y ∙ checked ∙ sym (checked-answer f named.long few-file zero))
+          answer_of y ∙ checked ∙ sym (checked-answer f named.long few-file zero)
 
   -- ---- the table
 
   -- more slots than a table has
-  pub many-answer : most_slots < N → 1 ≡ number (open_answer f)
+  pub many-answer : most_slots < N → open_answer f ≡ Err BadCall
   unfolding open_answer
   many-answer h =
       let over : leb (file_slots f) most_slots ≡ false = lt-leb (file_slots f) most_slots (omega (arith, named.slots)) in
@@ -134,7 +135,7 @@ open_checked f z = go (leb 3 (length f)) (leb (file_slots f) most_slots) (eqb (n
     (check_table (file_dimension f) (file_slots f) (file_table f)) (file_loaded f) (eqb-false (number (file_loaded f)) 0) z
   where
     go : (long few done : Bool) (c l : Answer) → (done ≡ false → number l ≡ 0 → ⊥)
-        → number (cond long (cond few (cond done c l) (refusal BadCall)) (refusal BadFile)) ≡ 0 → number c ≡ 0
+        → number (cond long (cond few (cond done c l) (Err BadCall)) (Err BadFile)) ≡ 0 → number c ≡ 0
     go true true true c l ne z = z
     go true true false c l ne z = absurd (ne refl z)
     go true false done c l ne z = absurd (omega (arith, z))
@@ -145,7 +146,7 @@ pub open_few : (f : List ℕ) → number (open_answer f) ≡ 0 → file_slots f 
 unfolding open_answer
 open_few f z = go (leb 3 (length f)) (leb (file_slots f) most_slots) _ (leb-true (file_slots f) most_slots) z
   where
-    go : (long few : Bool) (c : Answer) → (few ≡ true → file_slots f ≤ most_slots) → number (cond long (cond few c (refusal BadCall)) (refusal BadFile)) ≡ 0
+    go : (long few : Bool) (c : Answer) → (few ≡ true → file_slots f ≤ most_slots) → number (cond long (cond few c (Err BadCall)) (Err BadFile)) ≡ 0
         → file_slots f ≤ most_slots
     go true true c h z = h refl
     go true false c h z = absurd (omega (arith, z))
@@ -175,8 +176,13 @@ module _ (f : List ℕ) (n N : ℕ) (m : MapOpen f n N) where
 
 -- ---- what a file was found to be
 
-pub open_of : (f g : List ℕ) (r : Opened) (n N : ℕ) → f ≡ g → r ≡ Map n N → OpenedAs f r → MapOpen g n N
-open_of f g r n N e h x = subst (λ (l : List ℕ). MapOpen l n N) e (subst (OpenedAs f) h x)
+pub open_of : (f g : List ℕ) (r : Result Opened Refusal) (map : Opened) → f ≡ g → r ≡ Ok map → OpenedAs f r → MapOpen g map.n map.slots
+open_of f g r map e h x = subst (λ (l : List ℕ). MapOpen l map.n map.slots) e (subst (OpenedAs f) h x)
 
-pub refused_of : (f g : List ℕ) (r : Opened) (k : ℕ) → f ≡ g → r ≡ Refused k → OpenedAs f r → (k ≡ number (open_answer g)) × (k ≡ 0 → ⊥)
-refused_of f g r k e h x = subst (λ (l : List ℕ). OpenedAs l (Refused k)) e (subst (OpenedAs f) h x)
+-- the number k of the refusal is that of the answer
+pub refused_of : (f g : List ℕ) (r : Result Opened Refusal) (e : Refusal) (k : ℕ) → f ≡ g → r ≡ Err e → OpenedAs f r → k ≡ number (Err e)
+    → (k ≡ number (open_answer g)) × (k ≡ 0 → ⊥)
+refused_of f g r e k s h x q = (
+  q ∙ ap number (sym (subst (λ (l : List ℕ). OpenedAs l (Err e)) s (subst (OpenedAs f) h x))),
+  λ z. omega (arith, (number_bounds e).0),
+)

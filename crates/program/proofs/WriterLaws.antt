@@ -1,11 +1,11 @@
 -- What is written byte by byte, and what room is left behind it.
-use Prim.Native.Nat.{ℕ, ◌+◌, ◌/◌, ◌%◌, ◌≤◌, ◌<◌}
-use mathlib.Core.Path.{◌≡◌, refl}
-use mathlib.Core.List.{List, [], ◌∷◌, ◌++◌}
+use Prim.Native.Nat.{ℕ, ◌+◌, ◌-◌, ◌/◌, ◌%◌, ◌≤◌, ◌<◌}
+use mathlib.Core.Path.{◌≡◌, refl, sym, ◌∙◌}
+use mathlib.Core.List.{List, [], ◌∷◌, ◌++◌, append_assoc}
 use native.Mathlib.Numerals.{add-one}
 use native.Mathlib.Omega.{arith}
-use lib.ListN.{length, get_or, take, set, length-append}
-use lib.Seq.{sets, take-suc, length-take-le, take-length}
+use lib.ListN.{length, get_or, take, drop, set, length-append}
+use lib.Seq.{sets, sets-eq, drop-drop, take-suc, length-take-le, take-length}
 use Rattle.base.proofs.ListLaws.{sets-sets}
 use Rattle.numbers.specs.Places.{Put}
 use Rattle.numbers.proofs.PlaceLaws.{put_then, put-length}
@@ -25,6 +25,15 @@ text_all l at s l' i h e = record {
   bytes = rw (e, h, take-length s) refl;
   after = rw h refl;
 }
+
+-- the bytes s as a copy leaves them in the midst of l
+pub text_put : (l : List ℕ) (at : ℕ) (s part : List ℕ) → part ≡ s → at + length s ≤ length l
+    → Put l at s (take at l ++ (part ++ drop (at + length s - at) (drop at l))) (at + length s)
+text_put l at s part e h =
+    let long : at + length s - at ≡ length s = omega arith in record {
+      bytes = rw (e, long, drop-drop) (sym (append_assoc (take at l) s _) ∙ sym (sets-eq s l at h));
+      after = refl;
+    }
 
 -- once the first part is written, there is room for the rest
 pub room-left : (l : List ℕ) (at : ℕ) (a b l' : List ℕ) (p : ℕ) → Put l at a l' p → at + length (a ++ b) ≤ length l → p + length b ≤ length l'

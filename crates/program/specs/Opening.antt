@@ -1,15 +1,14 @@
 -- Opening a map file, which itself names its n and N: the answer, and what the table holds afterwards.
 use Rattle.std.specs.Prelude.{ℕ, ◌≤◌, ◌≡◌, cond, List, ◌++◌, length, get_or, take, drop, replicate, eqb, leb}
+use Rattle.std.specs.Prelude.{Result, Ok, Err}
 use Rattle.base.specs.Test.{◌and◌}
 use Rattle.base.specs.Digits.{number_at}
-use Rattle.model.specs.Answer.{number}
+use Rattle.model.specs.Answer.{Answer, number}
 use Rattle.model.specs.Map.{table_size}
 use Rattle.model.specs.Calls.{check_table, load_answer, load_table}
-use Rattle.model.specs.declared.Answer.{Answer}
-use Rattle.model.specs.declared.Answer.TheVariants.{Refused as refusal}
+use Rattle.model.specs.declared.Refusal.{Refusal}
 use Rattle.model.specs.declared.Refusal.TheVariants.{BadCall, BadFile}
 use Rattle.program.specs.declared.opening.Opened.{Opened}
-use Rattle.program.specs.declared.opening.Opened.TheVariants.{Map, Refused}
 
 -- the greatest number of slots that the programs take
 abbrev pub most_slots : ℕ
@@ -45,7 +44,7 @@ module _ (f : List ℕ) where
   -- - else what the check of the table answers.
   unfoldable pub open_answer : Answer
   open_answer = cond (leb 3 (length f)) (cond (leb file_slots most_slots)
-      (cond (eqb (number file_loaded) 0) (check_table file_dimension file_slots file_table) file_loaded) (refusal BadCall)) (refusal BadFile)
+      (cond (eqb (number file_loaded) 0) (check_table file_dimension file_slots file_table) file_loaded) (Err BadCall)) (Err BadFile)
 
   -- What a table t of `most_slots` slots holds afterwards. If the file names an N that the programs take, the first N records are what the load
   -- leaves, and the rest is unchanged. Else all of t is unchanged.
@@ -65,7 +64,7 @@ pub record MapOpen (f : List ℕ) (n N : ℕ) : Type 0 where
   pub few : N ≤ most_slots
   pub done : number (open_answer f) ≡ 0
 
--- r is what the opening of the file finds: its map, or the number of the refusal
-abbrev pub OpenedAs : List ℕ → Opened → Type 0
-OpenedAs f (Map n N) = MapOpen f n N
-OpenedAs f (Refused k) = (k ≡ number (open_answer f)) × (k ≡ 0 → ⊥)
+-- r is what the opening of the file finds: its map, or the refusal
+abbrev pub OpenedAs : List ℕ → Result Opened Refusal → Type 0
+OpenedAs f (Ok map) = MapOpen f map.n map.slots
+OpenedAs f (Err r) = open_answer f ≡ Err r

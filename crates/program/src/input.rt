@@ -12,6 +12,7 @@ pub fn fill<R: Read>(input: &mut R, piece: &mut [u8]) -> io::Result<usize>
     ensures end { IfOk result (λ k. k < length piece.new → IsAtEnd (R.remaining input.new)) }
 {
     let mut done = 0;
+    // no `for`, since a read gives as many bytes as it likes
     while done < piece.len() {
         let got = input.read(&mut piece[done..])?;
         if got == 0 {

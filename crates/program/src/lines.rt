@@ -8,18 +8,15 @@ pub fn text(out: &mut [u8], at: usize, bytes: &[u8]) -> usize
     requires { at + length bytes.now ≤ length out.old }
     ensures { Put out.old at bytes.now out.new result }
 {
-    let mut i = 0;
-    while i < bytes.len() {
-        out[at + i] = bytes[i];
-        i += 1;
-    }
-    at + i
+    let end = at + bytes.len();
+    out[at..end].copy_from_slice(bytes);
+    end
 }
 
 fn digit(v: u32) -> u8
     ensures { result ≡ 48 + v % 10 }
 {
-    48 + (v % 10) as u8
+    b'0' + (v % 10) as u8
 }
 
 // Puts v in decimal.
@@ -47,15 +44,13 @@ pub fn field(out: &mut [u8], at: usize, lead: &[u8], v: u32) -> usize
 
 // Puts numbers, with a space between any two, and the end of the line.
 pub fn numbers_line(out: &mut [u8], at: usize, values: &[u32]) -> usize
-    requires in_bounds { 1 ≤ length values.now }
-    requires values_in_bounds { at + length (numbers_line values.now) ≤ length out.old }
+    requires not_empty { 1 ≤ length values.now }
+    requires line_in_bounds { at + length (numbers_line values.now) ≤ length out.old }
     ensures { Put out.old at (numbers_line values.now) out.new result }
 {
     let mut next = decimal(out, at, values[0]);
-    let mut k = 0;
-    while k + 1 < values.len() {
-        next = field(out, next, b" ", values[k + 1]);
-        k += 1;
+    for &value in &values[1..] {
+        next = field(out, next, b" ", value);
     }
     text(out, next, b"\n")
 }

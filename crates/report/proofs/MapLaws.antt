@@ -11,11 +11,10 @@ use Rattle.base.specs.First.{some_if, ◌or_else◌, there}
 use Rattle.base.proofs.TestLaws.{and_of, true_or_false}
 use Rattle.base.proofs.BelowLaws.{le_or_lt}
 use Rattle.base.proofs.ListLaws.{get_or-list, length-list}
-use Rattle.model.specs.Answer.{number}
+use Rattle.model.specs.Answer.{Answer, number}
 use Rattle.model.specs.Map.{Map, view, table_size}
 use Rattle.model.specs.Count.{counts}
 use Rattle.model.specs.Calls.{count_size, check_table, map_fault, output_fault_at, count_fault, count_store, count_out}
-use Rattle.model.specs.declared.Answer.{Answer}
 use Rattle.model.proofs.AnswerLaws.{number-few}
 use Rattle.model.proofs.CountLaws.{counts-few, counts-six}
 use Rattle.model.proofs.HoldsLaws.{holds_iff}

@@ -15,7 +15,7 @@ pub fn refuse(sums: [u32; 6], out: &mut [u8], at: usize) -> Fed
 {
     Fed {
         state: State::End,
-        sums: sums,
+        sums,
         printed: refused_line(out, at, 11),
     }
 }
@@ -31,7 +31,7 @@ fn last(sums: [u32; 6], tail: &[u8], out: &mut [u8], at: usize) -> Fed
     }
     Fed {
         state: State::End,
-        sums: sums,
+        sums,
         printed: count_line(out, at, sums),
     }
 }
@@ -49,16 +49,17 @@ pub fn ahead(left: usize, sums: [u32; 6], tail: &[u8], out: &mut [u8], at: usize
         return refuse(sums, out, at);
     }
     let place = Cursor { at: 0 };
-    let long = place.two(tail).value as usize;
+    let (long, _) = place.number::<2>(tail);
+    let long = long as usize;
     if LONGEST_FILE < long {
         return refuse(sums, out, at);
     }
     Fed {
         state: State::File {
             left: left - 1,
-            long: long,
+            long,
         },
-        sums: sums,
+        sums,
         printed: at,
     }
 }

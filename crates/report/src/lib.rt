@@ -58,8 +58,8 @@ fn begin(sums: [u32; 6], piece: &[u8], out: &mut [u8]) -> Fed
         return refuse(sums, out, 0);
     }
     let place = Cursor { at: 0 };
-    let maps = place.two(piece).value as usize;
-    ahead(maps, sums, &piece[2..size], out, 0)
+    let (maps, _) = place.number::<2>(piece);
+    ahead(maps as usize, sums, &piece[2..size], out, 0)
 }
 
 // A step over the file of a map: prints its line, and reads what comes after it.
@@ -111,7 +111,7 @@ pub fn feed(
         State::File { left, long } => file(left, long, sums, piece, table, store, out),
         State::End => Fed {
             state: State::End,
-            sums: sums,
+            sums,
             printed: 0,
         },
     }

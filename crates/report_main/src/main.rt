@@ -16,6 +16,7 @@ fn main(rt: HostRuntime) -> io::Result<()> {
     let mut state = State::Start;
     let mut sums = [0u32; 6];
     let mut want = report::wanted(state);
+    // no `for`, since what is wanted next hangs on what was read
     while want != 0 {
         let got = fill(&mut rt.stdin(), &mut input[..want])?;
         let fed = report::feed(state, sums, &input[..got], &mut table, &mut store, &mut out);

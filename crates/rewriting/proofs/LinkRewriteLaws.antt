@@ -4,7 +4,7 @@ use Prim.Native.Nat.{ℕ, ◌+◌, ◌*◌, ◌-◌, ◌/◌, ◌%◌, ◌≤◌
 use mathlib.Core.Path.{◌≡◌, refl, sym, ap, ap₂, ◌∙◌, subst}
 use mathlib.Core.Logic.{◌⊎◌, inl, inr, ⊎_elim, by_cases}
 use mathlib.Core.Bool.{true, true≢false}
-use mathlib.Core.Option.{Option, none, some}
+use Rattle.std.specs.Prelude.{Option, Some, None}
 use mathlib.Core.List.{List}
 use native.Mathlib.Decide.{ℕ_discrete}
 use native.Mathlib.Omega.{arith}
@@ -164,11 +164,11 @@ module _ {slots : ℕ} {M : Map} {store : List ℕ} {size : ℕ} {lefts rights :
       (true_or_false (has S right (k / 4)))
 
   -- the pair of a dart is found
-  not_none : (u v : ℕ) → O u ≡ true → v < S.nodes → has S right v ≡ true → pair_of E (D u v) ≡ none → ⊥
+  not_none : (u v : ℕ) → O u ≡ true → v < S.nodes → has S right v ≡ true → pair_of E (D u v) ≡ None → ⊥
   not_none u v e h k n = some_not_none (L.pair_of_lem ready u v e h k) n
 
   -- a slot that is no preserved or added pair's dart
-  untouched : (x : ℕ) → pair_of E x ≡ none → (f : Field) → field_of linked f x ≡ field_of (after_deletion E) f x
+  untouched : (x : ℕ) → pair_of E x ≡ None → (f : Field) → field_of linked f x ≡ field_of (after_deletion E) f x
   untouched x e f =
       relinked-leaves slots store size rows codes (4 * c) x f (λ k r hk l hr w z. off (k / 4) r (omega arith) (named k hk l) hr w) M
       ∙ R.given.other x f (λ a. not_none a.dart a.node a.in_orbit a.below (added-right S a.node a.is_added) (ap (pair_of E) a.same ∙ e))
@@ -280,15 +280,15 @@ module _ {slots : ℕ} {M : Map} {store : List ℕ} {size : ℕ} {lefts rights :
 
   -- x is no preserved or added pair's dart, or one's
   data Role (x : ℕ) : Type 0 where
-    no_pair : pair_of E x ≡ none → Role x
+    no_pair : pair_of E x ≡ None → Role x
     right_pair : (v r : ℕ) → v < S.nodes → r < size → has S right v ≡ true → D (P r) v ≡ x → Role x
 
   role : (x : ℕ) → Role x
   role x = go (pair_of E x) refl
     where
       go : (p : Option Pair) → pair_of E x ≡ p → Role x
-      go none e = no_pair e
-      go (some p) e =
+      go None e = no_pair e
+      go (Some p) e =
           let q = L.pair-at ready x p e in
           let w = place_of R.walked p.dart q.0 in
           right_pair p.node w.0 q.1 w.1 q.2 (ap (λ (u : ℕ). D u p.node) w.2 ∙ q.3)

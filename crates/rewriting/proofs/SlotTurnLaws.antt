@@ -4,8 +4,7 @@ use Prim.Native.Nat.{ℕ, ◌+◌, ◌*◌, ◌-◌, ◌≤◌, ◌<◌}
 use mathlib.Core.Path.{◌≡◌, refl, sym, ap, ap₂, ◌∙◌, subst}
 use mathlib.Core.Logic.{◌⊎◌, inl, inr, ⊎_elim, by_cases}
 use mathlib.Core.Bool.{Bool, true, cond}
-use mathlib.Core.Option
-use mathlib.Core.Option.{Option, some}
+use Rattle.std.specs.Prelude.{unwrap_or, Option, Some}
 use mathlib.Core.List.{List}
 use native.Mathlib.Nat.{mul-le-mul_right, lt_of_lt_of_le}
 use native.Mathlib.Decide.{ℕ_discrete, dec_lt}
@@ -146,7 +145,7 @@ module _ {m₀ : Map} {s₀ : List ℕ} {A : At m₀} {size many : ℕ} (G : Gra
       (l, omega (arith, cells))
 
   -- where `nodes` lists the added nodes: the a-th listed node is the a-th added one, and the a-th added node the a-th listed one
-  module _ (nodes : List ℕ) (node : (a : ℕ) → a < many → nth_lowest S.nodes (added S) a ≡ some (get_or nodes a 0)) where
+  module _ (nodes : List ℕ) (node : (a : ℕ) → a < many → nth_lowest S.nodes (added S) a ≡ Some (get_or nodes a 0)) where
     pub listed_at : (a : ℕ) → a < many
         → (get_or nodes a 0 < S.nodes) × (added S (get_or nodes a 0) ≡ true) × (count_below (get_or nodes a 0) (added S) ≡ a)
     listed_at a h = nth_at S.nodes (added S) a (get_or nodes a 0) (node a h)
@@ -189,7 +188,7 @@ module _ {m₀ : Map} {s₀ : List ℕ} {A : At m₀} {size many : ℕ} (G : Gra
 
       slot_next : free_slot E done ≡ y
       unfolding free_slot
-      slot_next = ap (λ (o : Option ℕ). Option.get_or o 0) (nth_is N can done y L.fits was_free_lem count-below)
+      slot_next = ap (λ (o : Option ℕ). unwrap_or o 0) (nth_is N can done y L.fits was_free_lem count-below)
 
   -- the next pair takes the lowest slot that is left
   module _ {done free : ℕ} {m' : Map} {s : List ℕ} (g : Granting A s₀ size done free m' s) {y : ℕ} (L : Lowest N m'.state free y)

@@ -1,6 +1,6 @@
 -- The phase `room`: the tags that the new darts get, noted before any slot is taken, and the map without the deleted darts.
 use Rattle.std.specs.Prelude.{ℕ, ◌+◌, ◌*◌, ◌≤◌, ◌<◌, ◌≡◌, ◌⊎◌, cond, List, length, get_or, eqb}
-use Rattle.std.proofs.Math.Option.{some}
+use Rattle.std.specs.Prelude.{Some}
 use Rattle.base.specs.First.{nth_lowest}
 use Rattle.base.specs.Steps.{steps}
 use Rattle.model.specs.Map.{Map, max_slots}
@@ -61,7 +61,7 @@ pub record DeletedRows (N : ℕ) (store : List ℕ) (size : ℕ) (kinds : List �
 pub record BeforeRoom (m : Map) (s : List ℕ) (size : ℕ) (nodes : List ℕ) (many : ℕ) (donors kinds : List ℕ) (c : ℕ) (rows : List ℕ) : Type 0 where
   pub at : At m
   pub grant : Grant at s size many
-  pub node : (a : ℕ) → a < many → nth_lowest at.scheme.nodes (added at.scheme) a ≡ some (get_or nodes a 0)
+  pub node : (a : ℕ) → a < many → nth_lowest at.scheme.nodes (added at.scheme) a ≡ Some (get_or nodes a 0)
   pub donors_are : donors ≡ at.scheme.donors
   pub nodes_are : c ≡ at.scheme.nodes
   pub kinded : kinds ≡ at.scheme.kinds

@@ -1,6 +1,6 @@
 -- The darts of the added pairs: what the giving of slots starts from, what holds once some of the pairs have theirs, and what holds in the end.
 use Rattle.std.specs.Prelude.{ℕ, ◌+◌, ◌*◌, ◌-◌, ◌/◌, ◌≤◌, ◌<◌, ◌≡◌, ◌⊎◌, Bool, true, List, length, get_or, ltb}
-use Rattle.std.proofs.Math.Option.{some}
+use Rattle.std.specs.Prelude.{Some}
 use Rattle.base.specs.Test.{◌and◌}
 use Rattle.base.specs.Below.{count_below}
 use Rattle.base.specs.First.{nth_lowest}
@@ -156,7 +156,7 @@ pub record BeforeGiving (N : ℕ) (m : Map) (s : List ℕ) (size : ℕ) (nodes :
   pub grant : Grant at s size many
   pub bare : Bare (site at) m
   pub tagged : TagsNoted (site at) s size
-  pub node : (a : ℕ) → a < many → nth_lowest at.scheme.nodes (added at.scheme) a ≡ some (get_or nodes a 0)
+  pub node : (a : ℕ) → a < many → nth_lowest at.scheme.nodes (added at.scheme) a ≡ Some (get_or nodes a 0)
   pub assigned : Assigned (site at) s rows size
   pub wide : length rows ≡ 16
 

@@ -11,12 +11,12 @@ ghost use Rattle.rewriting.specs.Links.{place_by, overwritten, followed, relinke
 ghost use Rattle.rewriting.specs.Links.{Turnable, Legible, Rows, Codes, BeforeRewriting};
 ghost use Rattle.rewriting.specs.Darts.{HoldsSlots};
 
-use conditions::arcs::wide;
 use orbit::store::word;
 use table::words::put_link;
 
 // Where the partner of the dart at place r stands in its row. An explicit arc (a code below 16) joins darts of the same orbit dart, so it is r. An
 // implicit arc at position p joins the darts of neighbours, so it is the place to which the orbit's link p leads from r.
+#[tactic(auto, unfolding(crate::specs::Links::place_by, orbit::specs::Store::next))]
 fn place(slots: usize, store: &[u32], code: usize, r: usize) -> usize
     requires { 16 ≤ code → 4 * slots + 4 * r + (code - 16) < length store.now }
     ensures { result ≡ place_by slots store.now code r }
@@ -40,17 +40,16 @@ fn join(
 )
     requires sized { Sized slots table.old }
     requires holds_slots { HoldsSlots slots store.now from size }
-    requires size_in_bounds { (to + size ≤ length store.now) × (i ≤ 3) }
+    requires inside { to + size ≤ length store.now }
+    requires dimension { i ≤ 3 }
     requires turnable { 16 ≤ code → Turnable slots store.now size (code - 16) }
     ensures { view slots table.new ≡ with_field (view slots table.old) (Link i) (overwritten (dart_at store.now from)
         (λ r. dart_at store.now to (place_by slots store.now code r)) size ((view slots table.old).link i)) }
 {
-    let mut r = 0;
-    while r < size {
+    for r in 0..size {
         let x = word(store, from + r);
         let q = place(slots, store, code, r);
         put_link(slots, table, i, x, store[to + q]);
-        r += 1;
     }
 }
 
@@ -68,7 +67,7 @@ fn follow(
     requires sized { Sized slots table.old }
     requires holds_slots { HoldsSlots slots store.now base size }
     requires legible { Legible slots store.now size rows.now code }
-    requires i_bound { i ≤ 3 }
+    requires dimension { i ≤ 3 }
     ensures { view slots table.new ≡ with_field (view slots table.old) (Link i)
         (followed slots store.now size rows.now base code ((view slots table.old).link i)) }
 {
@@ -95,23 +94,14 @@ fn relink(
     ensures { view slots table.new ≡ relinked slots store.now size rows.now
         codes.now (4 * c) (view slots table.old) }
 {
-    let mut k = 0;
-    while k < 4 * c {
-        follow(
-            slots,
-            table,
-            store,
-            size,
-            k % 4,
-            rows[k / 4],
-            wide(codes[k]),
-            rows,
-        );
-        k += 1;
+    for k in 0..4 * c {
+        let code = usize::from(codes[k]);
+        follow(slots, table, store, size, k % 4, rows[k / 4], code, rows);
     }
 }
 
 // The code of an arc of the right side; that of no arc if the left side has the same.
+#[tactic(auto, unfolding(crate::specs::Links::changed))]
 fn change(before: u8, after: u8) -> u8
     ensures { result ≡ changed before after }
 {
@@ -122,15 +112,14 @@ fn change(before: u8, after: u8) -> u8
 }
 
 // The codes of the right arcs whose links do not stand already.
-fn changes(lefts: &[u8; 64], rights: &[u8; 64], codes: &mut [u8; 64])
-    requires { length codes.old ≡ 64 }
-    ensures { Changed lefts.now rights.now codes.new }
+fn changes(lefts: &[u8; 64], rights: &[u8; 64]) -> [u8; 64]
+    ensures { Changed lefts.now rights.now result }
 {
-    let mut k = 0;
-    while k < 64 {
+    let mut codes = [255; 64];
+    for k in 0..64 {
         codes[k] = change(lefts[k], rights[k]);
-        k += 1;
     }
+    codes
 }
 
 // The table after the edit, from the table without the deleted darts and with those of the added pairs.
@@ -150,7 +139,6 @@ pub fn rewrite(
         rights.now c rows.now)
         → table.new ≡ table_of (edited (site R.at)) }
 {
-    let mut codes = [255u8; 64];
-    changes(lefts, rights, &mut codes);
+    let codes = changes(lefts, rights);
     relink(slots, table, store, size, &codes, c, rows);
 }

@@ -13,14 +13,13 @@ use table::words::{blank, tag};
 fn note(slots: usize, table: &[u32], store: &mut [u32], size: usize, from: usize, to: usize)
     requires sized { Sized slots table.now }
     requires holds_slots { HoldsSlots slots store.old from size }
-    requires size_bound { (from + size ≤ to) × (to + size ≤ length store.old) }
+    requires row_before { from + size ≤ to }
+    requires inside { to + size ≤ length store.old }
     ensures { Noted (view slots table.now).tag store.old from to size store.new }
 {
-    let mut r = 0;
-    while r < size {
+    for r in 0..size {
         let x = word(store, from + r);
         store[to + r] = tag(slots, table, x);
-        r += 1;
     }
 }
 
@@ -30,22 +29,19 @@ fn gather(
     table: &[u32],
     store: &mut [u32],
     size: usize,
-    added: &[u8; 16],
-    many: usize,
+    added: &[u8],
     donors: &[u8; 16],
     rows: &[usize; 16],
 )
     requires sized { Sized slots table.now }
-    requires donating { Donating slots store.old size added.now many donors.now rows.now }
-    ensures { Gathered slots (view slots table.now).tag store.old size added.now many
+    requires donating { Donating slots store.old size added.now (length added.now) donors.now rows.now }
+    ensures { Gathered slots (view slots table.now).tag store.old size added.now (length added.now)
         donors.now rows.now store.new }
 {
-    let mut a = 0;
-    while a < many {
-        let s = added[a] as usize;
-        let d = donors[s] as usize;
-        note(slots, table, store, size, rows[d], 2 * slots + a * size);
-        a += 1;
+    for (a, &node) in added.iter().enumerate() {
+        let node = usize::from(node);
+        let donor = usize::from(donors[node]);
+        note(slots, table, store, size, rows[donor], 2 * slots + a * size);
     }
 }
 
@@ -55,11 +51,9 @@ fn erase(slots: usize, table: &mut [u32], store: &[u32], size: usize, base: usiz
     requires holds_slots { HoldsSlots slots store.now base size }
     ensures { view slots table.new ≡ erased (dart_at store.now base) size (view slots table.old) }
 {
-    let mut r = 0;
-    while r < size {
+    for r in 0..size {
         let x = word(store, base + r);
         blank(slots, table, x);
-        r += 1;
     }
 }
 
@@ -78,12 +72,11 @@ fn clear(
     ensures { view slots table.new ≡ cleared store.now size rows.now
         kinds.now c (view slots table.old) }
 {
-    let mut v = 0;
-    while v < c {
-        if kinds[v] == 1 {
+    for v in 0..c {
+        let deleted = kinds[v] == 1;
+        if deleted {
             erase(slots, table, store, size, rows[v]);
         }
-        v += 1;
     }
 }
 
@@ -93,19 +86,18 @@ pub fn prepare(
     table: &mut [u32],
     store: &mut [u32],
     size: usize,
-    added: &[u8; 16],
-    many: usize,
+    added: &[u8],
     donors: &[u8; 16],
     kinds: &[u8; 16],
     c: usize,
     rows: &[usize; 16],
 )
     requires sized { Sized slots table.old }
-    requires before_room { BeforeRoom (view slots table.old) store.old size added.now many donors.now kinds.now c rows.now }
-    ensures { (R : BeforeRoom (view slots table.old) store.old size added.now many donors.now
+    requires before_room { BeforeRoom (view slots table.old) store.old size added.now (length added.now) donors.now kinds.now c rows.now }
+    ensures { (R : BeforeRoom (view slots table.old) store.old size added.now (length added.now) donors.now
         kinds.now c rows.now)
         → Roomy R.at store.old size rows.now (view slots table.new) store.new }
 {
-    gather(slots, table, store, size, added, many, donors, rows);
+    gather(slots, table, store, size, added, donors, rows);
     clear(slots, table, store, size, kinds, c, rows);
 }

@@ -18,6 +18,7 @@ fn lowest(slots: usize, table: &[u32], from: usize) -> usize
     ensures { Lowest slots (view slots table.now).state from result }
 {
     let mut y = from;
+    // no `for`, since the slot that ends it is found in it
     while state(slots, table, y) != 0 {
         if state(slots, table, y + 1) == 0 {
             return y + 1;
@@ -36,7 +37,7 @@ fn lowest(slots: usize, table: &[u32], from: usize) -> usize
 // Slot y becomes live, with a 3-link to itself and the tag v.
 fn revive(slots: usize, table: &mut [u32], y: usize, v: u32)
     requires sized { Sized slots table.old }
-    requires y_lt_slots { y < slots }
+    requires slot { y < slots }
     ensures { view slots table.new ≡ revived (view slots table.old) y v }
 {
     put_state(slots, table, y, 1);
@@ -62,31 +63,25 @@ fn turn(
         (view slots table.new) store.new }
 {
     let mut from = free;
-    let mut base = 2 * slots;
-    let mut rest = many;
-    while rest != 0 {
+    let mut i = 2 * slots + r;
+    for _ in 0..many {
         let y = lowest(slots, table, from);
-        let i = base + r;
         revive(slots, table, y, store[i]);
         keep(store, i, y);
         from = y + 1;
-        base += size;
-        rest -= 1;
+        i += size;
     }
     from
 }
 
 // Says where the rows of the added nodes begin.
-fn row_starts(slots: usize, size: usize, added: &[u8; 16], many: usize, rows: &mut [usize; 16])
-    requires apart { Apart slots size added.now many }
+fn row_starts(slots: usize, size: usize, added: &[u8], rows: &mut [usize; 16])
+    requires apart { Apart slots size added.now (length added.now) }
     requires rows_len { length rows.old ≡ 16 }
-    ensures { RowsBegin slots size added.now many rows.old rows.new }
+    ensures { RowsBegin slots size added.now (length added.now) rows.old rows.new }
 {
-    let mut a = 0;
-    while a < many {
-        let s = added[a] as usize;
-        rows[s] = 2 * slots + a * size;
-        a += 1;
+    for (a, &node) in added.iter().enumerate() {
+        rows[usize::from(node)] = 2 * slots + a * size;
     }
 }
 
@@ -95,21 +90,17 @@ fn block_count(slots: usize) -> usize
     requires { slots ≤ max_slots }
     ensures { result ≡ block_count slots }
 {
-    (slots + 63) / 64
+    slots.div_ceil(64)
 }
 
 // The words of the store for the digits become 0.
 fn clear_bits(slots: usize, store: &mut [u32])
-    requires slots_le_max_slots { slots ≤ max_slots }
+    requires few_slots { slots ≤ max_slots }
     requires store_len { length store.old ≡ 16 * slots }
     ensures { NoDigits slots store.old (digit_words slots) store.new }
 {
-    let end = 2 * block_count(slots);
-    let mut i = 0;
-    while i < end {
-        keep(store, 8 * slots + i, 0);
-        i += 1;
-    }
+    let start = 8 * slots;
+    store[start..start + 2 * block_count(slots)].fill(0);
 }
 
 // The darts at the first `size` places as binary digits, 32 slots a word, so that they can be taken ascending.
@@ -118,13 +109,11 @@ fn mark_bits(slots: usize, store: &mut [u32], size: usize)
     requires no_digits { NoDigits slots store.old (digit_words slots) store.old }
     ensures { Digits slots store.old size store.new }
 {
-    let mut r = 0;
-    while r < size {
+    for r in 0..size {
         let u = word(store, slots + r);
         let at = 8 * slots + u / 32;
         let old = word(store, at);
         keep(store, at, old + (1 << (u % 32)));
-        r += 1;
     }
 }
 
@@ -132,7 +121,7 @@ fn mark_bits(slots: usize, store: &mut [u32], size: usize)
 fn pair(low: u32, high: u32) -> u64
     ensures { result ≡ low + high * 4294967296 }
 {
-    low as u64 + high as u64 * 4294967296
+    u64::from(low) + (u64::from(high) << 32)
 }
 
 // Gives slots to the pairs of the orbit darts of one block, ascending: dart 64 * w + t is one where digit t is set. It returns what `turn` does.
@@ -154,9 +143,10 @@ fn block(
 {
     let mut rest = digits;
     let mut from = free;
+    // no `for`, since each turn takes a digit off
     while rest != 0 {
-        let t = u64::trailing_zeros(rest) as usize;
-        rest = rest - (1 << t);
+        let t = rest.trailing_zeros() as usize;
+        rest -= 1 << t;
         let u = 64 * w + t;
         let r = word(store, u) - 1;
         from = turn(slots, table, store, size, many, r, from);
@@ -172,14 +162,11 @@ fn blocks(slots: usize, table: &mut [u32], store: &mut [u32], size: usize, many:
         → (f : ℕ) × Granting R.at store.old size (count_below (64 * block_count slots) (site R.at).orbit * many) f
         (view slots table.new) store.new }
 {
-    let end = block_count(slots);
     let mut free = 0;
-    let mut w = 0;
-    while w < end {
+    for w in 0..block_count(slots) {
         let at = 8 * slots + 2 * w;
         let digits = pair(store[at], store[at + 1]);
         free = block(slots, table, store, size, many, w, digits, free);
-        w += 1;
     }
 }
 
@@ -189,20 +176,19 @@ pub fn give(
     table: &mut [u32],
     store: &mut [u32],
     size: usize,
-    added: &[u8; 16],
-    many: usize,
+    added: &[u8],
     rows: &mut [usize; 16],
 )
     requires sized { Sized slots table.old }
-    requires before_giving { BeforeGiving slots (view slots table.old) store.old size added.now many rows.old }
-    ensures { (R : BeforeGiving slots (view slots table.old) store.old size added.now many rows.old)
+    requires before_giving { BeforeGiving slots (view slots table.old) store.old size added.now (length added.now) rows.old }
+    ensures { (R : BeforeGiving slots (view slots table.old) store.old size added.now (length added.now) rows.old)
         → Granted (site R.at) store.old (view slots table.new) store.new rows.new size }
 {
-    if many == 0 {
+    if added.is_empty() {
         return;
     }
-    row_starts(slots, size, added, many, rows);
+    row_starts(slots, size, added, rows);
     clear_bits(slots, store);
     mark_bits(slots, store, size);
-    blocks(slots, table, store, size, many);
+    blocks(slots, table, store, size, added.len());
 }

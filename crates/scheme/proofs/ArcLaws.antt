@@ -21,10 +21,11 @@ use Rattle.model.specs.Arc.{far_end}
 use Rattle.model.specs.Codes.{placed_at, targets_of}
 use Rattle.model.specs.Scheme.{Side, before, arc_form, arcs_form, arcs_of}
 use Rattle.frame.specs.Place.{ArcAt}
-use Rattle.scheme.specs.Words.{side_of}
+use Rattle.scheme.specs.Words.{barred}
 use Rattle.scheme.specs.Arcs.{ArcsPlaced, ArcsRead, key_of, arc_test}
 use Rattle.scheme.specs.Targets.{ArcLinked, twice_to}
 use Rattle.frame.specs.declared.cursor.Arc.{Arc}
+use Rattle.frame.specs.declared.cursor.Cursor.{Cursor}
 use Rattle.frame.specs.declared.Layout.{Layout}
 use Rattle.model.proofs.FormLaws.{arc-parts}
 use Rattle.frame.proofs.FrameLaws.{dimension-small}
@@ -66,29 +67,26 @@ before-key i s t j u v hs ht hu hv = same_test _ _
 
 -- ---- what holds once some arcs are read
 
-module _ (b : List ℕ) (other : ℕ) where
+module _ (b : List ℕ) (side : Side) where
   abbrev key_at : ℕ → ℕ
-  key_at a = key_of (arc_byte b (side_of other) a 0) (arc_byte b (side_of other) a 1) (arc_byte b (side_of other) a 2)
+  key_at a = key_of (arc_byte b side a 0) (arc_byte b side a 1) (arc_byte b side a 2)
 
   -- what holds once the first a arcs are read, up to the place `at`; `low` is the least key that may come next
   pub record Joined (a at low : ℕ) (targets : List ℕ) (twice : List Bool) : Type 0 where
-    pub formed : all_below a (arc_form b (side_of other)) ≡ true
-    pub place_is : at ≡ arcs_at b (side_of other) + 1 + 3 * a
+    pub formed : all_below a (arc_form b side) ≡ true
+    pub place_is : at ≡ arcs_at b side + 1 + 3 * a
     pub next : low ≡ above key_at a
-    pub held : Shown (placed_at b (side_of other)) (far_end (arc_byte b (side_of other)) a)
-        (touches (placed_at b (side_of other)) (arc_byte b (side_of other)) a) targets twice
+    pub held : Shown (placed_at b side) (far_end (arc_byte b side) a)
+        (touches (placed_at b side) (arc_byte b side) a) targets twice
 
 -- ---- one arc
 
-module _ (b : List ℕ) (l : Layout) (kinds : List ℕ) (other from : ℕ) (placed : ArcsPlaced b l kinds other from) where
-  abbrev side : Side
-  side = side_of other
-
+module _ (b : List ℕ) (l : Layout) (kinds : List ℕ) (side : Side) (from : ℕ) (placed : ArcsPlaced b l kinds side from) where
   abbrev part : ℕ → ℕ → ℕ
   part a f = arc_byte b side a f
 
   abbrev key : ℕ → ℕ
-  key a = key_at b other a
+  key a = key_at b side a
 
   -- what the form of an arc says of its ends
   pub record Ends (a : ℕ) : Type 0 where
@@ -103,8 +101,8 @@ module _ (b : List ℕ) (l : Layout) (kinds : List ℕ) (other from : ℕ) (plac
       let h = placed.laid.headed in
       record { dim = f.dim; order = f.order; node = f.node; small = omega arith }
 
-  joined : (s : ℕ) → s < nodes_of b → on_side side (kind_at b s) ≡ (eqb (get_or kinds s 0) other ⇒ false)
-  joined s h = let hd = placed.laid.headed in held-side b (omega arith) placed.kinds_are placed.nodes placed.side_is s h
+  joined : (s : ℕ) → s < nodes_of b → on_side side (kind_at b s) ≡ (eqb (get_or kinds s 0) (barred side) ⇒ false)
+  joined s h = let hd = placed.laid.headed in held-side b (omega arith) placed.kinds_are placed.nodes side s h
 
   -- among arcs that are in the form, each before the next, the order is that of the keys
   key-order : (a : ℕ) → ((o : ℕ) → o < a → arc_form b side o ≡ true) → Ends a → (o : ℕ) → o < a
@@ -125,7 +123,7 @@ module _ (b : List ℕ) (l : Layout) (kinds : List ℕ) (other from : ℕ) (plac
 
   -- the test of an arc, after arcs that are in the form, is its form
   pub arc-same : (a low n nodes : ℕ) → all_below a (arc_form b side) ≡ true → low ≡ above key a → n ≡ dimension_of b → nodes ≡ nodes_of b
-      → arc_test n nodes kinds other low (part a 0) (part a 1) (part a 2) ≡ arc_form b side a
+      → arc_test n nodes kinds side low (part a 0) (part a 1) (part a 2) ≡ arc_form b side a
   unfolding arc_test arc_form
   arc-same a low n nodes up low_is n_is nodes_is = same_test _ _
       (λ q.
@@ -161,8 +159,8 @@ module _ (b : List ℕ) (l : Layout) (kinds : List ℕ) (other from : ℕ) (plac
     pub t_is : t ≡ part a 2
 
   -- the arc that is read after the first a
-  pub reads : {a at low : ℕ} {targets : List ℕ} {twice : List Bool} {r : Arc} → Joined b other a at low targets twice → ArcAt b at r
-      → Read a r.dim r.near r.far
+  pub reads : {a at low : ℕ} {targets : List ℕ} {twice : List Bool} {r : Arc × Cursor} → Joined b side a at low targets twice → ArcAt b at r
+      → Read a r.0.dim r.0.near r.0.far
   reads {a} j e = record {
     d_is = e.dim_is ∙ ap (byte b) (omega (arith, j.place_is));
     s_is = e.near_is ∙ ap (λ (x : ℕ). byte b (x + 1)) j.place_is;
@@ -179,7 +177,7 @@ module _ (b : List ℕ) (l : Layout) (kinds : List ℕ) (other from : ℕ) (plac
 
   -- before the first arc
   pub joined-none : {at : ℕ} {targets : List ℕ} {twice : List Bool} → at ≡ from + 1 → targets ≡ list 64 (placed_at b side) → twice ≡ replicate 16 false
-      → Joined b other 0 at 0 targets twice
+      → Joined b side 0 at 0 targets twice
   unfolding above
   joined-none p f g = record {
     formed = all_none _;
@@ -188,16 +186,16 @@ module _ (b : List ℕ) (l : Layout) (kinds : List ℕ) (other from : ℕ) (plac
     held = shown-none (placed_at b side) part f g;
   }
 
-  pub joined-form-at : {r : Bool} {a at low n nodes d s t : ℕ} {targets : List ℕ} {twice : List Bool} → Joined b other a at low targets twice
+  pub joined-form-at : {r : Bool} {a at low n nodes d s t : ℕ} {targets : List ℕ} {twice : List Bool} → Joined b side a at low targets twice
       → Read a d s t → n ≡ dimension_of b → nodes ≡ nodes_of b
-      → r ≡ arc_test n nodes kinds other low d s t → r ≡ arc_form b side a
+      → r ≡ arc_test n nodes kinds side low d s t → r ≡ arc_form b side a
   joined-form-at {r} {a} {at} {low} {n} {nodes} j q n_is nodes_is e =
       e ∙ rw (q.d_is, q.s_is, q.t_is) (arc-same a low n nodes j.formed j.next n_is nodes_is)
 
   -- one more arc
-  pub joined-more : {a at low d s t k next : ℕ} {targets targets' : List ℕ} {twice twice' : List Bool} → Joined b other a at low targets twice
+  pub joined-more : {a at low d s t k next : ℕ} {targets targets' : List ℕ} {twice twice' : List Bool} → Joined b side a at low targets twice
       → Read a d s t → arc_form b side a ≡ true → next ≡ at + 3 → k ≡ key_of d s t → ArcLinked d s t targets twice targets' twice'
-      → Joined b other (a + 1) next (k + 1) targets' twice'
+      → Joined b side (a + 1) next (k + 1) targets' twice'
   joined-more {a} j r q p key_is e =
       let n = ends a q in
       let n3 = dimension-small b l placed.laid in
@@ -229,7 +227,7 @@ module _ (b : List ℕ) (l : Layout) (kinds : List ℕ) (other from : ℕ) (plac
       (same-ltb k (0 + 3 * count) (k / 3) (arc_count b side) (λ u. omega arith) (λ u. omega arith))
       (omega (arith, placed.from_is)))
 
-  module _ {a at low : ℕ} {targets : List ℕ} {twice : List Bool} (j : Joined b other a at low targets twice) (h : a ≤ arc_count b side)
+  module _ {a at low : ℕ} {targets : List ℕ} {twice : List Bool} (j : Joined b side a at low targets twice) (h : a ≤ arc_count b side)
       (k : arc_count b side ≤ a) where
     pub joined-form : true ≡ arcs_form b side
     unfolding arcs_form

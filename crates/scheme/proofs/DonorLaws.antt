@@ -18,7 +18,7 @@ use Rattle.model.specs.Scheme.{donor_form, scheme_of}
 use Rattle.model.proofs.NodePlaceLaws.{node-first, node-next}
 use Rattle.model.proofs.FormLaws.{donor-parts, donor-whole, donor-none}
 use Rattle.frame.specs.Place.{TakenAt}
-use Rattle.frame.specs.declared.cursor.Taken.{Taken}
+use Rattle.frame.specs.declared.cursor.Cursor.{Cursor}
 use Rattle.frame.specs.declared.Layout.{Layout}
 use Rattle.frame.proofs.FrameLaws.{node-inside}
 use Rattle.scheme.specs.Donors.{DonorsPlaced, Donated}
@@ -84,21 +84,21 @@ module _ (b : List ℕ) (l : Layout) {kinds : List ℕ} (p : DonorsPlaced b l ki
   pub donor-inside : names_donors b ≡ true → get_or kinds s 0 ≡ 3 → node_at b s + 1 + 2 * places_of b < length b
   donor-inside named added = omega (arith, node-inside b l p.laid s h, ap bit (has named added))
 
-  module _ (named : names_donors b ≡ true) (added : get_or kinds s 0 ≡ 3) {from : ℕ} (place : from ≡ node_at b s + 1 + 2 * places_of b) {r : Taken}
+  module _ (named : names_donors b ≡ true) (added : get_or kinds s 0 ≡ 3) {from : ℕ} (place : from ≡ node_at b s + 1 + 2 * places_of b) {r : ℕ × Cursor}
       (t : TakenAt b from r) where
-    donor-read : r.value ≡ donor_of b s
+    donor-read : r.0 ≡ donor_of b s
     unfolding donor_of
     donor-read = t.value_is ∙ ap (byte b) place ∙ sym (ap (λ (c : Bool). cond c (byte b (node_at b s + 1 + 2 * places_of b)) 0) (has named added))
 
     -- no node is named
-    pub no_node : l.nodes ≤ r.value → false ≡ donor_form b s
+    pub no_node : l.nodes ≤ r.0 → false ≡ donor_form b s
     no_node g =
         let d = donor-read in
         let n = p.laid.headed.nodes_is in
         sym (impossible (donor_form b s) (λ q. let f = donor-parts b s q (has named added) in omega arith))
 
     -- a node is named: its kind decides
-    pub some-formed : {at : ℕ} → at ≡ r.value → r.value < l.nodes → not (eqb (get_or kinds at 0) 3) ≡ donor_form b s
+    pub some-formed : {at : ℕ} → at ≡ r.0 → r.0 < l.nodes → not (eqb (get_or kinds at 0) 3) ≡ donor_form b s
     some-formed e g =
         let d = donor-read in
         let n = p.laid.headed.nodes_is in
@@ -107,7 +107,7 @@ module _ (b : List ℕ) (l : Layout) {kinds : List ℕ} (p : DonorsPlaced b l ki
         (λ q. donor-whole b s (λ m. record { node = below; on_left = q }))
         (λ q. (donor-parts b s q (has named added)).on_left)
 
-    pub some_more : {at : ℕ} {donors : List ℕ} → Donated b s at donors → donor_form b s ≡ true → Donated b (s + 1) r.next.at (set donors s r.value)
+    pub some_more : {at : ℕ} {donors : List ℕ} → Donated b s at donors → donor_form b s ≡ true → Donated b (s + 1) r.1.at (set donors s r.0)
     some_more f e = record {
       formed = all_more _ s f.formed e;
       place_is = omega (arith, t.next_is, node-next b s, ap bit (has named added));

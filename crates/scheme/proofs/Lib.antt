@@ -10,3 +10,4 @@ pub mod SecondLaws
 pub mod ReadLaws
 pub mod MarkLaws
 pub mod TwiceLaws
+pub mod StoredLaws

@@ -3,8 +3,7 @@ use Prim.Native.Nat.{ℕ, ◌+◌, ◌*◌, ◌/◌, ◌%◌, ◌≤◌, ◌<◌
 use mathlib.Core.Path.{◌≡◌, refl, sym, ap, ap₂, ◌∙◌}
 use mathlib.Core.Logic.{by_cases, ⊎_elim}
 use mathlib.Core.Bool.{Bool, true, false, true≢false, cond}
-use mathlib.Core.Option
-use mathlib.Core.Option.{Option, none, some}
+use Rattle.std.specs.Prelude.{unwrap_or, Option, Some, None}
 use mathlib.Core.List.{List}
 use native.Mathlib.Decide.{ℕ_discrete}
 use native.Mathlib.Omega.{arith}
@@ -84,17 +83,17 @@ module _ (place : ℕ → ℕ) where
 
   -- What the targets show. Node u has N u i explicit arcs of dimension i, and E u i is the far end of the first, if there is one.
   pub record Shown (E : ℕ → ℕ → Option ℕ) (N : ℕ → ℕ → ℕ) (targets : List ℕ) (twice : List Bool) : Type 0 where
-    pub targets_are : targets ≡ list 64 (λ k. Option.get_or (E (k / 4) (k % 4)) (place k))
+    pub targets_are : targets ≡ list 64 (λ k. unwrap_or (E (k / 4) (k % 4)) (place k))
     pub twice_are : twice ≡ list 16 (λ u. any_below 4 (λ i. leb 2 (N u i + bit (ltb (place (4 * u + i)) 255))))
-    pub small : (u i x : ℕ) → E u i ≡ some x → x < 16
-    pub empty : (u i : ℕ) → E u i ≡ none → N u i ≡ 0
-    pub counted : (u i x : ℕ) → E u i ≡ some x → 1 ≤ N u i
+    pub small : (u i x : ℕ) → E u i ≡ Some x → x < 16
+    pub empty : (u i : ℕ) → E u i ≡ None → N u i ≡ 0
+    pub counted : (u i x : ℕ) → E u i ≡ Some x → 1 ≤ N u i
 
   -- ends and counts that agree are shown by the same targets
   shown-same : {E F : ℕ → ℕ → Option ℕ} {N M : ℕ → ℕ → ℕ} {targets : List ℕ} {twice : List Bool} → ((u i : ℕ) → E u i ≡ F u i)
       → ((u i : ℕ) → N u i ≡ M u i) → Shown E N targets twice → Shown F M targets twice
   shown-same e n w = record {
-    targets_are = w.targets_are ∙ list_same 64 _ _ (λ k h. ap (λ (o : Option ℕ). Option.get_or o (place k)) (e (k / 4) (k % 4)));
+    targets_are = w.targets_are ∙ list_same 64 _ _ (λ k h. ap (λ (o : Option ℕ). unwrap_or o (place k)) (e (k / 4) (k % 4)));
     twice_are = w.twice_are ∙ list_same 16 _ _ (λ u h. any_same 4 _ _ (λ i l. ap (λ (m : ℕ). leb 2 (m + bit (ltb (place (4 * u + i)) 255))) (n u i)));
     small = λ u i x q. w.small u i x (e u i ∙ q);
     empty = λ u i q. sym (n u i) ∙ w.empty u i (e u i ∙ q);
@@ -134,7 +133,7 @@ module _ (place : ℕ → ℕ) where
 
     -- what stays true of ends and counts with one more arc, of dimension d from node s to `to`
     grown : {targets targets' : List ℕ} {twice twice' : List Bool} → to < 16 → Shown E N targets twice
-        → targets' ≡ list 64 (λ k. Option.get_or (more E d s to (k / 4) (k % 4)) (place k))
+        → targets' ≡ list 64 (λ k. unwrap_or (more E d s to (k / 4) (k % 4)) (place k))
         → twice' ≡ list 16 (λ u. any_below 4 (over (plus N d s) u)) → Shown (more E d s to) (plus N d s) targets' twice'
     grown ht w b c = record {
       targets_are = b;
@@ -157,30 +156,30 @@ module _ (place : ℕ → ℕ) where
         → Shown (more E d s to) (plus N d s) (aimed targets (4 * s + d) to) (crowded targets twice s (4 * s + d))
     shown-more {targets} {twice} ht fits w = go (E s d) refl
       where
-        at_entry : (o : Option ℕ) → E s d ≡ o → get_or targets (4 * s + d) 0 ≡ Option.get_or o (place (4 * s + d))
-        at_entry o q = ends_at E place d s w.targets_are hs hd ∙ ap (λ (p : Option ℕ). Option.get_or p (place (4 * s + d))) q
+        at_entry : (o : Option ℕ) → E s d ≡ o → get_or targets (4 * s + d) 0 ≡ unwrap_or o (place (4 * s + d))
+        at_entry o q = ends_at E place d s w.targets_are hs hd ∙ ap (λ (p : Option ℕ). unwrap_or p (place (4 * s + d))) q
 
-        flagged : E s d ≡ none → crowded targets twice s (4 * s + d) ≡ list 16 (λ u. any_below 4 (over (plus N d s) u))
+        flagged : E s d ≡ None → crowded targets twice s (4 * s + d) ≡ list 16 (λ u. any_below 4 (over (plus N d s) u))
         flagged q = by_cases (ℕ_discrete (place (4 * s + d)) 255)
             (λ e.
-            sym (crowded-free targets twice s (4 * s + d) (at_entry none q ∙ e)) ∙ w.twice_are
+            sym (crowded-free targets twice s (4 * s + d) (at_entry None q ∙ e)) ∙ w.twice_are
             ∙ list_same 16 _ _ (λ u h. alone (w.empty s d q) (le-ltb (place (4 * s + d)) 255 (omega arith)) u))
             (λ ne.
             let less : place (4 * s + d) < 255 = omega (arith, (fits (4 * s + d)).1) in
             let one : bit (ltb (place (4 * s + d)) 255) ≡ 1 = ap bit (lt-ltb _ _ less) in
-            sym (crowded-taken targets twice s (4 * s + d) (λ e. ne (sym (at_entry none q) ∙ e)))
+            sym (crowded-taken targets twice s (4 * s + d) (λ e. ne (sym (at_entry None q) ∙ e)))
             ∙ flags_set 16 _ _ s w.twice_are hs (made (omega arith)) else_where)
 
         go : (o : Option ℕ) → E s d ≡ o
             → Shown (more E d s to) (plus N d s) (aimed targets (4 * s + d) to) (crowded targets twice s (4 * s + d))
-        go none q =
-            let here : get_or targets (4 * s + d) 0 ≡ place (4 * s + d) = at_entry none q in
+        go None q =
+            let here : get_or targets (4 * s + d) 0 ≡ place (4 * s + d) = at_entry None q in
             grown ht w
             (sym (aim_taken targets (4 * s + d) to (omega (arith, (fits (4 * s + d)).0))) ∙ ends_set E place d s to w.targets_are hs hd q)
             (flagged q)
-        go (some x) q =
+        go (Some x) q =
             let less : x < 16 = w.small s d x q in
-            let here : get_or targets (4 * s + d) 0 ≡ x = at_entry (some x) q in
+            let here : get_or targets (4 * s + d) 0 ≡ x = at_entry (Some x) q in
             let some-there : 1 ≤ N s d = w.counted s d x q in
             grown ht w
             (sym (aim_left targets (4 * s + d) to (omega arith)) ∙ ends-kept E place d s to x w.targets_are hd q)
@@ -225,20 +224,20 @@ module _ (place : ℕ → ℕ) where
       -- the one aim of a loop gives its end
       end-loop : (D X Y : Bool) (o : Option ℕ) → X ≡ Y → o or_else some_if (D and X) t ≡ o or_else some_if (D and (X or Y)) (cond X t s)
       unfolding ◌and◌ ◌or◌ some_if ◌or_else◌
-      end-loop D X Y (some x) e = refl
-      end-loop false X Y none e = refl
-      end-loop true true Y none e = refl
-      end-loop true false Y none e = rw (← e)
+      end-loop D X Y (Some x) e = refl
+      end-loop false X Y None e = refl
+      end-loop true true Y None e = refl
+      end-loop true false Y None e = rw (← e)
 
       -- the two aims of another arc give, at each end, the far end
       end-ends : (D X Y : Bool) (o : Option ℕ)
           → (o or_else some_if (D and X) t) or_else some_if (D and Y) s ≡ o or_else some_if (D and (X or Y)) (cond X t s)
       unfolding ◌and◌ ◌or◌ some_if ◌or_else◌
-      end-ends D X Y (some x) = refl
-      end-ends false X Y none = refl
-      end-ends true true Y none = refl
-      end-ends true false true none = refl
-      end-ends true false false none = refl
+      end-ends D X Y (Some x) = refl
+      end-ends false X Y None = refl
+      end-ends true true Y None = refl
+      end-ends true false true None = refl
+      end-ends true false false None = refl
 
       -- a loop counts once
       count-loop : (D X Y : Bool) (n : ℕ) → X ≡ Y → n + bit (D and X) ≡ n + bit (D and (X or Y))
@@ -279,5 +278,5 @@ places b side few k = go (ltb k (4 * nodes_of b)) (least (places_of b) _) refl
     go : (t : Bool) (o : Option ℕ) → least (places_of b) (λ p. eqb (word_at b side (k / 4) p) (k % 4)) ≡ o
         → (16 ≤ cond t (place_code o) 255) × (cond t (place_code o) 255 ≤ 255)
     go false o e = (omega arith, omega arith)
-    go true none e = (omega arith, omega arith)
-    go true (some p) e = let l = (least_at (places_of b) _ p e).0 in (omega arith, omega arith)
+    go true None e = (omega arith, omega arith)
+    go true (Some p) e = let l = (least_at (places_of b) _ p e).0 in (omega arith, omega arith)

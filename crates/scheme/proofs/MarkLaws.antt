@@ -3,7 +3,7 @@ use Prim.Native.Nat.{ℕ, zero, suc, ◌+◌, ◌≤◌, ◌<◌}
 use mathlib.Core.Path.{◌≡◌, refl, sym, ap, ◌∙◌}
 use mathlib.Core.Logic.{◌⊎◌, inl, inr, ⊎_elim, by_cases}
 use mathlib.Core.Bool.{Bool, true, false, true≢false}
-use mathlib.Core.Option.{Option, none, some}
+use Rattle.std.specs.Prelude.{Option, Some, None}
 use mathlib.Core.List.{List}
 use native.Mathlib.Decide.{ℕ_discrete}
 use native.Mathlib.Numerals.{add-one}
@@ -61,7 +61,7 @@ module _ (b : List ℕ) (at : ℕ) where
   stands d o = eqb (byte b (at + o)) d
 
   -- a dimension that is fresh among the first p bytes is none of them
-  fresh-least : (p d : ℕ) → all_below p (fresh_at b at d) ≡ true → least p (stands d) ≡ none
+  fresh-least : (p d : ℕ) → all_below p (fresh_at b at d) ≡ true → least p (stands d) ≡ None
   unfolding fresh_at
   fresh-least p d q = least-none_of p (stands d) (λ o h. impossible _ (λ e. true≢false (sym (if_so _ (all-at p _ q o h) e))))
 
@@ -72,9 +72,9 @@ module _ (b : List ℕ) (at : ℕ) where
       (λ q. all_of p _ (λ o h. if_of _ (λ e. absurd (true≢false (sym e ∙ least-none p (stands d) (go (least p (stands d)) refl q) o h)))))
       (λ q. eq-eqb _ _ (ap place_code (fresh-least p d q)))
     where
-      go : (o : Option ℕ) → least p (stands d) ≡ o → eqb (place_code o) 255 ≡ true → least p (stands d) ≡ none
-      go none e q = e
-      go (some k) e q = let h : k < p = (least_at p (stands d) k e).0 in let v : 16 + k ≡ 255 = eqb-true _ _ q in absurd (omega arith)
+      go : (o : Option ℕ) → least p (stands d) ≡ o → eqb (place_code o) 255 ≡ true → least p (stands d) ≡ None
+      go None e q = e
+      go (Some k) e q = let h : k < p = (least_at p (stands d) k e).0 in let v : 16 + k ≡ 255 = eqb-true _ _ q in absurd (omega arith)
 
   -- a byte that fits is 255, or a dimension that is fresh
   fit_cases : (n p : ℕ) → fits_at b n at p ≡ true

@@ -1,7 +1,6 @@
 -- The nodes as they are read: a node's form from its parts, what holds once the first s nodes are read, and what the kinds tell.
 use Prim.Native.Nat.{ℕ, ◌+◌, ◌*◌, ◌/◌, ◌≤◌, ◌<◌}
-use mathlib.Core.Path.{◌≡◌, refl, sym, ap, ◌∙◌}
-use mathlib.Core.Logic.{◌⊎◌, inl}
+use mathlib.Core.Path.{◌≡◌, sym, ap, ◌∙◌}
 use mathlib.Core.Bool.{Bool, true, false, cond, not}
 use mathlib.Core.List.{List}
 use native.Mathlib.Omega.{arith}
@@ -20,7 +19,7 @@ use Rattle.model.specs.Bytes.{on_side, places_of, nodes_of, node_at, kind_at, up
 use Rattle.model.specs.Codes.{placed, placed_at}
 use Rattle.model.specs.Scheme.{Side, left, right, word_form, word_empty, node_form, words_of, scheme_of}
 use Rattle.model.proofs.NodePlaceLaws.{node-first}
-use Rattle.scheme.specs.Words.{side_of, row}
+use Rattle.scheme.specs.Words.{barred, row}
 use Rattle.scheme.specs.Nodes.{Passed, Noded}
 use Rattle.scheme.proofs.WordLaws.{on-side}
 use Rattle.scheme.proofs.ArcTestLaws.{denies}
@@ -116,16 +115,16 @@ module _ (b : List ℕ) {kinds : List ℕ} (few : nodes_of b ≤ 16) (same : kin
   kind-at s h = ap (λ (m : List ℕ). get_or m s 0) same ∙ get_or-list 16 s _ 0 (omega arith) ∙ ap (λ (t : Bool). cond t (kind_at b s) 0) (lt-ltb _ _ h)
 
   -- a node in the form is on a side unless it is of the kind that may not occur there
-  pub held-side : all_below (nodes_of b) (node_form b) ≡ true → {other : ℕ} → (other ≡ 3) ⊎ (other ≡ 1) → (s : ℕ) → s < nodes_of b
-      → on_side (side_of other) (kind_at b s) ≡ (eqb (get_or kinds s 0) other ⇒ false)
+  pub held-side : all_below (nodes_of b) (node_form b) ≡ true → (side : Side) (s : ℕ) → s < nodes_of b
+      → on_side side (kind_at b s) ≡ (eqb (get_or kinds s 0) (barred side) ⇒ false)
   unfolding node_form
-  held-side nodes {other} o s h =
+  held-side nodes side s h =
       let q = and_left _ _ (and_left _ _ (and_left _ _ (and_left _ _ (all-at _ _ nodes s h)))) in
-      on-side o (leb-true 1 _ (and_left _ _ q)) (leb-true _ 3 (and_right _ _ q)) ∙ ap (λ (k : ℕ). eqb k other ⇒ false) (sym (kind-at s h))
+      on-side side (leb-true 1 _ (and_left _ _ q)) (leb-true _ 3 (and_right _ _ q)) ∙ ap (λ (k : ℕ). eqb k (barred side) ⇒ false) (sym (kind-at s h))
 
   -- a node in the form is on the left unless it is added
   pub held-left : all_below (nodes_of b) (node_form b) ≡ true → {at : ℕ} (s : ℕ) → at ≡ s → s < nodes_of b
       → not (eqb (get_or kinds at 0) 3) ≡ on_side left (kind_at b s)
   held-left nodes s e h =
-      let same : on_side left (kind_at b s) ≡ (eqb (get_or kinds s 0) 3 ⇒ false) = held-side nodes (inl refl) s h in
+      let same : on_side left (kind_at b s) ≡ (eqb (get_or kinds s 0) 3 ⇒ false) = held-side nodes left s h in
       ap (λ (x : ℕ). not (eqb (get_or kinds x 0) 3)) e ∙ denies (eqb (get_or kinds s 0) 3) ∙ sym same

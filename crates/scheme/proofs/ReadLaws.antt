@@ -1,35 +1,27 @@
 -- The parts of a scheme that was read, put together.
 use Prim.Native.Nat.{ℕ, ◌+◌, ◌*◌, ◌≤◌}
-use mathlib.Core.Path.{◌≡◌, refl, sym, ap, ◌∙◌}
-use mathlib.Core.Logic.{◌⊎◌, inl, inr, ⊎_elim}
-use mathlib.Core.Bool.{Bool, true, false, cond, ◌&&◌}
+use mathlib.Core.Path.{◌≡◌, refl, sym, ◌∙◌}
+use mathlib.Core.Logic.{inl, inr, ⊎_elim}
+use mathlib.Core.Bool.{Bool, true, false}
 use mathlib.Core.List.{List}
 use native.Mathlib.Omega.{arith}
-use lib.ListN.{length, replicate}
-use lib.Dec.{eqb}
-use borrow.Author.Tests.{eqb-true}
-use Rattle.base.specs.Test.{◌or◌}
-use Rattle.base.specs.Below.{all_below, any_below, count_below}
-use Rattle.base.specs.Lists.{list, list_from}
-use Rattle.base.proofs.TestLaws.{both, and_of, true_or_false, refuted}
+use lib.ListN.{length}
+use Rattle.base.specs.Below.{all_below}
+use Rattle.base.proofs.TestLaws.{refuted}
 use Rattle.model.specs.Bytes.{nodes_of, second_of, arcs_at, arc_count}
 use Rattle.model.specs.Scheme.{Side, left, right, orbit_form, node_form, donor_form, second_form, arcs_form, in_form, scheme_of}
-use Rattle.model.specs.Conditions.{arcs_of_dim}
-use Rattle.model.specs.Twice.{twice_at, twice_of}
 use Rattle.frame.specs.Frame.{LaidOut}
-use Rattle.scheme.specs.Words.{side_of}
 use Rattle.scheme.specs.Nodes.{Noded}
 use Rattle.scheme.specs.Arcs.{ArcsPlaced, ArcsRead}
-use Rattle.scheme.specs.Reading.{blank, read_as, reading}
+use Rattle.std.specs.Prelude.{Option, Some, None}
+use Rattle.std.proofs.lemmas.Option.{cond_some}
+use Rattle.frame.proofs.OptionLaws.{cond_none}
+use Rattle.scheme.specs.Reading.{read_as, reading}
+use Rattle.scheme.specs.declared.Reading.{Reading}
 use Rattle.frame.specs.declared.Layout.{Layout}
 use Rattle.scheme.specs.declared.Reading.{Reading}
 use Rattle.model.proofs.FormLaws.{parts, whole}
 use Rattle.scheme.proofs.TwiceLaws.{twice_same}
-
--- a kind that may not occur on a side is 3 or 1, shown by a test that computes
-pub side-kind : (other : ℕ) → cond (eqb other 3) true (eqb other 1) ≡ true → (other ≡ 3) ⊎ (other ≡ 1)
-side-kind other e = ⊎_elim (λ t. inl (eqb-true other 3 t))
-    (λ t. inr (eqb-true other 1 (sym (ap (λ (c : Bool). cond c true (eqb other 1)) t) ∙ e))) (true_or_false (eqb other 3))
 
 -- ---- a part that is not in the form
 
@@ -40,9 +32,11 @@ module _ (b : List ℕ) where
   pub no_nodes : all_below (nodes_of b) (node_form b) ≡ false → in_form b ≡ false
   no_nodes e = refuted (λ q. (parts b q).nodes) e
 
-  -- the donors or the second hook
-  pub no_named : {given second : Bool} → given ≡ all_below (nodes_of b) (donor_form b) → second ≡ second_form b → (given && second) ≡ false → in_form b ≡ false
-  no_named d s e = refuted (λ q. let f = parts b q in and_of f.donors f.second) (sym (both d s) ∙ e)
+  pub no_donors : all_below (nodes_of b) (donor_form b) ≡ false → in_form b ≡ false
+  no_donors e = refuted (λ q. (parts b q).donors) e
+
+  pub no_second : second_form b ≡ false → in_form b ≡ false
+  no_second e = refuted (λ q. (parts b q).second) e
 
   pub no_arcs : (side : Side) → arcs_form b side ≡ false → in_form b ≡ false
   no_arcs side e = refuted (λ q. (parts b q).arcs side) e
@@ -55,13 +49,12 @@ module _ (b : List ℕ) (l : Layout) (laid : LaidOut b l) (nodes : all_below (no
   side-inside left = (omega (arith, laid.lcount_is, laid.lcount_few), omega (arith, laid.ends))
   side-inside right = (omega (arith, laid.rcount_is, laid.rcount_few), omega (arith, laid.ends))
 
-  pub placed-side : {kinds : List ℕ} {from : ℕ} → kinds ≡ (scheme_of b).kinds → (other : ℕ) → (other ≡ 3) ⊎ (other ≡ 1)
-      → from ≡ arcs_at b (side_of other) → ArcsPlaced b l kinds other from
-  placed-side k other o f = let i = side-inside (side_of other) in record {
+  pub placed-side : {kinds : List ℕ} {from : ℕ} → kinds ≡ (scheme_of b).kinds → (side : Side)
+      → from ≡ arcs_at b side → ArcsPlaced b l kinds side from
+  placed-side k side f = let i = side-inside side in record {
     laid = laid;
     nodes = nodes;
     kinds_are = k;
-    side_is = o;
     from_is = f;
     few = i.0;
     inside = i.1;
@@ -89,23 +82,25 @@ module _ (b : List ℕ) (l : Layout) (laid : LaidOut b l) (nodes : all_below (no
 
 -- ---- the reading
 
--- a blank scheme has no arcs
-pub blank-twice : (side : Side) → twice_of blank side ≡ replicate 16 false
-unfolding blank twice_of twice_at arcs_of_dim count_below any_below list list_from ◌or◌
-blank-twice left = refl
-blank-twice right = refl
-
 module _ (b : List ℕ) where
-  pub read-broken : in_form b ≡ false → read_as false blank ≡ reading b
+  pub read-broken : in_form b ≡ false → None ≡ reading b
   unfolding reading
   read-broken e = rw e refl
+
+  -- and what is read tells the form and the scheme
+  pub broken-read : None ≡ reading b → in_form b ≡ false
+  unfolding reading
+  broken-read e = cond_none (in_form b) _ (sym e)
+
+  pub formed-read : {r : Reading} → Some r ≡ reading b → (in_form b ≡ true) × (r ≡ read_as (scheme_of b))
+  unfolding reading
+  formed-read e = let t = cond_some (in_form b) _ _ (sym e) in (t.0, sym t.1)
 
   -- the reading is made of its parts
   pub read-formed : {l : Layout} {first second third hook : ℕ} {orbit kinds donors lwords rwords lplaced rplaced larcs ltargets rarcs rtargets : List ℕ}
       {ltwice rtwice : List Bool} → in_form b ≡ true → LaidOut b l → orbit ≡ (scheme_of b).orbit → Noded b first kinds lwords rwords lplaced rplaced
       → donors ≡ (scheme_of b).donors → hook ≡ second_of b → ArcsRead b left second larcs ltargets ltwice → ArcsRead b right third rarcs rtargets rtwice
-      → ◌≡◌ {A = Reading} (record {
-        ok = true;
+      → ◌≡◌ {A = Option Reading} (Some (record {
         scheme = record {
           n = l.n;
           places = l.places;
@@ -125,7 +120,7 @@ module _ (b : List ℕ) where
         };
         ltwice = ltwice;
         rtwice = rtwice;
-      }) (reading b)
+      })) (reading b)
   unfolding reading scheme_of
   read-formed e laid o n d h f g = rw (
     e,

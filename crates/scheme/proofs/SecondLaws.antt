@@ -13,33 +13,31 @@ use Rattle.model.specs.Bytes.{byte, names_second, nodes_of, node_at, hook_bytes,
 use Rattle.model.specs.Scheme.{left, node_form, second_form, scheme_of}
 use Rattle.frame.specs.Place.{TakenAt}
 use Rattle.frame.specs.Frame.{LaidOut}
-use Rattle.frame.specs.declared.cursor.Taken.{Taken}
+use Rattle.frame.specs.declared.cursor.Cursor.{Cursor}
 use Rattle.frame.specs.declared.Layout.{Layout}
-use Rattle.frame.proofs.FrameLaws.{no_mark, has-mark}
 use Rattle.model.proofs.FormLaws.{SecondParts, second_parts, second-whole, second_none}
 use Rattle.scheme.proofs.NodeLaws.{held-left}
 
 module _ (b : List ℕ) (l : Layout) (laid : LaidOut b l) {from : ℕ} (place : from ≡ node_at b (nodes_of b)) where
   -- ---- none is named
 
-  unnamed : l.hook ≡ 0 → names_second b ≡ false
-  unfolding hook_bytes
-  unnamed e = no_mark (names_second b) laid.headed.hook_is e
+  unnamed : l.hook ≡ false → names_second b ≡ false
+  unnamed e = sym laid.headed.hook_is ∙ e
 
-  pub none-formed : l.hook ≡ 0 → true ≡ second_form b
+  pub none-formed : l.hook ≡ false → true ≡ second_form b
   none-formed e = sym (second-whole b (λ q. absurd (true≢false (sym q ∙ unnamed e))))
 
-  pub none_read : l.hook ≡ 0 → (0 ≡ second_of b) × (from ≡ arcs_at b left)
-  none_read e = (sym (second_none b (unnamed e)), omega (arith, laid.headed.hook_is))
+  pub none_read : l.hook ≡ false → (0 ≡ second_of b) × (from ≡ arcs_at b left)
+  unfolding hook_bytes
+  none_read e = let none = ap bit (unnamed e) in (sym (second_none b (unnamed e)), omega arith)
 
   -- ---- one is named: the byte at the place
 
-  module _ (some : l.hook ≡ 0 → ⊥) {r : Taken} (t : TakenAt b from r) where
+  module _ (some : l.hook ≡ true) {r : ℕ × Cursor} (t : TakenAt b from r) where
     named : names_second b ≡ true
-    unfolding hook_bytes
-    named = has-mark (names_second b) laid.headed.hook_is some
+    named = sym laid.headed.hook_is ∙ some
 
-    pub some_read : (r.value ≡ second_of b) × (r.next.at ≡ arcs_at b left)
+    pub some_read : (r.0 ≡ second_of b) × (r.1.at ≡ arcs_at b left)
     unfolding second_of hook_bytes
     some_read =
         let n = named in
@@ -53,16 +51,16 @@ module _ (b : List ℕ) (l : Layout) (laid : LaidOut b l) {from : ℕ} (place : 
     wrong f = sym (impossible (second_form b) (λ q. f (second_parts b q named)))
 
     -- node 0 is named
-    pub first-named : r.value ≡ 0 → false ≡ second_form b
+    pub first-named : r.0 ≡ 0 → false ≡ second_form b
     first-named e = let s = some_read.0 in wrong (λ p. omega arith)
 
     -- no node is named
-    pub no_node : l.nodes ≤ r.value → false ≡ second_form b
+    pub no_node : l.nodes ≤ r.0 → false ≡ second_form b
     no_node h = let s = some_read.0 in let n = laid.headed.nodes_is in wrong (λ p. omega arith)
 
     -- a node other than node 0 is named: its kind decides
-    pub some-formed : {kinds : List ℕ} {at : ℕ} → all_below (nodes_of b) (node_form b) ≡ true → kinds ≡ (scheme_of b).kinds → at ≡ r.value
-        → (r.value ≡ 0 → ⊥) → r.value < l.nodes → not (eqb (get_or kinds at 0) 3) ≡ second_form b
+    pub some-formed : {kinds : List ℕ} {at : ℕ} → all_below (nodes_of b) (node_form b) ≡ true → kinds ≡ (scheme_of b).kinds → at ≡ r.0
+        → (r.0 ≡ 0 → ⊥) → r.0 < l.nodes → not (eqb (get_or kinds at 0) 3) ≡ second_form b
     some-formed nodes k e h n =
         let hd = laid.headed in
         let s = some_read.0 in

@@ -3,8 +3,7 @@ use Prim.Native.Nat.{ℕ, ◌+◌, ◌*◌, ◌/◌, ◌%◌, ◌≤◌, ◌<◌
 use mathlib.Core.Path.{◌≡◌, refl, sym, ap, ap₂, ◌∙◌}
 use mathlib.Core.Logic.{by_cases}
 use mathlib.Core.Bool.{Bool, true, false}
-use mathlib.Core.Option
-use mathlib.Core.Option.{Option, none, some}
+use Rattle.std.specs.Prelude.{unwrap_or, Option, Some, None}
 use mathlib.Core.List.{List}
 use native.Mathlib.Decide.{ℕ_discrete}
 use native.Mathlib.Omega.{arith}
@@ -57,15 +56,15 @@ more E d s to u i = E u i or_else some_if (hits d s u i) to
 module _ (E : ℕ → ℕ → Option ℕ) (D : ℕ → ℕ) where
   -- the table of ends, filled with D
   abbrev pub ends_or : List ℕ
-  ends_or = list 64 (λ k. Option.get_or (E (k / 4) (k % 4)) (D k))
+  ends_or = list 64 (λ k. unwrap_or (E (k / 4) (k % 4)) (D k))
 
   -- what the entry of node s and dimension d holds
-  pub ends_at : {l : List ℕ} (d s : ℕ) → l ≡ ends_or → s < 16 → d < 4 → get_or l (4 * s + d) 0 ≡ Option.get_or (E s d) (D (4 * s + d))
+  pub ends_at : {l : List ℕ} (d s : ℕ) → l ≡ ends_or → s < 16 → d < 4 → get_or l (4 * s + d) 0 ≡ unwrap_or (E s d) (D (4 * s + d))
   ends_at d s e hs hd =
       let same : (4 * s + d) / 4 ≡ s = omega arith in
       let dim : (4 * s + d) % 4 ≡ d = omega arith in
       ap (λ (m : List ℕ). get_or m (4 * s + d) 0) e ∙ get_or-list 64 (4 * s + d) _ 0 (omega arith)
-      ∙ ap₂ (λ (u i : ℕ). Option.get_or (E u i) (D (4 * s + d))) same dim
+      ∙ ap₂ (λ (u i : ℕ). unwrap_or (E u i) (D (4 * s + d))) same dim
 
   -- the end at an entry is that of its node and dimension
   same_end : (d s k : ℕ) → d < 4 → k ≡ 4 * s + d → E s d ≡ E (k / 4) (k % 4)
@@ -75,8 +74,8 @@ module _ (E : ℕ → ℕ → Option ℕ) (D : ℕ → ℕ) where
       ap₂ (λ (u i : ℕ). E u i) same dim
 
   -- if there was no end, the arc's end is set
-  pub ends_set : {l : List ℕ} (d s to : ℕ) → l ≡ ends_or → s < 16 → d < 4 → E s d ≡ none
-      → set l (4 * s + d) to ≡ list 64 (λ k. Option.get_or (more E d s to (k / 4) (k % 4)) (D k))
+  pub ends_set : {l : List ℕ} (d s to : ℕ) → l ≡ ends_or → s < 16 → d < 4 → E s d ≡ None
+      → set l (4 * s + d) to ≡ list 64 (λ k. unwrap_or (more E d s to (k / 4) (k % 4)) (D k))
   unfolding some_if ◌or_else◌
   ends_set {l} d s to e hs hd empty =
       ext_get_or 0 _ _ (length-set l _ to ∙ long ∙ sym (length-list 64 _)) (λ k h.
@@ -87,27 +86,27 @@ module _ (E : ℕ → ℕ → Option ℕ) (D : ℕ → ℕ) where
       long = ap length e ∙ length-list 64 _
 
       here : (k : ℕ) → k < 64 → k ≡ 4 * s + d
-          → get_or (set l (4 * s + d) to) k 0 ≡ get_or (list 64 (λ k. Option.get_or (more E d s to (k / 4) (k % 4)) (D k))) k 0
+          → get_or (set l (4 * s + d) to) k 0 ≡ get_or (list 64 (λ k. unwrap_or (more E d s to (k / 4) (k % 4)) (D k))) k 0
       here k h q =
-          let none' : E (k / 4) (k % 4) ≡ none = sym (same_end d s k hd q) ∙ empty in
+          let none' : E (k / 4) (k % 4) ≡ None = sym (same_end d s k hd q) ∙ empty in
           ap (λ (j : ℕ). get_or (set l (4 * s + d) to) j 0) q ∙ get_or-set_same l (4 * s + d) to 0 (omega (arith, long))
-          ∙ sym (get_or-list 64 k _ 0 h ∙ ap₂ (λ (o : Option ℕ) (t : Bool). Option.get_or (o or_else some_if t to) (D k)) none' (hits-here d s k hd q))
+          ∙ sym (get_or-list 64 k _ 0 h ∙ ap₂ (λ (o : Option ℕ) (t : Bool). unwrap_or (o or_else some_if t to) (D k)) none' (hits-here d s k hd q))
 
       kept : (k : ℕ) → k < 64 → (k ≡ 4 * s + d → ⊥)
-          → get_or (set l (4 * s + d) to) k 0 ≡ get_or (list 64 (λ k. Option.get_or (more E d s to (k / 4) (k % 4)) (D k))) k 0
+          → get_or (set l (4 * s + d) to) k 0 ≡ get_or (list 64 (λ k. unwrap_or (more E d s to (k / 4) (k % 4)) (D k))) k 0
       kept k h ne = get_or-set_other l (4 * s + d) k to 0 ne ∙ ap (λ (m : List ℕ). get_or m k 0) e ∙ get_or-list 64 k _ 0 h
-          ∙ sym (get_or-list 64 k _ 0 h ∙ ap (λ (t : Bool). Option.get_or (E (k / 4) (k % 4) or_else some_if t to) (D k)) (hits_else d s k ne)
-          ∙ ap (λ (o : Option ℕ). Option.get_or o (D k)) (or_else_last (E (k / 4) (k % 4))))
+          ∙ sym (get_or-list 64 k _ 0 h ∙ ap (λ (t : Bool). unwrap_or (E (k / 4) (k % 4) or_else some_if t to) (D k)) (hits_else d s k ne)
+          ∙ ap (λ (o : Option ℕ). unwrap_or o (D k)) (or_else_last (E (k / 4) (k % 4))))
 
   -- if there was an end, nothing changes
-  pub ends-kept : {l : List ℕ} (d s to x : ℕ) → l ≡ ends_or → d < 4 → E s d ≡ some x
-      → l ≡ list 64 (λ k. Option.get_or (more E d s to (k / 4) (k % 4)) (D k))
+  pub ends-kept : {l : List ℕ} (d s to x : ℕ) → l ≡ ends_or → d < 4 → E s d ≡ Some x
+      → l ≡ list 64 (λ k. unwrap_or (more E d s to (k / 4) (k % 4)) (D k))
   unfolding some_if ◌or_else◌
   ends-kept d s to x e hd is = e ∙ list_same 64 _ _ (λ k h. by_cases (ℕ_discrete k (4 * s + d))
       (λ q.
-      let there : E (k / 4) (k % 4) ≡ some x = sym (same_end d s k hd q) ∙ is in
-      ap (λ (o : Option ℕ). Option.get_or o (D k)) there
-      ∙ sym (ap (λ (o : Option ℕ). Option.get_or (o or_else some_if (hits d s (k / 4) (k % 4)) to) (D k)) there))
+      let there : E (k / 4) (k % 4) ≡ Some x = sym (same_end d s k hd q) ∙ is in
+      ap (λ (o : Option ℕ). unwrap_or o (D k)) there
+      ∙ sym (ap (λ (o : Option ℕ). unwrap_or (o or_else some_if (hits d s (k / 4) (k % 4)) to) (D k)) there))
       (λ ne.
-      sym (ap (λ (t : Bool). Option.get_or (E (k / 4) (k % 4) or_else some_if t to) (D k)) (hits_else d s k ne)
-      ∙ ap (λ (o : Option ℕ). Option.get_or o (D k)) (or_else_last (E (k / 4) (k % 4))))))
+      sym (ap (λ (t : Bool). unwrap_or (E (k / 4) (k % 4) or_else some_if t to) (D k)) (hits_else d s k ne)
+      ∙ ap (λ (o : Option ℕ). unwrap_or o (D k)) (or_else_last (E (k / 4) (k % 4))))))

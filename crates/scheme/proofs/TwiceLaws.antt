@@ -3,7 +3,7 @@ use Prim.Native.Nat.{ℕ, ◌+◌, ◌*◌, ◌≤◌, ◌<◌}
 use mathlib.Core.Path.{◌≡◌, refl, sym, ap, ap₂, ◌∙◌}
 use mathlib.Core.Logic.{⊎_elim}
 use mathlib.Core.Bool.{true, true≢false}
-use mathlib.Core.Option.{Option, none, some}
+use Rattle.std.specs.Prelude.{Option, Some, None}
 use mathlib.Core.List.{List}
 use native.Mathlib.Omega.{arith}
 use lib.Dec.{eqb, ltb, leb}
@@ -57,8 +57,8 @@ module _ (b : List ℕ) (q : in_form b ≡ true) (side : Side) where
       where
         go : (o : Option ℕ) → least (scheme_of b).places (reads (scheme_of b) side s i) ≡ o
             → count_below (scheme_of b).places (reads (scheme_of b) side s i) ≡ bit (ltb (place_code o) 255)
-        go none e = count-zero (scheme_of b).places _ (λ p k. least-none (scheme_of b).places _ e p k)
-        go (some p) e =
+        go None e = count-zero (scheme_of b).places _ (λ p k. least-none (scheme_of b).places _ e p k)
+        go (Some p) e =
             let w = least_at (scheme_of b).places _ p e in
             let few = places-few b q in
             let n3 = small b q in

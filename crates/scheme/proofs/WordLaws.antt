@@ -3,7 +3,7 @@ use Prim.Native.Nat.{ℕ, ◌+◌, ◌-◌, ◌*◌, ◌/◌, ◌%◌, ◌≤◌
 use mathlib.Core.Path.{◌≡◌, refl, sym, ap, ap₂, ◌∙◌}
 use mathlib.Core.Logic.{◌⊎◌, inl, inr, ⊎_elim}
 use mathlib.Core.Bool.{Bool, true, false, cond}
-use mathlib.Core.Option.{none}
+use Rattle.std.specs.Prelude.{None}
 use mathlib.Core.List.{List}
 use native.Mathlib.Nat.{eq-or-lt_of_le}
 use native.Mathlib.Omega.{arith}
@@ -26,7 +26,7 @@ use Rattle.model.specs.Scheme.{Side, left, right, word_form, word_empty}
 use Rattle.frame.specs.Frame.{LaidOut}
 use Rattle.frame.specs.declared.Layout.{Layout}
 use Rattle.frame.proofs.FrameLaws.{dimension-small, places-small, node-inside}
-use Rattle.scheme.specs.Words.{side_of, word_place, row, fresh_at, empty_at, fits_at, Placed}
+use Rattle.scheme.specs.Words.{barred, word_place, row, fresh_at, empty_at, fits_at, Placed}
 use Rattle.scheme.specs.Targets.{rowed}
 use Rattle.scheme.proofs.MarkLaws.{stands, length-rowed, rowed_else, rowed-at}
 
@@ -116,25 +116,26 @@ one_of_three : (kind : ℕ) → 1 ≤ kind → kind ≤ 3 → (kind ≡ 1) ⊎ (
 one_of_three kind h k = ⊎_elim (λ e. inl (sym e)) (λ l. inr (⊎_elim (λ e. inl (sym e)) (λ m. inr (omega arith)) (eq-or-lt_of_le l))) (eq-or-lt_of_le h)
 
 -- a node is on a side unless it is of the kind that may not occur there
-pub on-side : {other kind : ℕ} → (other ≡ 3) ⊎ (other ≡ 1) → 1 ≤ kind → kind ≤ 3 → on_side (side_of other) kind ≡ (eqb kind other ⇒ false)
+pub on-side : (side : Side) {kind : ℕ} → 1 ≤ kind → kind ≤ 3 → on_side side kind ≡ (eqb kind (barred side) ⇒ false)
 unfolding ◌or◌ ◌⇒◌
-on-side {other} {kind} w h k = ⊎_elim (both 1 refl refl) (λ v. ⊎_elim (both 2 refl refl) (both 3 refl refl) v) (one_of_three kind h k)
+on-side side {kind} h k = ⊎_elim (both 1 refl refl) (λ v. ⊎_elim (both 2 refl refl) (both 3 refl refl) v) (one_of_three kind h k)
   where
     both : (x : ℕ) → on_side left x ≡ (eqb x 3 ⇒ false) → on_side right x ≡ (eqb x 1 ⇒ false) → kind ≡ x
-        → on_side (side_of other) kind ≡ (eqb kind other ⇒ false)
-    both x p q e = rw e (⊎_elim (λ f. rw f p) (λ f. rw f q) w)
+        → on_side side kind ≡ (eqb kind (barred side) ⇒ false)
+    both x p q e = rw e (go side)
+      where
+        go : (side : Side) → on_side side x ≡ (eqb x (barred side) ⇒ false)
+        go left = p
+        go right = q
 
 -- ---- a word that was read fills the row of its node
 
-module _ (b : List ℕ) (s other kind n places at : ℕ) (w : Placed b s other kind n places at) where
-  abbrev side : Side
-  side = side_of other
-
+module _ (b : List ℕ) (side : Side) (s kind n places at : ℕ) (w : Placed b side s kind n places at) where
   abbrev place : ℕ
   place = word_place b side s
 
-  on : on_side side (kind_at b s) ≡ (eqb kind other ⇒ false)
-  on = ap (on_side side) (sym w.kind_is) ∙ on-side w.side_is w.kind_some w.kind_few
+  on : on_side side (kind_at b s) ≡ (eqb kind (barred side) ⇒ false)
+  on = ap (on_side side) (sym w.kind_is) ∙ on-side side w.kind_some w.kind_few
 
   here : all_below places (fits_at b n at) ≡ word_form b side s
   here = rw (w.places_is, w.n_is, w.at_is) (sym (word-form b side s))
@@ -143,7 +144,7 @@ module _ (b : List ℕ) (s other kind n places at : ℕ) (w : Placed b s other k
   there = rw (w.places_is, w.at_is) refl
 
   -- the word of a node on the side
-  pub on-form : {r : Bool} → (kind ≡ other → ⊥) → r ≡ all_below places (fits_at b n at) → r ≡ (word_form b side s and word_empty b side s)
+  pub on-form : {r : Bool} → (kind ≡ barred side → ⊥) → r ≡ all_below places (fits_at b n at) → r ≡ (word_form b side s and word_empty b side s)
   unfolding ◌⇒◌
   on-form ne e =
       let full : word_empty b side s ≡ true = word-empty b side s ∙ or_left _ (on ∙ ap (λ (t : Bool). t ⇒ false) (ne_eqb _ _ ne)) in
@@ -159,7 +160,7 @@ module _ (b : List ℕ) (s other kind n places at : ℕ) (w : Placed b s other k
       (omega arith) (λ k h u. row-rest b side s k h u)
 
   -- the word of a node that is not on the side
-  pub off-form : {r : Bool} → kind ≡ other → r ≡ all_below places (empty_at b at) → r ≡ (word_form b side s and word_empty b side s)
+  pub off-form : {r : Bool} → kind ≡ barred side → r ≡ all_below places (empty_at b at) → r ≡ (word_form b side s and word_empty b side s)
   unfolding ◌⇒◌
   off-form eq e =
       let off : on_side side (kind_at b s) ≡ false = on ∙ ap (λ (t : Bool). t ⇒ false) (eq-eqb _ _ eq) in
@@ -222,7 +223,7 @@ module _ (b : List ℕ) (s other kind n places at : ℕ) (w : Placed b s other k
       filled-over 64 (placed b side) 255 (4 * s) (4 * (s + 1)) e (omega arith) (λ k h u.
       let split : k ≡ 4 * s + (k - 4 * s) = omega arith in
       let i : k - 4 * s < 4 = omega arith in
-      let none_is : least (places_of b) (stands b place (k - 4 * s)) ≡ none = least-none_of _ _ (λ p l.
+      let none_is : least (places_of b) (stands b place (k - 4 * s)) ≡ None = least-none_of _ _ (λ p l.
       ne_eqb _ _ (λ f. far i (eqb-true _ _ (all-at _ _ (sym there ∙ q) p l)) f)) in
       ap (placed b side) split ∙ placed_at b side s (k - 4 * s) i ∙ ap place_code none_is)
     where
@@ -230,14 +231,13 @@ module _ (b : List ℕ) (s other kind n places at : ℕ) (w : Placed b s other k
       far h e f = omega arith
 
 -- the word of a node lies within the bytes
-pub word-placed : (b : List ℕ) (l : Layout) → LaidOut b l → {s kind places at : ℕ} (other : ℕ) → s < nodes_of b → (other ≡ 3) ⊎ (other ≡ 1)
-    → kind ≡ kind_at b s → 1 ≤ kind → kind ≤ 3 → places ≡ l.places → at ≡ word_place b (side_of other) s → Placed b s other kind l.n places at
-word-placed b l laid {s} {kind} {places} {at} other h o k some few p a =
+pub word-placed : (b : List ℕ) (l : Layout) → LaidOut b l → {s kind places at : ℕ} (side : Side) → s < nodes_of b
+    → kind ≡ kind_at b s → 1 ≤ kind → kind ≤ 3 → places ≡ l.places → at ≡ word_place b side s → Placed b side s kind l.n places at
+word-placed b l laid {s} {kind} {places} {at} side h k some few p a =
     let d = laid.headed in
     let n3 = dimension-small b l laid in
     let k4 = places-small b l laid in
     record {
-      side_is = o;
       kind_is = k;
       kind_some = some;
       kind_few = few;
@@ -247,7 +247,7 @@ word-placed b l laid {s} {kind} {places} {at} other h o k some few p a =
       few = k4;
       small = omega arith;
       at_is = a;
-      inside = within (side_of other) a;
+      inside = within side a;
     }
   where
     within : (side : Side) → at ≡ word_place b side s → at + places ≤ length b

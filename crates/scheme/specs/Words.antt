@@ -1,13 +1,21 @@
 -- The words of the nodes by their place in the bytes and by their place in the value.
-use Rattle.std.specs.Prelude.{ℕ, ◌+◌, ◌/◌, ◌%◌, ◌≤◌, ◌<◌, ◌≡◌, ◌⊎◌, Bool, false, cond, List, length, eqb, leb}
+use Rattle.std.specs.Prelude.{ℕ, ◌+◌, ◌/◌, ◌%◌, ◌≤◌, ◌<◌, ◌≡◌, Bool, false, List, length, eqb, leb}
 use Rattle.base.specs.Test.{◌and◌, ◌or◌, ◌⇒◌}
 use Rattle.base.specs.Below.{all_below}
 use Rattle.model.specs.Bytes.{byte, dimension_of, places_of, node_at, kind_at, word_at, up_to}
 use Rattle.model.specs.Scheme.{Side, left, right}
+use Rattle.scheme.specs.declared.side.Side.{Side as Named}
+use Rattle.scheme.specs.declared.side.Side.TheVariants.{Left, Right}
 
--- the side on which nodes of this kind may not occur: the left for 3 (added), the right for 1 (deleted)
-abbrev pub side_of : ℕ → Side
-side_of other = cond (eqb other 3) left right
+-- the side that the reader names
+abbrev pub side_of : Named → Side
+side_of Left = left
+side_of Right = right
+
+-- the kind of node that may not occur on a side: 3 (added) on the left, 1 (deleted) on the right
+abbrev pub barred : Side → ℕ
+barred left = 3
+barred right = 1
 
 -- where the word of node s on a side begins
 abbrev pub word_place : List ℕ → Side → ℕ → ℕ
@@ -29,9 +37,8 @@ module _ (b : List ℕ) where
   unfoldable pub fits_at : ℕ → ℕ → ℕ → Bool
   fits_at n at p = eqb (byte b (at + p)) 255 or leb (byte b (at + p)) n and all_below p (fresh_at at (byte b (at + p)))
 
--- What is known before the word of node s on a side is read. `other` is the kind that may not occur on the side.
-pub record Placed (b : List ℕ) (s other kind n places at : ℕ) : Type 0 where
-  pub side_is : (other ≡ 3) ⊎ (other ≡ 1)
+-- what is known before the word of node s on a side is read
+pub record Placed (b : List ℕ) (side : Side) (s kind n places at : ℕ) : Type 0 where
   pub kind_is : kind ≡ kind_at b s
   pub kind_some : 1 ≤ kind
   pub kind_few : kind ≤ 3
@@ -40,5 +47,5 @@ pub record Placed (b : List ℕ) (s other kind n places at : ℕ) : Type 0 where
   pub places_is : places ≡ places_of b
   pub few : places_of b ≤ 4
   pub small : s < 16
-  pub at_is : at ≡ word_place b (side_of other) s
+  pub at_is : at ≡ word_place b side s
   pub inside : at + places ≤ length b

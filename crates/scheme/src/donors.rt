@@ -1,14 +1,13 @@
 // The donors, if the first byte says that they are named: the donor of an added node is the byte after its words. A donor may be a later node, so
 // donors are read once all kinds are known.
-ghost use Rattle.std.specs.Prelude.{◌≡◌, true, ◌+◌, ◌<◌, replicate};
+ghost use Rattle.std.specs.Prelude.{◌≡◌, true, ◌+◌, ◌<◌, is_some, IfSome, OnSome, replicate};
 ghost use Rattle.base.specs.Below.{all_below};
 ghost use Rattle.model.specs.Bytes.{names_donors, places_of, nodes_of};
 ghost use Rattle.model.specs.Scheme.{donor_form, scheme_of};
 ghost use Rattle.scheme.specs.Donors.{DonorsPlaced, Donated};
 
-use base::byte::wide;
 use frame::Layout;
-use frame::cursor::{Cursor, Verdict};
+use frame::cursor::Cursor;
 
 // Steps over node s, which is at the cursor, and reads its donor if it is added.
 fn read_donor(
@@ -18,37 +17,26 @@ fn read_donor(
     from: Cursor,
     kinds: &[u8; 16],
     donors: &mut [u8; 16],
-) -> Verdict
+) -> Option<Cursor>
     requires donors_placed { DonorsPlaced bytes.now l kinds.now }
-    requires s_bound { (s < nodes_of bytes.now) × (names_donors bytes.now ≡ true) }
-    requires donated { Donated bytes.now s from.at donors.old }
-    ensures ok_value { result.ok ≡ donor_form bytes.now s }
-    ensures donated_2 { result.ok ≡ true → Donated bytes.now (s + 1) result.next.at donors.new }
+    requires s_bound { s < nodes_of bytes.now }
+    requires named { names_donors bytes.now ≡ true }
+    requires before { Donated bytes.now s from.at donors.old }
+    ensures formed { is_some result ≡ donor_form bytes.now s }
+    ensures donated { IfSome result (λ next. Donated bytes.now (s + 1) next.at donors.new) }
 {
-    let at = from.at;
     let past = Cursor {
-        at: at + 1 + 2 * wide(l.places),
+        at: from.at + 1 + 2 * usize::from(l.places),
     };
     if kinds[s] != 3 {
-        return Verdict {
-            ok: true,
-            next: past,
-        };
+        return Some(past);
     }
-    let donor = past.take(bytes);
-    let d = donor.value;
-    let next = donor.next;
-    if l.nodes <= d {
-        return Verdict {
-            ok: false,
-            next: next,
-        };
+    let (donor, next) = past.take(bytes);
+    if l.nodes <= donor {
+        return None;
     }
-    donors[s] = d;
-    Verdict {
-        ok: kinds[wide(d)] != 3,
-        next: next,
-    }
+    donors[s] = donor;
+    (kinds[usize::from(donor)] != 3).then_some(next)
 }
 
 // Reads the donors of all nodes, beginning at the count of the nodes.
@@ -58,26 +46,19 @@ pub(crate) fn read_donors(
     from: Cursor,
     kinds: &[u8; 16],
     donors: &mut [u8; 16],
-) -> bool
+) -> Option<()>
     requires donors_placed { DonorsPlaced bytes.now l kinds.now }
-    requires at_value { (from.at ≡ 2 + places_of bytes.now) × (donors.old ≡ replicate 16 0) }
-    ensures value { result ≡ all_below (nodes_of bytes.now) (donor_form bytes.now) }
-    ensures donors_after { result ≡ true → donors.new ≡ (scheme_of bytes.now).donors }
+    requires at_count { from.at ≡ 2 + places_of bytes.now }
+    requires donors_blank { donors.old ≡ replicate 16 0 }
+    ensures formed { is_some result ≡ all_below (nodes_of bytes.now) (donor_form bytes.now) }
+    ensures donors_after { OnSome result (donors.new ≡ (scheme_of bytes.now).donors) }
 {
-    if l.donors == 0 {
-        return true;
+    if !l.donors {
+        return Some(());
     }
-    let count = from.take(bytes);
-    let nodes = wide(count.value);
-    let mut next = count.next;
-    let mut s = 0;
-    while s < nodes {
-        let donor = read_donor(bytes, l, s, next, kinds, donors);
-        if !donor.ok {
-            return false;
-        }
-        next = donor.next;
-        s += 1;
+    let (nodes, mut next) = from.take(bytes);
+    for s in 0..usize::from(nodes) {
+        next = read_donor(bytes, l, s, next, kinds, donors)?;
     }
-    true
+    Some(())
 }

@@ -3,19 +3,20 @@ use Prim.Native.Nat.{ℕ, suc, ◌+◌, ◌*◌, ◌≤◌, ◌<◌}
 use mathlib.Core.Path.{◌≡◌, refl, sym, ap, ◌∙◌}
 use mathlib.Core.Logic.{◌⊎◌, inl, inr, ⊎_elim}
 use mathlib.Core.Bool.{Bool, true, false, true≢false}
+use Rattle.std.specs.Prelude.{Some, None}
 use native.Mathlib.Omega.{arith}
 use lib.Dec.{eqb, ltb, leb}
 use borrow.Author.Tests.{eqb-true, eqb-false, eq-eqb, ne_eqb, ltb-true, lt-ltb, le-ltb, leb-true, le-leb}
 use Rattle.base.specs.Test.{◌and◌, ◌or◌, ◌⇒◌}
 use Rattle.base.specs.Below.{all_below, count_below}
+use Rattle.base.specs.First.{some_if}
 use Rattle.model.specs.Map.{Map, live, unused}
 use Rattle.model.specs.WellFormed.{WellFormed, well_formed, link_ok, all_pairs}
 use Rattle.base.proofs.TestLaws.{and_left, and_right, and_of, and_assoc, and_no_left, and_no_right, or_cases, or_left, or_right, if_so, if_of}
-use Rattle.base.proofs.TestLaws.{true_or_false, same_test, eqb_same, refuted, impossible}
+use Rattle.base.proofs.TestLaws.{joins, true_or_false, same_test, eqb_same, refuted, impossible}
 use Rattle.base.proofs.BelowLaws.{all-at, all_of, all-step, count_le, count-step}
 use Rattle.model.proofs.WellFormedLaws.{well_formed_iff}
 use Rattle.table.specs.Slots.{corner_ok, front_ok, inside_ok, near_ok, far_ok, corners_ok, slot_ok, surveyed}
-use Rattle.table.specs.declared.Finding.TheVariants.{Live, Broken}
 
 -- ---- tests taken together
 
@@ -30,7 +31,7 @@ and_swap false b c = refl
 
 -- ---- two words in one comparison
 
-pair_eq : (a b v : ℕ) → a < 4294967296 → eqb (a + b * 4294967296) (1 + v * 4294967296) ≡ (eqb a 1 and eqb b v)
+pub pair_eq : (a b v : ℕ) → a < 4294967296 → eqb (a + b * 4294967296) (1 + v * 4294967296) ≡ (eqb a 1 and eqb b v)
 pair_eq a b v h = ⊎_elim
     (λ p. ⊎_elim
     (λ q. let e = eqb-true a 1 p in let f = eqb-true b v q in eq-eqb (a + b * 4294967296) (1 + v * 4294967296) (omega arith) ∙ sym (and_of p q))
@@ -41,7 +42,6 @@ pair_eq a b v h = ⊎_elim
 
 pub front_is : (m : Map) (y v a b w : ℕ) → a < 4294967296 → a ≡ m.state y → b ≡ m.link 0 y → w ≡ v
     → eqb (a + b * 4294967296) (1 + w * 4294967296) ≡ front_ok m y v
-unfolding front_ok
 front_is m y v a b w h p q e = rw (← p, ← q, ← e) (pair_eq a b w h)
 
 -- ---- where the links lead
@@ -54,19 +54,17 @@ module _ (m : Map) (x : ℕ) where
 
   -- past the test, each of the links 0, 1 and 2 leads to a slot
   pub inside-below : (r : Bool) → r ≡ inside_ok m x → r ≡ true → (i : ℕ) → i < 3 → m.link i x < m.slots
-  unfolding inside_ok
   inside-below r e h i l = ltb-true _ _ (all-at 3 (λ j. ltb (m.link j x) m.slots) (sym e ∙ h) i l)
 
   -- one link that leads to no slot refutes the test
   pub inside-out : (i y : ℕ) → i < 3 → y ≡ m.link i x → m.slots ≤ y → false ≡ inside_ok m x
-  unfolding inside_ok
   inside-out i y l e h =
       sym (refuted (λ w. all-at 3 (λ j. ltb (m.link j x) m.slots) w i l) (rw (← e) (le-ltb _ _ h)))
 
   -- if the links 0 and 1 lead to slots, the test is that of the 2-link
   pub inside-last : (y z v : ℕ) → y ≡ m.link 0 x → z ≡ m.link 1 x → v ≡ m.link 2 x → y < m.slots → z < m.slots
       → ltb v m.slots ≡ inside_ok m x
-  unfolding inside_ok all_below ◌and◌
+  unfolding all_below ◌and◌
   inside-last y z v e f g h k = rw (← e, ← f, ← g, lt-ltb _ _ h, lt-ltb _ _ k)
 
   -- a link to a slot is right if it leads to a live dart, and back
@@ -77,13 +75,11 @@ module _ (m : Map) (x : ℕ) where
   -- links 0 and 1 to slots are right by the tests of `near`
   pub near_is_lem : (y z : ℕ) → y ≡ m.link 0 x → z ≡ m.link 1 x → m.link 0 x < m.slots → m.link 1 x < m.slots
       → (front_ok m y x and live m z and eqb (m.link 1 z) x) ≡ near_ok m x
-  unfolding near_ok front_ok
   near_is_lem y z e f h k = rw (e, f, ← link-is 0 h, ← link-is 1 k) (and_assoc _ _ _)
 
   -- an i-link to a slot is right, and commutes with the 0-link, by the tests of `far`
   pub far-is : (i y z v : ℕ) → y ≡ m.link i x → z ≡ m.link 0 x → v ≡ m.link i z → m.link i x < m.slots
       → (front_ok m y v and eqb (m.link i y) x) ≡ far_ok m x i
-  unfolding far_ok front_ok corner_ok
   far-is i y z v e f g h =
       rw (
         g,
@@ -96,7 +92,6 @@ module _ (m : Map) (x : ℕ) where
 
   -- two links commute if both ways end at the same word
   pub corner_is : (i j y z u v : ℕ) → y ≡ m.link i x → z ≡ m.link j x → u ≡ m.link j y → v ≡ m.link i z → eqb u v ≡ corner_ok m x i j
-  unfolding corner_ok
   corner_is i j y z u v e f g h = rw (g, h, e, f)
 
 -- ---- a slot of a well-formed table
@@ -118,7 +113,7 @@ module _ (n : ℕ) (m : Map) (w : WellFormed n m) where
       sym back-i ∙ ap (m.link i) (sym back-j ∙ ap (m.link j) end)
 
   pub slot-formed : (x : ℕ) → x < m.slots → slot_ok n m x ≡ true
-  unfolding slot_ok corners_ok corner_ok all_pairs link_ok
+  unfolding slot_ok corners_ok all_pairs link_ok
   slot-formed x h = and_of
       (⊎_elim (λ e. or_left (live m x) (eq-eqb _ _ e)) (λ e. or_right (unused m x) (eq-eqb _ _ e)) (w.states x h))
       (if_of (live m x) (λ b. let e = eqb-true _ _ b in and_of
@@ -133,19 +128,15 @@ module _ (n : ℕ) (m : Map) (w : WellFormed n m) where
 module _ (n : ℕ) (m : Map) (x : ℕ) where
   -- what the tests joined in `near_ok` and `far_ok` say one by one
   near_0 : near_ok m x ≡ true → link_ok m x 0 ≡ true
-  unfolding near_ok
   near_0 e = and_left _ _ e
 
   near_1 : near_ok m x ≡ true → link_ok m x 1 ≡ true
-  unfolding near_ok
   near_1 e = and_right _ _ e
 
   far-link : (i : ℕ) → far_ok m x i ≡ true → link_ok m x i ≡ true
-  unfolding far_ok
   far-link i e = and_left _ _ e
 
   far_corner : (i : ℕ) → far_ok m x i ≡ true → corner_ok m x 0 i ≡ true
-  unfolding far_ok
   far_corner i e = and_right _ _ e
 
   module _ (w : corners_ok n m x ≡ true) where
@@ -164,7 +155,6 @@ module _ (n : ℕ) (m : Map) (x : ℕ) where
 
   -- if one of the links 0, 1 and 2 leads to no slot, the dart is wrong
   pub no_inside : (r : Bool) → 2 ≤ n → r ≡ inside_ok m x → r ≡ false → false ≡ corners_ok n m x
-  unfolding inside_ok
   no_inside r l e h = sym
       (refuted (λ w. all_of 3 (λ i. ltb (m.link i x) m.slots) (λ i k. lt-ltb _ _ (link-below m x i (links_of w i (omega arith))))) (sym e ∙ h))
 
@@ -174,12 +164,10 @@ module _ (n : ℕ) (m : Map) (x : ℕ) where
 
   -- the links 0 and 1 of a right dart are right
   near_of : corners_ok n m x ≡ true → 2 ≤ n → near_ok m x ≡ true
-  unfolding near_ok
   near_of w l = and_of (links_of w 0 (omega arith)) (links_of w 1 (omega arith))
 
   -- each link but 0 and 1 of a right dart is right, and commutes with the 0-link
   far_of : corners_ok n m x ≡ true → (i : ℕ) → 2 ≤ i → i ≤ n → far_ok m x i ≡ true
-  unfolding far_ok
   far_of w i g l = and_of (links_of w i l) (corners_of w 0 i g l)
 
   -- for n = 2 three tests make a dart right
@@ -207,6 +195,9 @@ module _ (n : ℕ) (m : Map) (x : ℕ) where
       (and_of (and_of (near_of w (omega arith)) (far_of w 2 (omega arith) (omega arith))) (far_of w 3 (omega arith) (omega arith)))
       (corners_of w 1 3 (omega arith) (omega arith)))
 
+-- for `dart`, which joins the tests as these laws do
+pub ruleset dart_tests = (joins, no_inside, corners_2, corners_3)
+
 pub not_two : {n : ℕ} → (n ≡ 2) ⊎ (n ≡ 3) → (n ≡ 2 → ⊥) → n ≡ 3
 not_two (inl e) h = absurd (h e)
 not_two (inr e) h = e
@@ -232,7 +223,7 @@ module _ (n : ℕ) (m : Map) (s : (x : ℕ) → x < m.slots → slot_ok n m x �
     linked-back i l = eqb-true _ _ (and_right _ _ (links_of n m x corners i l))
 
   pub slots-formed : WellFormed n m
-  unfolding slot_ok corner_ok
+  unfolding slot_ok
   slots-formed = record {
     states = λ x h. ⊎_elim (λ e. inl (eqb-true _ _ e)) (λ e. inr (eqb-true _ _ e)) (or_cases (unused m x) (live m x) (and_left _ _ (s x h)));
     below = λ x h e i l. link-below m x i (links_of n m x (corners x h e) i l);
@@ -291,15 +282,15 @@ module _ (n : ℕ) (m : Map) (x s : ℕ) (e : s ≡ m.state x) where
     }
 
 -- the pass may stop at a wrong slot: the table is broken
-pub stops : (n : ℕ) (m : Map) (x : ℕ) → x < m.slots → slot_ok n m x ≡ false → Broken ≡ surveyed n m
-unfolding surveyed
+pub stops : (n : ℕ) (m : Map) (x : ℕ) → x < m.slots → slot_ok n m x ≡ false → None ≡ surveyed n m
+unfolding surveyed some_if
 stops n m x h e = ⊎_elim
     (λ w. absurd (true≢false (sym (slot-formed n m ((well_formed_iff n m).0 w) x h) ∙ e)))
     (λ w. rw w refl)
     (true_or_false (well_formed n m))
 
-pub passes : (n : ℕ) (m : Map) (x k : ℕ) → Passed n m x k → m.slots ≤ x → Live k ≡ surveyed n m
-unfolding surveyed
+pub passes : (n : ℕ) (m : Map) (x k : ℕ) → Passed n m x k → m.slots ≤ x → Some k ≡ surveyed n m
+unfolding surveyed some_if
 passes n m x k p h =
     let same : x ≡ m.slots = omega (arith, p.fits) in
     let well = (well_formed_iff n m).1 (slots-formed n m (λ y b. all-at x (slot_ok n m) p.right y (omega arith))) in

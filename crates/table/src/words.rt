@@ -3,8 +3,6 @@ ghost use Rattle.std.specs.Prelude.{◌≡◌, ◌+◌, ◌*◌, ◌<◌, ◌≤
 ghost use Rattle.model.specs.Map.{State, Link, Tag, record_size, table_size, put, view};
 ghost use Rattle.table.specs.Words.{Sized, blanked};
 
-use base::words::wide;
-
 // How many words a record has, and which of them are the state, the first of the links, and the tag.
 pub const RECORD: usize = 6;
 
@@ -18,13 +16,13 @@ const TAG: usize = 5;
 pub fn size(slots: u32) -> usize
     ensures { result ≡ table_size slots }
 {
-    RECORD * wide(slots)
+    RECORD * slots as usize
 }
 
 // Word c of the record of slot x.
 fn at(slots: usize, table: &[u32], c: usize, x: usize) -> u32
     requires sized { Sized slots table.now }
-    requires x_lt_slots { (x < slots) × (c < record_size) }
+    requires word_in_table { (x < slots) × (c < record_size) }
     ensures { result ≡ get_or table.now (record_size * x + c) 0 }
 {
     table[RECORD * x + c]
@@ -33,24 +31,26 @@ fn at(slots: usize, table: &[u32], c: usize, x: usize) -> u32
 // Sets word c of the record of slot x to v.
 fn put_at(slots: usize, table: &mut [u32], c: usize, x: usize, v: u32)
     requires sized { Sized slots table.old }
-    requires x_lt_slots { (x < slots) × (c < record_size) }
+    requires word_in_table { (x < slots) × (c < record_size) }
     ensures { table.new ≡ set table.old (record_size * x + c) v }
 {
     table[RECORD * x + c] = v;
 }
 
+#[tactic(auto, unfolding(model::specs::Map::field_at))]
 pub fn state(slots: usize, table: &[u32], x: usize) -> u32
     requires sized { Sized slots table.now }
-    requires x_lt_slots { x < slots }
+    requires slot_in_table { x < slots }
     ensures { result ≡ (view slots table.now).state x }
 {
     at(slots, table, STATE, x)
 }
 
 // αi(x), as the table's word.
+#[tactic(auto, unfolding(model::specs::Map::field_at))]
 pub fn word(slots: usize, table: &[u32], i: usize, x: usize) -> u32
     requires sized { Sized slots table.now }
-    requires x_lt_slots { (x < slots) × (i ≤ 3) }
+    requires link_in_table { (x < slots) × (i ≤ 3) }
     ensures { result ≡ (view slots table.now).link i x }
 {
     at(slots, table, LINKS + i, x)
@@ -59,40 +59,44 @@ pub fn word(slots: usize, table: &[u32], i: usize, x: usize) -> u32
 // αi(x), as a slot.
 pub fn link(slots: usize, table: &[u32], i: usize, x: usize) -> usize
     requires sized { Sized slots table.now }
-    requires x_lt_slots { (x < slots) × (i ≤ 3) }
+    requires link_in_table { (x < slots) × (i ≤ 3) }
     ensures { result ≡ (view slots table.now).link i x }
 {
-    wide(word(slots, table, i, x))
+    word(slots, table, i, x) as usize
 }
 
+#[tactic(auto, unfolding(model::specs::Map::field_at))]
 pub fn tag(slots: usize, table: &[u32], x: usize) -> u32
     requires sized { Sized slots table.now }
-    requires x_lt_slots { x < slots }
+    requires slot_in_table { x < slots }
     ensures { result ≡ (view slots table.now).tag x }
 {
     at(slots, table, TAG, x)
 }
 
+#[tactic(auto, unfolding(model::specs::Map::put))]
 pub fn put_state(slots: usize, table: &mut [u32], x: usize, v: u32)
     requires sized { Sized slots table.old }
-    requires x_lt_slots { x < slots }
+    requires slot_in_table { x < slots }
     ensures { table.new ≡ put table.old State x v }
 {
     put_at(slots, table, STATE, x, v);
 }
 
 // Sets αi(x) to v.
+#[tactic(auto, unfolding(model::specs::Map::put))]
 pub fn put_link(slots: usize, table: &mut [u32], i: usize, x: usize, v: u32)
     requires sized { Sized slots table.old }
-    requires x_lt_slots { (x < slots) × (i ≤ 3) }
+    requires link_in_table { (x < slots) × (i ≤ 3) }
     ensures { table.new ≡ put table.old (Link i) x v }
 {
     put_at(slots, table, LINKS + i, x, v);
 }
 
+#[tactic(auto, unfolding(model::specs::Map::put))]
 pub fn put_tag(slots: usize, table: &mut [u32], x: usize, v: u32)
     requires sized { Sized slots table.old }
-    requires x_lt_slots { x < slots }
+    requires slot_in_table { x < slots }
     ensures { table.new ≡ put table.old Tag x v }
 {
     put_at(slots, table, TAG, x, v);
@@ -101,12 +105,10 @@ pub fn put_tag(slots: usize, table: &mut [u32], x: usize, v: u32)
 // Sets the record of slot x to zeros.
 pub fn blank(slots: usize, table: &mut [u32], x: usize)
     requires sized { Sized slots table.old }
-    requires x_lt_slots { x < slots }
+    requires slot_in_table { x < slots }
     ensures { table.new ≡ blanked x table.old }
 {
-    let mut c = 0;
-    while c < RECORD {
+    for c in 0..RECORD {
         put_at(slots, table, c, x, 0);
-        c += 1;
     }
 }

@@ -1,10 +1,11 @@
 -- The answer as one word, for callers in C, and the way back.
 use Rattle.std.specs.Prelude.{ℕ, ◌+◌, ◌*◌, ◌/◌, ◌%◌, ◌<◌, ◌≡◌, cond, get_or, ltb}
-use Rattle.model.specs.Answer.{refusal_number, refusal_values, refusal_of}
+use Rattle.std.specs.Prelude.{Ok, Err}
+use Rattle.model.specs.Answer.{Answer, refusal_number, refusal_values, refusal_of}
 use Rattle.model.specs.Sequence.{Request, table_check, scheme_check, edit, count, load, write}
 use Rattle.model.specs.declared.Refusal.{Refusal}
-use Rattle.model.specs.declared.Answer.{Answer}
-use Rattle.model.specs.declared.Answer.TheVariants.{Done, Edited, Written, Refused}
+use Rattle.model.specs.declared.Reply.{Reply}
+use Rattle.model.specs.declared.Reply.TheVariants.{Done, Edited, Written}
 use Rattle.word.specs.declared.Named.{Named}
 
 -- value k of a refusal, 0 where it has not so many
@@ -24,10 +25,10 @@ refused k node i j = 9223372036854775808 + k + node * 256 + i * 65536 + j * 1677
 
 -- where the call is done bit 63 is clear: the three counts of an edit take 21 bits each, and the length of a file takes them all
 abbrev pub packed : Answer → ℕ
-packed Done = 0
-packed (Edited orbit added deleted) = orbit + added * 2097152 + deleted * 4398046511104
-packed (Written size) = size
-packed (Refused f) = refused (refusal_number f) (value_of f 0) (value_of f 1) (value_of f 2)
+packed (Ok Done) = 0
+packed (Ok (Edited orbit added deleted)) = orbit + added * 2097152 + deleted * 4398046511104
+packed (Ok (Written size)) = size
+packed (Err f) = refused (refusal_number f) (value_of f 0) (value_of f 1) (value_of f 2)
 
 -- what a refusal names fits a byte
 abbrev pub SmallRefusal : Refusal → Type 0
@@ -35,15 +36,15 @@ SmallRefusal f = (value_of f 0 < 256) × (value_of f 1 < 256) × (value_of f 2 <
 
 -- what an answer returns fits its place in the word
 abbrev pub Small : Answer → Type 0
-Small Done = Unit
-Small (Edited orbit added deleted) = (orbit < 2097152) × (added < 2097152) × (deleted < 2097152)
-Small (Written size) = size < 9223372036854775808
-Small (Refused f) = SmallRefusal f
+Small (Ok Done) = Unit
+Small (Ok (Edited orbit added deleted)) = (orbit < 2097152) × (added < 2097152) × (deleted < 2097152)
+Small (Ok (Written size)) = size < 9223372036854775808
+Small (Err f) = SmallRefusal f
 
 -- ---- back
 
 -- what a request that is done has returned, by its word
-abbrev pub done_back : Request → ℕ → Answer
+abbrev pub done_back : Request → ℕ → Reply
 done_back table_check w = Done
 done_back (scheme_check b) w = Done
 done_back (edit b D) w = Edited (w % 2097152) (w / 2097152 % 2097152) (w / 4398046511104 % 2097152)
@@ -52,5 +53,5 @@ done_back (load b) w = Done
 done_back write w = Written w
 
 unfoldable pub unpacked : Request → ℕ → Answer
-unpacked q w = cond (ltb w 9223372036854775808) (done_back q w)
-    (Refused (refusal_of (w % 256) (w / 256 % 256) (w / 65536 % 256) (w / 16777216 % 256)))
+unpacked q w = cond (ltb w 9223372036854775808) (Ok (done_back q w))
+    (Err (refusal_of (w % 256) (w / 256 % 256) (w / 65536 % 256) (w / 16777216 % 256)))

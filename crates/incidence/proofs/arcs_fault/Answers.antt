@@ -2,9 +2,8 @@
 use Rattle.incidence.proofs.FaultLaws.{fault-incidence, fault_cycle}
 use Rattle.incidence.proofs.arcs_fault.Goals as goal
 
-pub returns-in-Node : goal.returns-in-Node
-returns-in-Node c = fault-incidence _ _ _ _ _ _ _ _ _ c.wide.ensures.0 _ c.unbalanced-bad.ensures _ c.in-Node.is
+pub returns-in-Some : goal.returns-in-Some
+returns-in-Some c = fault-incidence _ _ _ _ _ _ _ _ _ c.unbalanced.ensures _ c.in-Some.is
 
 pub returns : goal.returns
-returns c =
-    fault_cycle _ _ _ _ _ _ _ _ _ c.wide.ensures.0 _ c.unbalanced-bad.ensures c.in_default.is _ c.cycle_fault.ensures
+returns c = fault_cycle _ _ _ _ _ _ _ _ _ c.unbalanced.ensures c.in_default.is _ c.cycle_fault.ensures

@@ -1,25 +1,31 @@
 -- `kernel::check_scheme` meets its contract.
-use mathlib.Core.Path.{sym, ◌∙◌}
-use Rattle.kernel.proofs.StageLaws.{form-bad, form-good, judge_asks, form-refused, fault_judged, found_none, found_some}
+use mathlib.Core.Path.{◌∙◌}
+use Rattle.std.proofs.lemmas.Result.{err_from_is_err_and}
+use Rattle.scheme.proofs.ReadLaws.{broken-read}
+use Rattle.kernel.proofs.StageLaws.{form-good, read-scheme, read-shaped, long-words, left-twice, right-twice, form-refused, form_judged}
 use Rattle.kernel.proofs.StageLaws.{scheme-refused, scheme-done}
 use Rattle.kernel.proofs.check_scheme.Goals as goal
 
-pub returns-then-not-r : goal.returns-then-not-r
-returns-then-not-r c = scheme-refused _ (form-refused _ _ (form-bad _ _ c.read-r.ensures c.if-not-r.true))
+pub returns-in_default : goal.returns-in_default
+returns-in_default c = scheme-refused _ (form-refused _ _ (broken-read _ c.in_default.ensures))
 
-pub judge-v-requires : goal.judge-v-requires
-judge-v-requires c = judge_asks _ _ c.read-r.ensures (form-good _ _ c.read-r.ensures c.if-not-r.false)
+pub judge-requires : goal.judge-requires
+judge-requires c =
+    let e = c.in-Some.ensures in
+    record {
+      shaped = read-shaped _ _ e;
+      words_len = long-words _ _ e;
+      left_twice_value = left-twice _ _ e;
+      right_twice_value = right-twice _ _ e;
+    }
 
-pub returns-in-Clean : goal.returns-in-Clean
-returns-in-Clean c =
-    let e = c.read-r.ensures in
-    let form = form-good _ _ e c.if-not-r.false in
-    let judged = fault_judged _ _ _ e form form _ (c.judge-v.ensures (judge_asks _ _ e form)) in
-    scheme-done _ (found_none _ (sym c.in-Clean.is ∙ judged))
+pub returns-in_err-judge : goal.returns-in_err-judge
+returns-in_err-judge c =
+    let e = c.in-Some.ensures in
+    let p = err_from_is_err_and c.from_residual.result c.from_residual.ensures.1 in
+    rw (p.1, p.2) (scheme-refused _ (form_judged _ _ _ (form-good _ _ e) (read-scheme _ _ e) ∙ c.in_err-judge.ensures.refused))
 
-pub returns-in-Given : goal.returns-in-Given
-returns-in-Given c =
-    let e = c.read-r.ensures in
-    let form = form-good _ _ e c.if-not-r.false in
-    let judged = fault_judged _ _ _ e form form _ (c.judge-v.ensures (judge_asks _ _ e form)) in
-    scheme-refused _ (found_some _ _ (sym c.in-Given.is ∙ judged))
+pub returns : goal.returns
+returns c =
+    let e = c.in-Some.ensures in
+    scheme-done _ (form_judged _ _ _ (form-good _ _ e) (read-scheme _ _ e) ∙ c.in_ok-judge.ensures.accepted.0)

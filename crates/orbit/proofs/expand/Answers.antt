@@ -1,43 +1,47 @@
 -- `orbit::expand` meets its contract.
-use Prim.Native.Nat.{◌<◌}
 use mathlib.Core.Path.{◌≡◌, ap, ◌∙◌}
+use Prim.Native.Nat.{ℕ, ◌<◌}
 use native.Mathlib.Omega.{arith}
-use lib.ListN.{get_or}
+use lib.ListN.{length}
 use Rattle.model.specs.Map.{view}
 use Rattle.orbit.specs.Store.{place}
 use Rattle.orbit.proofs.WalkLaws.{expanded_more}
 use Rattle.orbit.proofs.expand.Goals as goal
 
-pub returns-then-p-k : goal.returns-then-p-k
-returns-then-p-k c = rw (← c.if-p-k.true) c.loop-p.invariant.0
+pub returns-in_default : goal.returns-in_default
+returns-in_default c =
+    let e : c.loop-p.p ≡ length c.args.dims.now = omega (arith, c.loop-p.invariant.1, c.in_default.ensures.lookup) in
+    rw (← e) c.loop-p.invariant.0
 
-pub link-y-requires-clause-x_lt_slots : goal.link-y-requires-clause-x_lt_slots
+pub link-y-requires-clause-link_in_table : goal.link-y-requires-clause-link_in_table
 unfolding place
-link-y-requires-clause-x_lt_slots c =
+link-y-requires-clause-link_in_table c =
+    let r = c.requires.before_walking in
+    let item = c.in-Some.ensures.lookup.3 in (
+      omega (arith, c.word-x.ensures, c.requires.taken.slot c.args.head c.requires.live_dart_at_head.0),
+      omega (arith, c.from.ensures, item.1 0, r.dim c.loop-p.p item.0, r.small),
+    )
+
+pub follow-end-requires-clause-slot_in_table : goal.follow-end-requires-clause-slot_in_table
+unfolding place
+follow-end-requires-clause-slot_in_table c =
     let a = c.args in
     let r = c.requires.before_walking in
-    let position : c.loop-p.p < a.k = omega (arith, c.loop-p.invariant.1, c.if-p-k.false) in
-    (omega (arith, c.word-x.ensures, c.requires.taken.slot a.head c.requires.head_lt_tail.0), omega (arith, r.dim c.loop-p.p position, r.small))
-
-pub follow-end-requires-clause-y_lt_slots : goal.follow-end-requires-clause-y_lt_slots
-unfolding place
-follow-end-requires-clause-y_lt_slots c =
-    let a = c.args in
-    let r = c.requires.before_walking in
-    let x_slot : c.word-x.result < a.slots = omega (arith, c.word-x.ensures, c.requires.taken.slot a.head c.requires.head_lt_tail.0) in
-    let position : c.loop-p.p < a.k = omega (arith, c.loop-p.invariant.1, c.if-p-k.false) in
-    let y_slot : (view a.slots a.table.now).link (get_or a.dims c.loop-p.p 0) c.word-x.result < a.slots =
-    r.well.below c.word-x.result x_slot (ap (view a.slots a.table.now).state c.word-x.ensures ∙ c.requires.head_lt_tail.1) _ (r.dim c.loop-p.p position) in
-    (omega (arith, y_slot, c.link-y.ensures), omega arith, omega arith)
+    let item = c.in-Some.ensures.lookup.3 in
+    let x_slot : c.word-x.result < a.slots = omega (arith, c.word-x.ensures, c.requires.taken.slot a.head c.requires.live_dart_at_head.0) in
+    let y_slot : (view a.slots a.table.now).link c.from.result c.word-x.result < a.slots =
+    r.well.below c.word-x.result x_slot (ap (view a.slots a.table.now).state c.word-x.ensures ∙ c.requires.live_dart_at_head.1) _
+    (omega (arith, c.from.ensures, item.1 0, r.dim c.loop-p.p item.0)) in
+    omega (arith, y_slot, c.link-y.ensures)
 
 pub loop-p-preserved : goal.loop-p-preserved
 unfolding place
-loop-p-preserved c = (
-  expanded_more _ _ _ _ _ _ _ _ _ _ _ _ (omega arith) c.word-x.ensures c.link-y.ensures c.loop-p.invariant.0 c.follow-end.ensures,
-  omega (arith, c.loop-p.invariant.1, c.if-p-k.false),
-)
+loop-p-preserved c =
+    let item = c.in-Some.ensures.lookup.3 in
+    let led = c.link-y.ensures ∙ ap (λ (i : ℕ). (view c.args.slots c.args.table.now).link i c.word-x.result) (c.from.ensures ∙ item.1 0) in
+    (expanded_more _ _ _ _ _ _ _ _ _ _ _ _ (omega arith) c.word-x.ensures led c.loop-p.invariant.0 c.follow-end.ensures, omega (arith, item.0))
 
 pub returns : goal.returns
 returns c =
-    let e : c.loop-p.p ≡ c.args.k = omega (arith, c.loop-p.invariant.1, c.loop-p-test.false, c.requires.before_walking.few) in
+    let e : c.loop-p.p ≡ length c.args.dims.now = omega (arith, c.loop-p.invariant.1, c.requires.before_walking.few) in
     rw (← e) c.loop-p.invariant.0

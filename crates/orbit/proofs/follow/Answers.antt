@@ -7,14 +7,14 @@ use Rattle.orbit.proofs.follow.Goals as goal
 pub returns-then-m-ne0 : goal.returns-then-m-ne0
 unfolding mark
 returns-then-m-ne0 c =
-    let y = c.requires.y_lt_slots in
-    followed-old _ _ _ _ _ y.1 y.2 c.requires.taken y.0 c.word-m.ensures c.if-m-ne0.true c.keep.ensures
+    let r = c.requires in
+    followed-old _ _ _ _ _ r.word_behind_places.0 r.word_behind_places.1 r.taken r.slot_in_table c.word-m.ensures c.if-m-ne0.true c.keep.ensures
 
-pub push-requires-clause-y_lt_slots : goal.push-requires-clause-y_lt_slots
+pub push-requires-clause-slot_without_place : goal.push-requires-clause-slot_without_place
 unfolding mark
-push-requires-clause-y_lt_slots c = (c.requires.y_lt_slots.0, sym c.word-m.ensures ∙ c.if-m-ne0.false)
+push-requires-clause-slot_without_place c = (c.requires.slot_in_table, sym c.word-m.ensures ∙ c.if-m-ne0.false)
 
 pub returns : goal.returns
 returns c =
-    let y = c.requires.y_lt_slots in
-    followed-new _ _ _ _ _ y.1 y.2 c.requires.taken y.0 c.push.ensures c.keep-2.ensures
+    let r = c.requires in
+    followed-new _ _ _ _ _ r.word_behind_places.0 r.word_behind_places.1 r.taken r.slot_in_table c.push.ensures c.keep-2.ensures

@@ -1,13 +1,13 @@
 -- The loop's invariant is `Walking`, over the store in which d took its place; the measure is
 -- the slots less `head`, which is below `tail`, and there are no more places than slots.
 use Prim.Native.Nat.{◌-◌}
-use lib.ListN.{get_or}
+use lib.ListN.{length, get_or}
 use Rattle.model.specs.Map.{view}
 use Rattle.orbit.proofs.WalkLaws.{Walking}
 use Rattle.orbit.proofs.walk.Given as goal
 
 abbrev pub invariant-loop-head : goal.invariant-loop-head
-invariant-loop-head l = Walking (view l.slots l.table) l.k (λ p. get_or l.dims p 0) l.d l.initial.store l.begin l.store l.head l.tail
+invariant-loop-head l = Walking (view l.slots l.table) (length l.dims) (λ p. get_or l.dims p 0) l.d l.initial.store l.begin l.store l.head l.tail
 
 abbrev pub decreases-loop-head : goal.decreases-loop-head
 decreases-loop-head l = l.slots - l.head

@@ -10,10 +10,10 @@ returns-then-size-lt2 c = start-short _ _ _ _ _ c.if-size-lt2.true c.refuse.ensu
 
 pub ahead-requires : goal.ahead-requires
 ahead-requires c =
-    let few : c.two-maps.result.value ≤ most_maps = omega (arith, c.two-maps.ensures.small) in
+    let few : c.number-maps.result.0 ≤ most_maps = omega (arith, c.number-maps.ensures.small) in
     record { sums_room = room-none _ _ c.requires.sums_value few; longest_line_in_bounds = omega (arith, c.requires.longest_line_in_bounds) }
 
 pub returns : goal.returns
 returns c =
-    start-ahead _ _ _ _ _ _ _ c.if-size-lt2.false c.two-maps.ensures.value
+    start-ahead _ _ _ _ _ _ _ c.if-size-lt2.false c.number-maps.ensures.value
     (behind c.args.piece.now 2) c.ahead.ensures

@@ -14,7 +14,7 @@ edits-at-requires c =
       laid = c.requires.laid;
       map_open = c.requires.map_open;
       stands = c.requires.stands;
-      darts_in_bounds = edits-room _ _ c.args.out.now c.requires.laid c.requires.longest_in_bounds;
+      lines_in_bounds = edits-room _ _ c.args.out.now c.requires.laid c.requires.longest_in_bounds;
     }
 
 pub tally-live-requires : goal.tally-live-requires

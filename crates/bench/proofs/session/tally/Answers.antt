@@ -1,5 +1,5 @@
 -- `bench::session::tally` meets its contract.
-use mathlib.Core.Path.{◌≡◌, refl, sym, ◌∙◌}
+use mathlib.Core.Path.{refl, sym, ◌∙◌}
 use native.Mathlib.Omega.{arith}
 use lib.Dec.{eqb}
 use borrow.Author.Tests.{eq-eqb, ne_eqb}
@@ -12,29 +12,15 @@ use Rattle.bench.proofs.session.tally.Goals.{then-state-s, else-state-s}
 
 pub loop-x-init : goal.loop-x-init
 unfolding count_below
-loop-x-init c = (omega arith, refl)
+loop-x-init c = refl
 
 pub overflow_add-found : goal.overflow_add-found
-overflow_add-found c =
-    omega (
-      arith,
-      c.loop-x.invariant.1,
-      count_le c.loop-x.x
-          (λ y. eqb ((view c.args.slots c.args.table.now).state y) c.args.s),
-    )
+overflow_add-found c = omega (arith, c.loop-x.invariant, count_le c.loop-x.x (λ y. eqb ((view c.args.slots c.args.table.now).state y) c.args.s))
 
 pub loop-x-preserved : goal.loop-x-preserved
 loop-x-preserved c =
-    let inv = c.loop-x.invariant in (
-      omega arith,
-      elim c.if-state-s.branch [
-        | then-state-s w ↦ rw w.found-is (tally_hit _ _ _ (eq-eqb _ _ (sym c.state.ensures ∙ w.if-state-s.true)) inv.1)
-        | else-state-s w ↦ rw w.found-is (tally_miss _ _ _ (ne_eqb _ _ (λ e. w.if-state-s.false (c.state.ensures ∙ e))) inv.1)
-      ],
-    )
-
-pub returns : goal.returns
-returns c =
-    let l = c.loop-x in
-    let end : l.x ≡ c.args.slots = omega arith in
-    rw (← end) l.invariant.1
+    let inv = c.loop-x.invariant in
+    elim c.if-state-s.branch [
+      | then-state-s w ↦ rw w.found-is (tally_hit _ _ _ (eq-eqb _ _ (sym c.state.ensures ∙ w.if-state-s.true)) inv)
+      | else-state-s w ↦ rw w.found-is (tally_miss _ _ _ (ne_eqb _ _ (λ e. w.if-state-s.false (c.state.ensures ∙ e))) inv)
+    ]

@@ -1,5 +1,4 @@
 -- The loop's invariant: the slots below x are counted.
-use Prim.Native.Nat.{◌-◌, ◌≤◌}
 use mathlib.Core.Path.{◌≡◌}
 use lib.Dec.{eqb}
 use Rattle.base.specs.Below.{count_below}
@@ -7,7 +6,4 @@ use Rattle.model.specs.Map.{view}
 use Rattle.bench.proofs.session.tally.Given as goal
 
 abbrev pub invariant-loop-x : goal.invariant-loop-x
-invariant-loop-x l = (l.x ≤ l.slots) × (l.found ≡ count_below l.x (λ y. eqb ((view l.slots l.table).state y) l.s))
-
-abbrev pub decreases-loop-x : goal.decreases-loop-x
-decreases-loop-x l = l.slots - l.x
+invariant-loop-x l = l.found ≡ count_below l.x (λ y. eqb ((view l.slots l.table).state y) l.s)

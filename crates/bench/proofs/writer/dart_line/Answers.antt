@@ -5,7 +5,7 @@ use Rattle.bench.proofs.writer.dart_line.Goals as goal
 
 pub numbers_line-requires : goal.numbers_line-requires
 numbers_line-requires c =
-    record { in_bounds = omega arith; values_in_bounds = dart-room c.args.dart c.args.a _ _ _ _ c.number.ensures c.shown-values.ensures _ _ c.requires }
+    record { not_empty = omega arith; line_in_bounds = dart-room c.args.dart c.args.a _ _ _ _ c.number.ensures c.shown-values.ensures _ _ c.requires }
 
 pub returns : goal.returns
 returns c = dart-put _ _ _ _ _ _ c.number.ensures c.shown-values.ensures _ _ _ _ c.numbers_line.ensures

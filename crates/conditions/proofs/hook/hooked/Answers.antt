@@ -1,24 +1,18 @@
 -- `conditions::hook::hooked` meets its contract.
-use mathlib.Core.Path.{refl}
-use native.Mathlib.Omega.{arith}
-use borrow.Author.Tests.{eq-eqb}
-use Rattle.base.specs.Below.{all_below}
-use Rattle.base.proofs.BelowLaws.{all_more}
-use Rattle.conditions.proofs.HookLaws.{hook-added, hook-other, hook-whole}
+use lib.ListN.{get_or}
+use borrow.Author.Rules.{rules}
+use borrow.Author.Tests.{eq-eqb, ne_eqb}
+use Rattle.base.specs.Test.{◌and◌}
+use Rattle.conditions.specs.Hook.{hooked_by}
+use Rattle.base.proofs.RangeLaws.{all-below}
 use Rattle.conditions.proofs.hook.hooked.Goals as goal
 
-pub returns-then-kinds-h-eq3 : goal.returns-then-kinds-h-eq3
-returns-then-kinds-h-eq3 c = hook-added _ _ _ _ _ c.if-kinds-h-eq3.true
+pub returns-then-not-added : goal.returns-then-not-added
+unfolding hooked_by ◌and◌
+returns-then-not-added c =
+    rw (ne_eqb (get_or c.args.scheme.now.kinds c.args.h 0) 3 c.if-not-added.true)
+    (all-below c.from.ensures _ _ c.all.ensures.ran (λ x b q k. search rules))
 
-pub loop-p-init : goal.loop-p-init
-unfolding all_below
-loop-p-init c = (omega arith, refl)
-
-pub returns-then-words-h : goal.returns-then-words-h
-returns-then-words-h c = hook-other _ _ _ _ _ c.if-kinds-h-eq3.false _ c.loop-p-test.true c.if-words-h.true
-
-pub loop-p-preserved : goal.loop-p-preserved
-loop-p-preserved c = let l = c.loop-p.invariant in (omega arith, all_more _ _ l.1 (eq-eqb _ _ c.if-words-h.false))
-
-pub returns : goal.returns
-returns c = let l = c.loop-p.invariant in hook-whole _ _ _ _ _ c.if-kinds-h-eq3.false _ l.0 c.loop-p-test.false l.1
+pub returns-else-not-added : goal.returns-else-not-added
+unfolding hooked_by ◌and◌
+returns-else-not-added c = rw (eq-eqb (get_or c.args.scheme.now.kinds c.args.h 0) 3 c.if-not-added.false)

@@ -5,37 +5,35 @@ use Rattle.model.specs.Map.{view}
 use Rattle.table.proofs.SurveyLaws.{survey_live, survey_broken}
 use Rattle.edit.proofs.SiteLaws.{other-dimension, bad-table, no_dart, sound, applied, unused-left}
 use Rattle.edit.proofs.site.apply_at.Goals as goal
+use Rattle.edit.proofs.site.apply_at.Goals.{then-not-is_dart-via-then-not-is_dart, then-not-is_dart-via-else-not-is_dart+then-not-is_dart-2}
 
-pub returns-then-wide-n : goal.returns-then-wide-n
-returns-then-wide-n c = other-dimension _ c.wide.ensures c.if-wide-n.true
+pub returns-then-from-n : goal.returns-then-from-n
+returns-then-from-n c = other-dimension _ c.from.ensures c.if-from-n.true
 
 pub returns-in_default : goal.returns-in_default
 returns-in_default c =
-    bad-table (sym c.wide.ensures ∙ c.if-wide-n.false) (survey_broken _ _ _ c.survey-found.ensures c.in_default.is)
+    bad-table (sym c.from.ensures ∙ c.if-from-n.false) (survey_broken _ _ _ c.survey.ensures c.in_default.is)
 
 pub returns-then-not-is_dart : goal.returns-then-not-is_dart
 returns-then-not-is_dart c =
-    let same = sym c.wide.ensures ∙ c.if-wide-n.false in
-    let lives = survey_live _ _ _ c.survey-found.ensures _ c.in-Live.is in
-    no_dart same lives.0 (and_no_left _ (sym c.is_dart.ensures ∙ c.if-not-is_dart.true))
-
-pub returns-then-not-is_dart-2 : goal.returns-then-not-is_dart-2
-returns-then-not-is_dart-2 c =
-    let same = sym c.wide.ensures ∙ c.if-wide-n.false in
-    let lives = survey_live _ _ _ c.survey-found.ensures _ c.in-Live.is in
-    no_dart same lives.0 (and_no_right _ (sym c.is_dart-2.ensures ∙ c.if-not-is_dart-2.true))
+    let same = sym c.from.ensures ∙ c.if-from-n.false in
+    let lives = survey_live _ _ _ c.survey.ensures _ c.in-Some.is in
+    no_dart same lives.0 (elim c.then-not-is_dart.branch [
+      | then-not-is_dart-via-then-not-is_dart w ↦ and_no_left _ (sym c.is_dart.ensures ∙ w.if-not-is_dart.true)
+      | then-not-is_dart-via-else-not-is_dart+then-not-is_dart-2 w ↦ and_no_right _ (sym w.is_dart-else-not-is_dart.ensures ∙ w.if-not-is_dart-2.true)
+    ])
 
 pub overflow_sub-slots : goal.overflow_sub-slots
 overflow_sub-slots c =
-    let lives = survey_live _ _ _ c.survey-found.ensures _ c.in-Live.is in
+    let lives = survey_live _ _ _ c.survey.ensures _ c.in-Some.is in
     (unused-left c.args.n (view c.args.slots c.args.table.now) _ lives.0 lives.1).0
 
 pub apply-requires : goal.apply-requires
 apply-requires c =
-    let same = sym c.wide.ensures ∙ c.if-wide-n.false in
-    let lives = survey_live _ _ _ c.survey-found.ensures _ c.in-Live.is in
+    let same = sym c.from.ensures ∙ c.if-from-n.false in
+    let lives = survey_live _ _ _ c.survey.ensures _ c.in-Some.is in
     let dart = sym c.is_dart.ensures ∙ c.if-not-is_dart.false in
-    let other = sym c.is_dart-2.ensures ∙ c.if-not-is_dart-2.false in
+    let other = sym c.is_dart-else-not-is_dart.ensures ∙ c.if-not-is_dart-2.false in
     record {
       sized = c.requires.sized;
       sound = sound same lives.0 dart other c.requires.accepted c.requires.other_value;
@@ -46,8 +44,8 @@ apply-requires c =
 
 pub returns : goal.returns
 returns c =
-    let same = sym c.wide.ensures ∙ c.if-wide-n.false in
-    let lives = survey_live _ _ _ c.survey-found.ensures _ c.in-Live.is in
+    let same = sym c.from.ensures ∙ c.if-from-n.false in
+    let lives = survey_live _ _ _ c.survey.ensures _ c.in-Some.is in
     let dart = sym c.is_dart.ensures ∙ c.if-not-is_dart.false in
-    let other = sym c.is_dart-2.ensures ∙ c.if-not-is_dart-2.false in
+    let other = sym c.is_dart-else-not-is_dart.ensures ∙ c.if-not-is_dart-2.false in
     applied same lives.0 dart other c.apply.ensures

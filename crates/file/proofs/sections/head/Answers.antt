@@ -4,10 +4,9 @@ use Rattle.file.specs.Sections.{head_bytes}
 use Rattle.numbers.proofs.PlaceLaws.{put_then, put-room}
 use Rattle.file.proofs.sections.head.Goals as goal
 
-pub put-requires : goal.put-requires
-put-requires c =
-    record { width = c.requires.kind.width; w_in_bounds = put-room 1 _ _ _ _ _ c.put_one-next.ensures _ (omega arith) }
+pub put-requires-clause-in_bounds : goal.put-requires-clause-in_bounds
+put-requires-clause-in_bounds g c = put-room 1 _ _ _ _ _ c.put-next.ensures _ (omega arith)
 
 pub returns : goal.returns
 unfolding head_bytes
-returns c = put_then _ _ _ _ _ _ _ _ c.put_one-next.ensures c.put.ensures
+returns g c = put_then _ _ _ _ _ _ _ _ c.put-next.ensures c.put.ensures

@@ -8,6 +8,6 @@ pub returns-then-p-q : goal.returns-then-p-q
 unfolding far_apart ◌or◌
 returns-then-p-q c = search rules
 
-pub returns : goal.returns
+pub returns-else-p-q : goal.returns-else-p-q
 unfolding far_apart ◌or◌
-returns c = search rules
+returns-else-p-q c = search rules

@@ -8,6 +8,6 @@ pub returns-then-code : goal.returns-then-code
 unfolding pair_by ◌and◌
 returns-then-code c = search rules
 
-pub returns : goal.returns
+pub returns-else-code : goal.returns-else-code
 unfolding pair_by ◌and◌
-returns c = search rules
+returns-else-code c = search rules

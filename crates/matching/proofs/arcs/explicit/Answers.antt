@@ -1,14 +1,23 @@
 -- `matching::arcs::explicit` meets its contract.
-use mathlib.Core.Path.{refl, ◌∙◌}
+use Rattle.std.proofs.Common.{refl, sym, ◌∙◌, true≢false, rules}
+use borrow.Author.Tests.{eqb-true, eq-eqb, lt-ltb}
 use Rattle.matching.proofs.ArcTestLaws.{explicit-later, explicit-tree, explicit_tested}
 use Rattle.matching.proofs.arcs.explicit.Goals as goal
+use Rattle.matching.proofs.arcs.explicit.Goals.{then-from-to, else-from-to}
 
-pub returns-then-from-to : goal.returns-then-from-to
-returns-then-from-to c = explicit-later _ _ _ _ _ _ _ _ _ _ refl c.if-from-to.true
+pub returns-then-from-i : goal.returns-then-from-i
+returns-then-from-i c =
+    elim c.if-from-to.branch [
+      | then-from-to w ↦ c.if-from-i.true ∙ explicit-later _ _ _ _ _ _ _ _ _ _ refl w.if-from-to.true
+      | else-from-to w ↦ c.if-from-i.true ∙ explicit-tree _ _ _ _ _ _ _ _ _ _ refl _ w.from.ensures (eqb-true _ _ (sym w.value-is ∙ c.if-from-i.true))
+    ]
 
-pub returns-then-wide-i : goal.returns-then-wide-i
-returns-then-wide-i c = explicit-tree _ _ _ _ _ _ _ _ _ _ refl _ c.wide.ensures.0 c.if-wide-i.true
-
-pub returns : goal.returns
-returns c =
-    explicit_tested _ _ _ _ _ _ _ _ _ _ refl _ c.if-from-to.false (λ e. c.if-wide-i.false (c.wide.ensures.0 ∙ e)) c.straight.ensures
+pub returns-else-from-i : goal.returns-else-from-i
+returns-else-from-i c =
+    elim c.if-from-to.branch [
+      | then-from-to w ↦ absurd (true≢false (sym (lt-ltb _ _ w.if-from-to.true) ∙ sym w.value-is ∙ c.if-from-i.false))
+      | else-from-to w ↦
+          explicit_tested _ _ _ _ _ _ _ _ _ _ refl _ w.if-from-to.false
+          (λ e. true≢false (sym (eq-eqb _ _ (w.from.ensures ∙ e)) ∙ sym w.value-is ∙ c.if-from-i.false))
+          (c.follows.ensures (λ q. q) (λ r q h post. search rules))
+    ]

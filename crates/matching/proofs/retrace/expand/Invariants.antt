@@ -1,7 +1,5 @@
 -- The loop's invariant: the links at the first p positions were followed.
-use Prim.Native.Nat.{◌+◌, ◌*◌, ◌-◌, ◌≤◌}
-use mathlib.Core.Path.{◌≡◌}
-use lib.ListN.{length}
+use Rattle.std.proofs.Common.{◌≡◌, ◌+◌, ◌*◌, ◌≤◌, length}
 use Rattle.model.specs.Map.{view}
 use Rattle.orbit.specs.At.{site}
 use Rattle.matching.specs.Retrace.{Longer, Standing, Retracing}
@@ -12,6 +10,3 @@ invariant-loop-p l =
     (l.p ≤ l.k) × (l.tail ≤ l.end) × (length l.store ≡ 16 * l.slots)
     × ((T : Retracing (view l.slots l.table) l.initial.store l.size l.dims l.k l.head l.tail)
     → Standing (site T.at) l.store l.size (4 * l.head + l.p) l.end × Longer l.slots l.initial.store l.store (l.size + l.tail))
-
-abbrev pub decreases-loop-p : goal.decreases-loop-p
-decreases-loop-p l = l.k - l.p

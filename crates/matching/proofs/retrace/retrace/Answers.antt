@@ -1,30 +1,25 @@
 -- `matching::retrace::retrace` meets its contract.
-use mathlib.Core.Path.{◌∙◌}
-use native.Mathlib.Omega.{arith}
+use Rattle.std.proofs.Common.{◌∙◌, arith}
 use Rattle.matching.proofs.RetraceLaws.{retracing, retrace_more, retrace_done, retrace_none}
 use Rattle.matching.proofs.retrace.retrace.Goals as goal
 
-pub expand-end-requires-clause-retracing : goal.expand-end-requires-clause-retracing
-expand-end-requires-clause-retracing c =
+pub expand-requires-clause-retracing : goal.expand-requires-clause-retracing
+expand-requires-clause-retracing c =
     let T = c.requires.retracing in
-    let v = c.loop-head.invariant in
-    retracing T (v.3 T) v.1 c.loop-head-test.true
+    retracing T (c.loop-head.invariant.1 T) c.loop-head-test.true
 
-pub returns-then-end-eq0 : goal.returns-then-end-eq0
-returns-then-end-eq0 c =
-    let v = c.loop-head.invariant in
-    λ T. retrace_none T (retrace_more T (v.3 T) v.1 (c.expand-end.ensures (retracing T (v.3 T) v.1 c.loop-head-test.true))) c.if-end-eq0.true
+pub returns-in_err-end : goal.returns-in_err-end
+returns-in_err-end c =
+    λ T.
+    let D = c.loop-head.invariant.1 T in
+    rw c.from_residual.ensures (retrace_none T (retrace_more T D (c.in_err-end.ensures (retracing T D c.loop-head-test.true))))
 
 pub loop-head-preserved : goal.loop-head-preserved
 loop-head-preserved c =
     let v = c.loop-head.invariant in (
-      omega arith,
-      omega (arith, c.if-end-eq0.false),
-      c.expand-end.auto.store ∙ v.2,
-      λ T. retrace_more T (v.3 T) v.1 (c.expand-end.ensures (retracing T (v.3 T) v.1 c.loop-head-test.true)),
+      c.expand.auto.store ∙ v.0,
+      λ T. retrace_more T (v.1 T) (c.in_ok-end.ensures (retracing T (v.1 T) c.loop-head-test.true)),
     )
 
 pub returns : goal.returns
-returns c =
-    let v = c.loop-head.invariant in
-    λ T. retrace_done T (v.3 T) v.1 (omega (arith, v.0, c.loop-head-test.false))
+returns c = λ T. retrace_done T (c.loop-head.invariant.1 T) (omega arith)

@@ -1,13 +1,34 @@
 -- `numbers::Cursor::number` meets its contract.
+use Prim.Native.Nat.{◌+◌, ◌-◌}
+use mathlib.Core.Path.{◌≡◌, refl}
+use native.Mathlib.Nat.{sub_self, sub-zero, add-zero}
 use native.Mathlib.Omega.{arith}
-use Rattle.numbers.proofs.PlaceLaws.{four-wide, taken-wide}
+use Rattle.base.specs.Digits.{number_at}
+use Rattle.numbers.proofs.PlaceLaws.{taken-more, taken-small}
 use Rattle.numbers.proofs.Cursor.number.Goals as goal
 
-pub returns-then-w-eq2 : goal.returns-then-w-eq2
-returns-then-w-eq2 c = taken-wide _ 2 _ _ _ c.if-w-eq2.true c.two.ensures
+pub loop-i-init : goal.loop-i-init
+unfolding number_at
+loop-i-init g c = rw sub_self (record { value = refl; small = omega arith; next = omega arith })
 
-pub four-requires : goal.four-requires
-four-requires c = omega (arith, four-wide c.requires.width c.if-w-eq2.false)
+pub overflow_mul-value : goal.overflow_mul-value
+overflow_mul-value g c = omega (arith, taken-small _ _ _ _ _ _ c.loop-i-test.true c.requires.width c.loop-i.invariant)
+
+pub overflow_add-value : goal.overflow_add-value
+overflow_add-value g c =
+    let l = c.loop-i in
+    omega (
+      arith,
+      taken-small _ _ _ _ _ _ c.loop-i-test.true c.requires.width l.invariant,
+      c.from.ensures,
+      c.type_inv.b (c.args.self.at + (l.i - 1)),
+    )
+
+pub loop-i-preserved : goal.loop-i-preserved
+loop-i-preserved g c =
+    let l = c.loop-i in
+    let small = c.type_inv.b (c.args.self.at + (l.i - 1)) in
+    taken-more _ _ _ _ _ _ _ c.loop-i-test.true l.auto.i c.from.ensures (omega (arith, c.from.ensures, small)) l.invariant
 
 pub returns : goal.returns
-returns c = taken-wide _ 4 _ _ _ (four-wide c.requires.width c.if-w-eq2.false) c.four.ensures
+returns g c = let end : c.loop-i.i ≡ 0 = omega arith in rw (end, sub-zero, add-zero) at c.loop-i.invariant

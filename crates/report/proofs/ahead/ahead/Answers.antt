@@ -22,13 +22,13 @@ returns-then-tail-lt2 c =
 
 pub returns-then-long-gt-LONGEST_FILE : goal.returns-then-long-gt-LONGEST_FILE
 returns-then-long-gt-LONGEST_FILE c =
-    let long-is : c.two-long.result.value ≡ number_at 2 c.args.tail.now 0 = c.two-long.ensures.value in
-    let over : longest_file < c.two-long.result.value = omega (arith, c.if-long-gt-LONGEST_FILE.true) in
+    let long-is : c.number-long.result.0 ≡ number_at 2 c.args.tail.now 0 = c.number-long.ensures.value in
+    let over : longest_file < c.number-long.result.0 = omega (arith, c.if-long-gt-LONGEST_FILE.true) in
     ahead-long _ c.if-left-eq0.false _ _ _ _ _ (long-is) over _ _ c.refuse-then-long-gt-LONGEST_FILE.ensures
 
 pub returns : goal.returns
 returns c =
-    let long-is : c.two-long.result.value ≡ number_at 2 c.args.tail.now 0 = c.two-long.ensures.value in
+    let long-is : c.number-long.result.0 ≡ number_at 2 c.args.tail.now 0 = c.number-long.ensures.value in
     let two : 2 ≤ length c.args.tail.now = omega (arith, c.if-tail-lt2.false) in
-    let within : c.two-long.result.value ≤ longest_file = omega (arith, c.if-long-gt-LONGEST_FILE.false) in
+    let within : c.number-long.result.0 ≤ longest_file = omega (arith, c.if-long-gt-LONGEST_FILE.false) in
     ahead-file _ c.if-left-eq0.false _ _ _ _ _ (long-is) c.requires.sums_room two within

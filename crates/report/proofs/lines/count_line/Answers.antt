@@ -9,7 +9,7 @@ use Rattle.report.proofs.lines.count_line.Goals as goal
 pub numbers_line-requires : goal.numbers_line-requires
 numbers_line-requires c =
     let six : length c.args.c ≡ 6 = search rules in
-    record { in_bounds = omega (arith, six); values_in_bounds = count_room _ (six) _ _ c.requires }
+    record { not_empty = omega (arith, six); line_in_bounds = count_room _ (six) _ _ c.requires }
 
 pub returns : goal.returns
 returns c =

@@ -9,7 +9,8 @@ pub join-requires : goal.join-requires
 join-requires c = record {
   sized = c.requires.sized;
   holds_slots = c.requires.holds_slots;
-  size_in_bounds = (c.requires.legible.node c.if-code-lt16.true, c.requires.i_bound);
+  inside = c.requires.legible.node c.if-code-lt16.true;
+  dimension = c.requires.dimension;
   turnable = λ l. absurd (omega arith);
 }
 
@@ -17,7 +18,8 @@ pub join-requires-then-code-lt255 : goal.join-requires-then-code-lt255
 join-requires-then-code-lt255 c = record {
   sized = c.requires.sized;
   holds_slots = c.requires.holds_slots;
-  size_in_bounds = (c.requires.holds_slots.inside, c.requires.i_bound);
+  inside = c.requires.holds_slots.inside;
+  dimension = c.requires.dimension;
   turnable = λ l. c.requires.legible.position l c.if-code-lt255.true;
 }
 

@@ -27,9 +27,9 @@ offset_bounds-store-to c = omega (arith, c.place-q.ensures, place-below _ _ _ _ 
 pub bounds-store-to : goal.bounds-store-to
 bounds-store-to c = omega (arith, c.place-q.ensures, place-below _ _ _ _ _ c.requires.turnable c.loop-r-test.true)
 
-pub put_link-requires-clause-x_lt_slots : goal.put_link-requires-clause-x_lt_slots
-put_link-requires-clause-x_lt_slots c =
-    (slot_at c.requires.holds_slots _ _ c.loop-r-test.true c.word-x.ensures, c.requires.size_in_bounds.1)
+pub put_link-requires-clause-link_in_table : goal.put_link-requires-clause-link_in_table
+put_link-requires-clause-link_in_table c =
+    (slot_at c.requires.holds_slots _ _ c.loop-r-test.true c.word-x.ensures, c.requires.dimension)
 
 pub loop-r-preserved : goal.loop-r-preserved
 unfolding dart_at
@@ -37,7 +37,7 @@ loop-r-preserved c =
     let a = c.args in
     let slot = slot_at c.requires.holds_slots _ _ c.loop-r-test.true c.word-x.ensures in
     stage_more c.loop-r.invariant c.loop-r-test.true c.put_link.auto.table
-    (put-at _ _ _ _ _ _ _ (put_view c.loop-r.invariant.sized (Link a.i) c.requires.size_in_bounds.1 _ _ slot c.put_link.ensures)
+    (put-at _ _ _ _ _ _ _ (put_view c.loop-r.invariant.sized (Link a.i) c.requires.dimension _ _ slot c.put_link.ensures)
     c.word-x.ensures (ap (dart_at a.store.now a.to) c.place-q.ensures))
 
 pub returns : goal.returns

@@ -1,5 +1,4 @@
 -- The loop's invariant: the links are written for the first r darts.
-use Prim.Native.Nat.{◌-◌}
 use Rattle.model.specs.Map.{Link, view}
 use Rattle.table.specs.Writes.{set_at, with_field}
 use Rattle.table.proofs.StageLaws.{Stage}
@@ -12,6 +11,3 @@ invariant-loop-r l =
     Stage l.slots (view l.slots) l.initial.table
     (λ k m. with_field m (Link l.i)
     (set_at (m.link l.i) (dart_at l.store l.from k) (dart_at l.store l.to (place_by l.slots l.store l.code k)))) l.size l.r l.table
-
-abbrev pub decreases-loop-r : goal.decreases-loop-r
-decreases-loop-r l = l.size - l.r

@@ -12,14 +12,14 @@ pub follow-requires : goal.follow-requires
 follow-requires c = record {
   sized = c.loop-k.invariant.sized;
   holds_slots = c.requires.rows.at _ (omega arith);
-  legible = rw c.wide.ensures.0 (c.requires.codes.at _ (omega arith));
-  i_bound = omega arith;
+  legible = rw c.from-code.ensures (c.requires.codes.at _ (omega arith));
+  dimension = omega arith;
 }
 
 pub loop-k-preserved : goal.loop-k-preserved
 loop-k-preserved c =
     stage_more c.loop-k.invariant c.loop-k-test.true c.follow.auto.table
-    (followed-at _ _ _ _ _ _ _ _ _ _ c.follow.ensures c.wide.ensures.0)
+    (followed-at _ _ _ _ _ _ _ _ _ _ c.follow.ensures c.from-code.ensures)
 
 pub returns : goal.returns
 unfolding relinked

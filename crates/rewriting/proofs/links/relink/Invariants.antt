@@ -1,5 +1,5 @@
 -- The loop's invariant: the first k arcs are followed.
-use Prim.Native.Nat.{◌*◌, ◌-◌, ◌/◌, ◌%◌}
+use Prim.Native.Nat.{◌*◌, ◌/◌, ◌%◌}
 use lib.ListN.{get_or}
 use Rattle.model.specs.Map.{Link, view}
 use Rattle.table.specs.Writes.{with_field}
@@ -12,6 +12,3 @@ invariant-loop-k l =
     Stage l.slots (view l.slots) l.initial.table
     (λ j m. with_field m (Link (j % 4))
     (followed l.slots l.store l.size l.rows (get_or l.rows (j / 4) 0) (get_or l.codes j 0) (m.link (j % 4)))) (4 * l.c) l.k l.table
-
-abbrev pub decreases-loop-k : goal.decreases-loop-k
-decreases-loop-k l = 4 * l.c - l.k

@@ -1,5 +1,4 @@
 -- The loop's invariant: the first v nodes are cleared where they are deleted.
-use Prim.Native.Nat.{◌-◌}
 use lib.ListN.{get_or}
 use Rattle.model.specs.Map.{view}
 use Rattle.rewriting.specs.Room.{cleared_by}
@@ -8,6 +7,3 @@ use Rattle.rewriting.proofs.room.clear.Given as goal
 
 abbrev pub invariant-loop-v : goal.invariant-loop-v
 invariant-loop-v l = Stage l.slots (view l.slots) l.initial.table (λ k. cleared_by l.store l.size (get_or l.rows k 0) (get_or l.kinds k 0)) l.c l.v l.table
-
-abbrev pub decreases-loop-v : goal.decreases-loop-v
-decreases-loop-v l = l.c - l.v

@@ -10,8 +10,8 @@ use Rattle.rewriting.proofs.room.erase.Goals as goal
 pub loop-r-init : goal.loop-r-init
 loop-r-init c = stage_none c.requires.sized
 
-pub blank-requires-clause-x_lt_slots : goal.blank-requires-clause-x_lt_slots
-blank-requires-clause-x_lt_slots c = slot_at c.requires.holds_slots _ _ c.loop-r-test.true c.word-x.ensures
+pub blank-requires-clause-slot_in_table : goal.blank-requires-clause-slot_in_table
+blank-requires-clause-slot_in_table c = slot_at c.requires.holds_slots _ _ c.loop-r-test.true c.word-x.ensures
 
 pub loop-r-preserved : goal.loop-r-preserved
 unfolding dart_at

@@ -1,5 +1,4 @@
 -- The loop's invariant: the records of the first r darts are zero.
-use Prim.Native.Nat.{◌-◌}
 use Rattle.model.specs.Map.{view}
 use Rattle.table.specs.Writes.{zeroed}
 use Rattle.orbit.specs.Store.{dart_at}
@@ -8,6 +7,3 @@ use Rattle.rewriting.proofs.room.erase.Given as goal
 
 abbrev pub invariant-loop-r : goal.invariant-loop-r
 invariant-loop-r l = Stage l.slots (view l.slots) l.initial.table (λ k. zeroed (dart_at l.store l.base k)) l.size l.r l.table
-
-abbrev pub decreases-loop-r : goal.decreases-loop-r
-decreases-loop-r l = l.size - l.r

@@ -1,11 +1,13 @@
 -- `rewriting::slots::give` meets its contract: the digits stand behind what the phases before have left, and the blocks take them from there.
 use native.Mathlib.Omega.{arith}
+use borrow.Author.Tests.{eqb-true}
+use mathlib.Core.Path.{sym}
 use Rattle.rewriting.proofs.SlotBlockLaws.{none-own, digits-own}
 use Rattle.rewriting.proofs.SlotGiveLaws.{placed_of, apart_of, regiven, blocks_ready, granted-behind, granted, granted-none}
 use Rattle.rewriting.proofs.slots.give.Goals as goal
 
-pub returns-then-many-eq0 : goal.returns-then-many-eq0
-returns-then-many-eq0 c = λ R. granted-none R c.if-many-eq0.true
+pub returns-then-is_empty : goal.returns-then-is_empty
+returns-then-is_empty c = λ R. granted-none R (eqb-true _ _ (sym c.if-is_empty.ensures))
 
 pub row_starts-requires-clause-apart : goal.row_starts-requires-clause-apart
 row_starts-requires-clause-apart c = apart_of c.requires.before_giving

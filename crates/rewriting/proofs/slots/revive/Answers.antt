@@ -9,7 +9,7 @@ use Rattle.rewriting.proofs.slots.revive.Goals as goal
 pub returns : goal.returns
 returns c =
     let s = c.requires.sized in
-    let h = c.requires.y_lt_slots in
+    let h = c.requires.slot in
     let s₁ = sized_same s c.put_state.auto.table in
     let s₂ = sized_same s₁ c.put_link.auto.table in
     revived_of _ _ _ _ _ _ (put_view s State (omega arith) _ _ h c.put_state.ensures)

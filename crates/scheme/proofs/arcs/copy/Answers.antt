@@ -1,17 +1,17 @@
 -- `scheme::arcs::copy` meets its contract.
-use mathlib.Core.Path.{sym}
+use Prim.Native.Nat.{◌+◌, ◌-◌}
+use mathlib.Core.Path.{◌≡◌, ap, ◌∙◌}
+use mathlib.Core.List.{List, ◌++◌}
+use Prim.Native.Nat.{ℕ}
 use native.Mathlib.Omega.{arith}
-use Rattle.base.proofs.FilledLaws.{stored-none, stored-all}
-use Rattle.frame.proofs.PlaceLaws.{taken_at, stored-byte}
+use lib.ListN.{take, drop}
+use Rattle.scheme.proofs.StoredLaws.{stored-front}
 use Rattle.scheme.proofs.arcs.copy.Goals as goal
 
-pub loop-j-init : goal.loop-j-init
-loop-j-init c = (omega arith, omega arith, sym (stored-none _ _ _ _))
-
-pub loop-j-preserved : goal.loop-j-preserved
-loop-j-preserved c =
-    let t = taken_at _ _ _ c.take-b.ensures c.loop-j.invariant.1 in
-    (omega arith, t.1, stored-byte _ _ _ _ c.loop-j.j c.loop-j.invariant.2 (omega arith) t.0)
-
 pub returns : goal.returns
-returns c = stored-all _ _ _ _ _ _ c.loop-j.invariant.2 (omega arith)
+returns c =
+    let a = c.args in
+    let size : a.from.at + a.size - a.from.at ≡ a.size = omega arith in
+    let r = c.requires in
+    ap (λ (t : List ℕ). t ++ drop a.size a.arcs.now) (c.copy_from_slice.ensures.after ∙ ap (λ (m : ℕ). take m (drop a.from.at a.bytes.now)) size)
+    ∙ stored-front a.arcs.now a.bytes.now a.from.at a.size r.0 (omega arith)

@@ -1,10 +1,6 @@
 -- The loop's invariant: the donors of the first s nodes are in the form and are held, and the cursor is at node s.
-use Prim.Native.Nat.{◌-◌, ◌≤◌}
 use Rattle.scheme.specs.Donors.{Donated}
 use Rattle.scheme.proofs.donors.read_donors.Given as goal
 
 abbrev pub invariant-loop-s : goal.invariant-loop-s
-invariant-loop-s l = (l.s ≤ l.nodes) × Donated l.bytes l.s l.next.at l.donors
-
-abbrev pub decreases-loop-s : goal.decreases-loop-s
-decreases-loop-s l = l.nodes - l.s
+invariant-loop-s l = Donated l.bytes l.s l.next.at l.donors

@@ -1,5 +1,5 @@
 -- The loop's invariant: the first p bytes fit, are stored and are marked, and the cursor is past them.
-use Prim.Native.Nat.{◌+◌, ◌-◌, ◌≤◌}
+use Prim.Native.Nat.{◌+◌}
 use mathlib.Core.Path.{◌≡◌}
 use mathlib.Core.Bool.{true}
 use Rattle.base.specs.Below.{all_below}
@@ -11,8 +11,5 @@ use Rattle.scheme.proofs.nodes.read_word.Given as goal
 abbrev pub invariant-loop-p : goal.invariant-loop-p
 invariant-loop-p l =
     let from = l.initial.next.at in
-    (l.p ≤ l.places) × (l.next.at ≡ from + l.p) × (all_below l.p (fits_at l.bytes l.n from) ≡ true)
+    (l.next.at ≡ from + l.p) × (all_below l.p (fits_at l.bytes l.n from) ≡ true)
     × (l.words ≡ stored l.initial.words l.base l.bytes from l.p) × (l.targets ≡ rowed l.initial.targets l.base l.bytes from l.p)
-
-abbrev pub decreases-loop-p : goal.decreases-loop-p
-decreases-loop-p l = l.places - l.p

@@ -1,7 +1,0 @@
--- `table::words::put_tag` meets its contract.
-use Rattle.model.specs.Map.{put}
-use Rattle.table.proofs.words.put_tag.Goals as goal
-
-pub returns : goal.returns
-unfolding put
-returns c = c.put_at.ensures
