@@ -1,11 +1,10 @@
 // A session on an open map: the map is edited at each dart in turn, and then its live and its unused slots are counted.
 ghost use Rattle.std.specs.Prelude.{◌≡◌, ◌+◌, ◌*◌, ◌≤◌, eqb, length};
 ghost use Rattle.base.specs.Below.{count_below};
-ghost use Rattle.model.specs.Map.{view};
 ghost use Rattle.model.specs.Calls.{edit_answer, edit_table, edit_store};
 ghost use Rattle.bench.specs.Bench.{map_bytes, scheme_bytes, table_after};
 ghost use Rattle.numbers.specs.Places.{Put};
-ghost use Rattle.table.specs.Words.{Sized};
+ghost use Rattle.table.specs.Seen.{map_of};
 ghost use Rattle.program.specs.Opening.{MapOpen};
 ghost use Rattle.bench.specs.Input.{Laid};
 ghost use Rattle.bench.specs.Session.{Stands, dart_lines, longest, Wrote};
@@ -14,7 +13,7 @@ use crate::framing::Layout;
 use crate::writer::{dart_line, last_line};
 use model::{Answer, Darts};
 use numbers::Cursor;
-use table::words::state;
+use table::words::Table;
 
 // Edits the map at a dart.
 fn edit(
@@ -66,13 +65,12 @@ fn edits(
 }
 
 // How many slots have the state s.
-fn tally(slots: usize, table: &[u32], s: u32) -> u32
-    requires { Sized slots table.now }
-    ensures { result ≡ count_below slots (λ x. eqb ((view slots table.now).state x) s) }
+fn tally(table: &Table<'_>, s: u32) -> u32
+    ensures { result ≡ count_below table.now.slots (λ x. eqb ((map_of table.now).state x) s) }
 {
     let mut found = 0;
-    for x in 0..slots {
-        if state(slots, table, x) == s {
+    for x in 0..table.slots {
+        if table.state(x) == s {
             found += 1;
         }
     }
@@ -96,8 +94,11 @@ pub fn session(
     ensures { Wrote input.now out.old result out.new }
 {
     let at = edits(input, layout, n, slots, table, store, out);
-    let size = slots as usize;
-    let live = tally(size, table, 1);
-    let unused = tally(size, table, 0);
+    let edited = Table {
+        slots: slots as usize,
+        words: table,
+    };
+    let live = tally(&edited, 1);
+    let unused = tally(&edited, 0);
     last_line(out, at, live, unused)
 }

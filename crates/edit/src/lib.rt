@@ -16,6 +16,7 @@ ghost use Rattle.edit.specs.Apply.{Settling, Applied};
 use conditions::tree::Tree;
 use model::{Answer, Refusal, Reply, Scheme};
 use nodes::of_kind;
+use table::words::Table;
 
 // The new darts and the new links of a match, where the `room` unused slots and those of the deleted darts are enough.
 fn settle(
@@ -74,10 +75,13 @@ pub fn apply(
 {
     orbit::store::unmark(slots, store);
     let k = usize::from(s.places);
-    let size = orbit::walk(slots, table, &s.orbit[..k], store, 0, d);
-    let Some(mut rows) = matching::assign(
+    let seen = Table {
         slots,
-        table,
+        words: table,
+    };
+    let size = orbit::walk(&seen, &s.orbit[..k], store, 0, d);
+    let Some(mut rows) = matching::assign(
+        &seen,
         store,
         size,
         &s.orbit,

@@ -6,20 +6,20 @@ ghost use Rattle.model.specs.Site.{site_at};
 ghost use Rattle.model.specs.Calls.{is_dart};
 ghost use Rattle.model.specs.Accepted.{Accepted};
 ghost use Rattle.table.specs.Words.{Sized};
+ghost use Rattle.table.specs.Seen.{map_of};
 ghost use Rattle.conditions.specs.Tree.{TreeOf};
 ghost use Rattle.edit.specs.Apply.{AppliedAt};
 
 use crate::apply;
 use conditions::tree::Tree;
 use model::{Answer, Refusal, Scheme};
-use table::words::state;
+use table::words::Table;
 
 // x is a live slot.
-fn is_dart(slots: usize, table: &[u32], x: usize) -> bool
-    requires { Sized slots table.now }
-    ensures { result ≡ is_dart (view slots table.now) x }
+fn is_dart(table: &Table<'_>, x: usize) -> bool
+    ensures { result ≡ is_dart (map_of table.now) x }
 {
-    x < slots && state(slots, table, x) == 1
+    x < table.slots && table.state(x) == 1
 }
 
 // Refusals 6 to 10, and the edit.
@@ -44,10 +44,14 @@ pub fn apply_at(
     if u32::from(s.n) != n {
         return Err(Refusal::OtherDimension);
     }
-    let Some(live) = table::survey(n, slots, table) else {
+    let seen = Table {
+        slots,
+        words: table,
+    };
+    let Some(live) = table::survey(n, &seen) else {
         return Err(Refusal::BadTable);
     };
-    if !is_dart(slots, table, dart) || !is_dart(slots, table, other) {
+    if !is_dart(&seen, dart) || !is_dart(&seen, other) {
         return Err(Refusal::NoDart);
     }
     apply(slots, table, store, s, t, slots - live, dart, other)

@@ -7,10 +7,10 @@ mod records;
 mod sections;
 
 ghost use Rattle.std.specs.Prelude.{◌≡◌, ◌⊎◌, ◌++◌, ◌^◌, ◌≤◌, ◌<◌, length, drop};
-ghost use Rattle.model.specs.Map.{view};
 ghost use Rattle.model.specs.File.{live_darts, file, file_form};
 ghost use Rattle.model.specs.Calls.{loaded};
 ghost use Rattle.table.specs.Words.{Sized};
+ghost use Rattle.table.specs.Seen.{map_of};
 ghost use Rattle.file.specs.Form.{file_size};
 
 use base::clear;
@@ -18,6 +18,7 @@ use form::{ascending, frame};
 use places::size_in;
 use records::fill;
 use sections::{Part, head, section};
+use table::words::Table;
 
 // How many bytes N, a count, a slot and a link have in a file.
 const WIDTH: usize = 2;
@@ -48,16 +49,15 @@ pub fn load(n: u32, slots: usize, table: &mut [u32], bytes: &[u8]) -> bool
 }
 
 // The file of a map with `live` live darts, at the start of `out`.
-pub fn write(n: u32, slots: usize, table: &[u32], live: usize, out: &mut [u8])
+pub fn write(n: u32, table: &Table<'_>, live: usize, out: &mut [u8])
     requires dimension { (n ≡ 2) ⊎ (n ≡ 3) }
-    requires sized { Sized slots table.now }
-    requires live_value { live ≡ live_darts (view slots table.now) }
-    requires file_in_bounds { length (file n (view slots table.now)) ≤ length out.old }
-    ensures { out.new ≡ file n (view slots table.now)
-        ++ drop (length (file n (view slots table.now))) out.old }
+    requires live_value { live ≡ live_darts (map_of table.now) }
+    requires file_in_bounds { length (file n (map_of table.now)) ≤ length out.old }
+    ensures { out.new ≡ file n (map_of table.now)
+        ++ drop (length (file n (map_of table.now))) out.old }
 {
-    let a = head::<WIDTH>(n, slots, out);
-    let b = section::<WIDTH>(Part::Slots, n, slots, table, live, out, a);
-    let c = section::<WIDTH>(Part::Tags, n, slots, table, live, out, b);
-    let _end = section::<WIDTH>(Part::Links, n, slots, table, live, out, c);
+    let a = head::<WIDTH>(n, table.slots, out);
+    let b = section::<WIDTH>(Part::Slots, n, table, live, out, a);
+    let c = section::<WIDTH>(Part::Tags, n, table, live, out, b);
+    let _end = section::<WIDTH>(Part::Links, n, table, live, out, c);
 }

@@ -1,13 +1,14 @@
 // A call behind the test of its sizes: an edit's refusals 2 to 5, then the edit at its darts; a count's refusals 7 and 12, then the count.
 ghost use Rattle.std.specs.Prelude.{◌≡◌, ◌⊎◌, ◌*◌, true, false, MatchResult, length};
-ghost use Rattle.model.specs.Map.{view};
 ghost use Rattle.model.specs.Calls.{first_dart, second_dart};
 ghost use Rattle.table.specs.Words.{Sized};
+ghost use Rattle.table.specs.Seen.{map_of};
 ghost use Rattle.kernel.specs.Stages.{many_by, Staged, CountStaged};
 
 use edit::site::apply_at;
 use model::{Answer, Darts, Refusal, Reply};
 use scheme::Reading;
+use table::words::Table;
 
 // The dart of the first hook.
 fn first(darts: Darts) -> usize
@@ -77,25 +78,18 @@ pub(crate) fn staged(
 }
 
 // Refusals 7 and 12, and the count.
-pub(crate) fn counted(
-    n: u32,
-    slots: usize,
-    table: &[u32],
-    store: &mut [u32],
-    out: &mut [u32],
-) -> Answer
+pub(crate) fn counted(n: u32, table: &Table<'_>, store: &mut [u32], out: &mut [u32]) -> Answer
     requires dimension { (n ≡ 2) ⊎ (n ≡ 3) }
-    requires sized { Sized slots table.now }
-    requires store_len { length store.old ≡ 16 * slots }
-    ensures { CountStaged n (view slots table.now) out.old result out.new }
+    requires store_len { length store.old ≡ 16 * table.now.slots }
+    ensures { CountStaged n (map_of table.now) out.old result out.new }
 {
-    let Some(live) = table::survey(n, slots, table) else {
+    let Some(live) = table::survey(n, table) else {
         return Err(Refusal::BadTable);
     };
     if out.len() < 6 {
         return Err(Refusal::ShortOutput);
     }
-    let numbers = count::count(n, slots, table, store, live);
+    let numbers = count::count(n, table, store, live);
     out[..6].copy_from_slice(&numbers);
     Ok(Reply::Done)
 }

@@ -1,16 +1,14 @@
 // The tests of the left arcs over the whole orbit, save those of the trees.
 ghost use Rattle.std.specs.Prelude.{◌≡◌, ℕ, ◌*◌, ◌<◌, ◌≤◌, get_or};
-ghost use Rattle.model.specs.Map.{view};
-ghost use Rattle.table.specs.Words.{Sized};
+ghost use Rattle.table.specs.Seen.{map_of};
 ghost use Rattle.matching.specs.ArcTests.{Testable, follows, explicit_test, arc_test, arcs_test, Firm};
 
 use orbit::store::word;
-use table::words::link;
+use table::words::Table;
 
 // The i-links lead from the row at `from` to the row at `base`: from the dart at each place r of the orbit to the one at place to(r).
 fn follows<F: Fn(usize) -> usize>(
-    slots: usize,
-    table: &[u32],
+    table: &Table<'_>,
     store: &[u32],
     size: usize,
     i: usize,
@@ -18,16 +16,15 @@ fn follows<F: Fn(usize) -> usize>(
     base: usize,
     to: F,
 ) -> bool
-    requires sized { Sized slots table.now }
-    requires testable { Testable slots store.now size from base }
+    requires testable { Testable table.now.slots store.now size from base }
     requires dimension { i ≤ 3 }
     requires callable { (r : ℕ) → r < size → F.pre to r }
     requires place { (r q : ℕ) → r < size → F.post to r q → q < size }
     ensures { (next : ℕ → ℕ) → ((r q : ℕ) → r < size → F.post to r q → q ≡ next r)
-        → result ≡ follows ((view slots table.now).link i) store.now size from base next }
+        → result ≡ follows ((map_of table.now).link i) store.now size from base next }
 {
     for r in 0..size {
-        if link(slots, table, i, word(store, from + r)) != word(store, base + to(r)) {
+        if table.link(i, word(store, from + r)) != word(store, base + to(r)) {
             return false;
         }
     }
@@ -37,8 +34,7 @@ fn follows<F: Fn(usize) -> usize>(
 // Tests the explicit arc of entry j at dimension i, from the row at `from` to that of node t. Each arc is met twice, once from each end: it is tested
 // only from the end whose row was made later. The arc along which the row was made needs no test, for it holds by construction.
 fn explicit(
-    slots: usize,
-    table: &[u32],
+    table: &Table<'_>,
     store: &[u32],
     size: usize,
     dims: &[u8; 16],
@@ -48,21 +44,19 @@ fn explicit(
     from: usize,
     t: usize,
 ) -> bool
-    requires sized { Sized slots table.now }
-    requires testable { Testable slots store.now size from (get_or rows.now t 0) }
+    requires testable { Testable table.now.slots store.now size from (get_or rows.now t 0) }
     requires entry { j < 16 }
     requires dimension { i ≤ 3 }
     requires target { t < 16 }
-    ensures { result ≡ explicit_test (view slots table.now) store.now size dims.now rows.now j i from t }
+    ensures { result ≡ explicit_test (map_of table.now) store.now size dims.now rows.now j i from t }
 {
     let to = rows[t];
-    from < to || usize::from(dims[j]) == i || follows(slots, table, store, size, i, from, to, |r| r)
+    from < to || usize::from(dims[j]) == i || follows(table, store, size, i, from, to, |r| r)
 }
 
 // The arc of entry j at dimension i, if it has one.
 fn arc(
-    slots: usize,
-    table: &[u32],
+    table: &Table<'_>,
     store: &[u32],
     size: usize,
     nodes: &[u8; 16],
@@ -74,11 +68,10 @@ fn arc(
     j: usize,
     i: usize,
 ) -> bool
-    requires sized { Sized slots table.now }
-    requires firm { Firm slots store.now size nodes.now codes.now rows.now count }
+    requires firm { Firm table.now.slots store.now size nodes.now codes.now rows.now count }
     requires entry { j < count }
     requires dimension { i < 4 }
-    ensures { result ≡ arc_test (view slots table.now) store.now size nodes.now dims.now roots
+    ensures { result ≡ arc_test (map_of table.now) store.now size nodes.now dims.now roots
         codes.now rows.now j i }
 {
     let v = usize::from(nodes[j]);
@@ -88,7 +81,7 @@ fn arc(
     }
     let from = rows[v];
     if code < 16 {
-        return explicit(slots, table, store, size, dims, rows, j, i, from, code);
+        return explicit(table, store, size, dims, rows, j, i, from, code);
     }
     let of_hook = j < roots;
     if of_hook {
@@ -96,21 +89,19 @@ fn arc(
     }
     let position = code - 16;
     follows(
-        slots,
         table,
         store,
         size,
         i,
         from,
         from,
-        |r| word(store, 4 * slots + 4 * r + position),
+        |r| word(store, 4 * table.slots + 4 * r + position),
     )
 }
 
 // Every arc of the entries.
 pub(crate) fn arcs(
-    slots: usize,
-    table: &[u32],
+    table: &Table<'_>,
     store: &[u32],
     size: usize,
     nodes: &[u8; 16],
@@ -120,14 +111,12 @@ pub(crate) fn arcs(
     codes: &[u8; 64],
     rows: &[usize; 16],
 ) -> bool
-    requires sized { Sized slots table.now }
-    requires firm { Firm slots store.now size nodes.now codes.now rows.now count }
-    ensures { result ≡ arcs_test (view slots table.now) store.now size nodes.now dims.now roots
+    requires firm { Firm table.now.slots store.now size nodes.now codes.now rows.now count }
+    ensures { result ≡ arcs_test (map_of table.now) store.now size nodes.now dims.now roots
         codes.now rows.now (4 * count) }
 {
     (0..4 * count).all(|k| {
         arc(
-            slots,
             table,
             store,
             size,

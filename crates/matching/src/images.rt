@@ -1,37 +1,35 @@
 // The darts of the left nodes: a row of places for each, along the trees of left arcs.
 ghost use Rattle.std.specs.Prelude.{◌≡◌, ◌+◌, ◌*◌, ◌-◌, ◌<◌, ◌≤◌, length, get_or, set, is_some};
-ghost use Rattle.model.specs.Map.{view, max_slots};
-ghost use Rattle.table.specs.Words.{Sized};
+ghost use Rattle.model.specs.Map.{max_slots};
+ghost use Rattle.table.specs.Seen.{map_of};
 ghost use Rattle.orbit.specs.Store.{Taken};
 ghost use Rattle.matching.specs.Images.{BeforeMatching, RowLinked, RowMade, RowsMade};
 
 use orbit::store::{push, word};
-use table::words::link;
+use table::words::Table;
 
 // Makes a row from the place `end` on: the darts to which the i-links of the row at `from` lead. It answers None where a dart has a place already.
 fn row(
-    slots: usize,
-    table: &[u32],
+    table: &Table<'_>,
     store: &mut [u32],
     i: usize,
     from: usize,
     end: usize,
     size: usize,
 ) -> Option<()>
-    requires sized { Sized slots table.now }
-    requires taken { Taken slots store.old end }
+    requires taken { Taken table.now.slots store.old end }
     requires dimension { i ≤ 3 }
-    requires few_places { size ≤ slots }
-    requires row_before { (slots ≤ from) × (from + size ≤ slots + end) }
-    requires row_linked { RowLinked slots ((view slots table.now).link i) store.old from size }
-    ensures { RowMade slots ((view slots table.now).link i) from store.old store.new end size (is_some result) }
+    requires few_places { size ≤ table.now.slots }
+    requires row_before { (table.now.slots ≤ from) × (from + size ≤ table.now.slots + end) }
+    requires row_linked { RowLinked table.now.slots ((map_of table.now).link i) store.old from size }
+    ensures { RowMade table.now.slots ((map_of table.now).link i) from store.old store.new end size (is_some result) }
 {
     for r in 0..size {
-        let y = link(slots, table, i, word(store, from + r));
+        let y = table.link(i, word(store, from + r));
         if word(store, y) != 0 {
             return None;
         }
-        push(slots, store, end + r, y);
+        push(table.slots, store, end + r, y);
     }
     Some(())
 }
@@ -50,8 +48,7 @@ fn begin(slots: usize, size: usize, nodes: &[u8; 16], roots: usize, rows: &mut [
 // one dart.
 // The array is lent, since handing it on costs a small edit up to 6% of its instructions.
 pub(crate) fn rows(
-    slots: usize,
-    table: &[u32],
+    table: &Table<'_>,
     store: &mut [u32],
     size: usize,
     nodes: &[u8; 16],
@@ -61,17 +58,17 @@ pub(crate) fn rows(
     count: usize,
     rows: &mut [usize; 16],
 ) -> Option<()>
-    requires sized { Sized slots table.now }
     requires rows_len { length rows.old ≡ 16 }
-    requires before_matching { BeforeMatching (view slots table.now) store.old size nodes.now parents.now dims.now roots count }
-    ensures { RowsMade (view slots table.now) nodes.now parents.now dims.now roots
+    requires before_matching { BeforeMatching (map_of table.now) store.old size nodes.now parents.now dims.now roots count }
+    ensures { RowsMade (map_of table.now) nodes.now parents.now dims.now roots
         store.old store.new rows.new size count (is_some result) }
 {
+    let slots = table.slots;
     begin(slots, size, nodes, roots, rows);
     let mut end = roots * size;
     for k in roots..count {
         let from = rows[usize::from(parents[k])];
-        row(slots, table, store, usize::from(dims[k]), from, end, size)?;
+        row(table, store, usize::from(dims[k]), from, end, size)?;
         rows[usize::from(nodes[k])] = slots + end;
         end += size;
     }

@@ -2,46 +2,44 @@
 ghost use Rattle.std.specs.Prelude.{◌≡◌, ◌+◌, ◌*◌, ◌≤◌, length};
 ghost use Rattle.model.specs.Map.{view};
 ghost use Rattle.table.specs.Words.{Sized};
+ghost use Rattle.table.specs.Seen.{map_of};
 ghost use Rattle.orbit.specs.Store.{dart_at};
 ghost use Rattle.rewriting.specs.Darts.{HoldsSlots};
 ghost use Rattle.rewriting.specs.Room.{erased, cleared, DeletedRows, Noted, Donating, Gathered, BeforeRoom, Roomy};
 
 use orbit::store::word;
-use table::words::{blank, tag};
+use table::words::{Table, blank};
 
 // The tags of the darts of one node, in the store from `to` on.
-fn note(slots: usize, table: &[u32], store: &mut [u32], size: usize, from: usize, to: usize)
-    requires sized { Sized slots table.now }
-    requires holds_slots { HoldsSlots slots store.old from size }
+fn note(table: &Table<'_>, store: &mut [u32], size: usize, from: usize, to: usize)
+    requires holds_slots { HoldsSlots table.now.slots store.old from size }
     requires row_before { from + size ≤ to }
     requires inside { to + size ≤ length store.old }
-    ensures { Noted (view slots table.now).tag store.old from to size store.new }
+    ensures { Noted (map_of table.now).tag store.old from to size store.new }
 {
     for r in 0..size {
         let x = word(store, from + r);
-        store[to + r] = tag(slots, table, x);
+        store[to + r] = table.tag(x);
     }
 }
 
 // The tags of the darts of the donors of the added nodes, where the darts of those nodes will stand.
 fn gather(
-    slots: usize,
-    table: &[u32],
+    table: &Table<'_>,
     store: &mut [u32],
     size: usize,
     added: &[u8],
     donors: &[u8; 16],
     rows: &[usize; 16],
 )
-    requires sized { Sized slots table.now }
-    requires donating { Donating slots store.old size added.now (length added.now) donors.now rows.now }
-    ensures { Gathered slots (view slots table.now).tag store.old size added.now (length added.now)
+    requires donating { Donating table.now.slots store.old size added.now (length added.now) donors.now rows.now }
+    ensures { Gathered table.now.slots (map_of table.now).tag store.old size added.now (length added.now)
         donors.now rows.now store.new }
 {
     for (a, &node) in added.iter().enumerate() {
         let node = usize::from(node);
         let donor = usize::from(donors[node]);
-        note(slots, table, store, size, rows[donor], 2 * slots + a * size);
+        note(table, store, size, rows[donor], 2 * table.slots + a * size);
     }
 }
 
@@ -98,6 +96,16 @@ pub fn prepare(
         kinds.now c rows.now)
         → Roomy R.at store.old size rows.now (view slots table.new) store.new }
 {
-    gather(slots, table, store, size, added, donors, rows);
+    gather(
+        &Table {
+            slots,
+            words: table,
+        },
+        store,
+        size,
+        added,
+        donors,
+        rows,
+    );
     clear(slots, table, store, size, kinds, c, rows);
 }

@@ -4,29 +4,29 @@ ghost use Rattle.std.specs.Prelude.{◌≡◌, ℕ, ◌+◌, ◌*◌, ◌<◌, �
 ghost use Rattle.base.specs.Below.{count_below};
 ghost use Rattle.model.specs.Map.{view, max_slots};
 ghost use Rattle.table.specs.Words.{Sized};
+ghost use Rattle.table.specs.Seen.{map_of};
 ghost use Rattle.orbit.specs.At.{site};
 ghost use Rattle.rewriting.specs.Slots.{SlotLeft, Lowest, revived, Apart, RowsBegin, Turn, Granting};
 ghost use Rattle.rewriting.specs.Slots.{PlacesMarked, block_count, digit_words, NoDigits, Digits, Block, BeforeBlocks, BeforeGiving, Granted};
 
 use orbit::store::{keep, word};
-use table::words::{put_link, put_state, put_tag, state};
+use table::words::{Table, put_link, put_state, put_tag};
 
 // The lowest unused slot from `from` on. Four slots a turn: in a full table this scan is most of what an added dart costs.
-fn lowest(slots: usize, table: &[u32], from: usize) -> usize
-    requires sized { Sized slots table.now }
-    requires slot_left { SlotLeft slots (view slots table.now).state from }
-    ensures { Lowest slots (view slots table.now).state from result }
+fn lowest(table: &Table<'_>, from: usize) -> usize
+    requires slot_left { SlotLeft table.now.slots (map_of table.now).state from }
+    ensures { Lowest table.now.slots (map_of table.now).state from result }
 {
     let mut y = from;
     // no `for`, since the slot that ends it is found in it
-    while state(slots, table, y) != 0 {
-        if state(slots, table, y + 1) == 0 {
+    while table.state(y) != 0 {
+        if table.state(y + 1) == 0 {
             return y + 1;
         }
-        if state(slots, table, y + 2) == 0 {
+        if table.state(y + 2) == 0 {
             return y + 2;
         }
-        if state(slots, table, y + 3) == 0 {
+        if table.state(y + 3) == 0 {
             return y + 3;
         }
         y += 4;
@@ -65,7 +65,13 @@ fn turn(
     let mut from = free;
     let mut i = 2 * slots + r;
     for _ in 0..many {
-        let y = lowest(slots, table, from);
+        let y = lowest(
+            &Table {
+                slots,
+                words: table,
+            },
+            from,
+        );
         revive(slots, table, y, store[i]);
         keep(store, i, y);
         from = y + 1;

@@ -1,6 +1,7 @@
-// The words of a table, one by one and by name: the layout of records in code.
+// The words of a table, one by one and by name: the layout of records in code. A table that is read is lent as a `Table`. One that is written is lent
+// as its words, and goes with the number of its slots: a struct with a `&mut` in it would have to promise, at each call, that it is still the same.
 ghost use Rattle.std.specs.Prelude.{◌≡◌, ◌+◌, ◌*◌, ◌<◌, ◌≤◌, get_or, set};
-ghost use Rattle.model.specs.Map.{State, Link, Tag, record_size, table_size, put, view};
+ghost use Rattle.model.specs.Map.{State, Link, Tag, record_size, table_size, put};
 ghost use Rattle.table.specs.Words.{Sized, blanked};
 
 // How many words a record has, and which of them are the state, the first of the links, and the tag.
@@ -19,13 +20,57 @@ pub fn size(slots: u32) -> usize
     RECORD * slots as usize
 }
 
-// Word c of the record of slot x.
-fn at(slots: usize, table: &[u32], c: usize, x: usize) -> u32
-    requires sized { Sized slots table.now }
-    requires word_in_table { (x < slots) × (c < record_size) }
-    ensures { result ≡ get_or table.now (record_size * x + c) 0 }
-{
-    table[RECORD * x + c]
+// A table that is lent to be read: how many slots it has, and its words.
+#[derive(Clone, Copy)]
+pub struct Table<'a> {
+    pub slots: usize,
+    pub words: &'a [u32],
+    ghost sized: { Sized slots words.now },
+}
+
+impl Table<'_> {
+    ghost use Rattle.table.specs.Seen.{map_of};
+
+    // Word c of the record of slot x.
+    fn at(&self, c: usize, x: usize) -> u32
+        requires { (x < self.now.slots) × (c < record_size) }
+        ensures { result ≡ get_or self.now.words.now (record_size * x + c) 0 }
+    {
+        self.words[RECORD * x + c]
+    }
+
+    #[tactic(auto, unfolding(model::specs::Map::field_at))]
+    pub fn state(&self, x: usize) -> u32
+        requires { x < self.now.slots }
+        ensures { result ≡ (map_of self.now).state x }
+    {
+        self.at(STATE, x)
+    }
+
+    // αi(x), as the table's word.
+    #[tactic(auto, unfolding(model::specs::Map::field_at))]
+    pub fn word(&self, i: usize, x: usize) -> u32
+        requires { (x < self.now.slots) × (i ≤ 3) }
+        ensures { result ≡ (map_of self.now).link i x }
+    {
+        self.at(LINKS + i, x)
+    }
+
+    // αi(x), as a slot.
+    pub fn link(&self, i: usize, x: usize) -> usize
+        requires { (x < self.now.slots) × (i ≤ 3) }
+        ensures { result ≡ (map_of self.now).link i x }
+    {
+        self.word(i, x) as usize
+    }
+
+    #[tactic(auto, unfolding(model::specs::Map::field_at))]
+    pub fn tag(&self, x: usize) -> u32
+        requires { x < self.now.slots }
+        ensures { result ≡ (map_of self.now).tag x }
+    {
+        self.at(TAG, x)
+    }
 }
 
 // Sets word c of the record of slot x to v.
@@ -35,43 +80,6 @@ fn put_at(slots: usize, table: &mut [u32], c: usize, x: usize, v: u32)
     ensures { table.new ≡ set table.old (record_size * x + c) v }
 {
     table[RECORD * x + c] = v;
-}
-
-#[tactic(auto, unfolding(model::specs::Map::field_at))]
-pub fn state(slots: usize, table: &[u32], x: usize) -> u32
-    requires sized { Sized slots table.now }
-    requires slot_in_table { x < slots }
-    ensures { result ≡ (view slots table.now).state x }
-{
-    at(slots, table, STATE, x)
-}
-
-// αi(x), as the table's word.
-#[tactic(auto, unfolding(model::specs::Map::field_at))]
-pub fn word(slots: usize, table: &[u32], i: usize, x: usize) -> u32
-    requires sized { Sized slots table.now }
-    requires link_in_table { (x < slots) × (i ≤ 3) }
-    ensures { result ≡ (view slots table.now).link i x }
-{
-    at(slots, table, LINKS + i, x)
-}
-
-// αi(x), as a slot.
-pub fn link(slots: usize, table: &[u32], i: usize, x: usize) -> usize
-    requires sized { Sized slots table.now }
-    requires link_in_table { (x < slots) × (i ≤ 3) }
-    ensures { result ≡ (view slots table.now).link i x }
-{
-    word(slots, table, i, x) as usize
-}
-
-#[tactic(auto, unfolding(model::specs::Map::field_at))]
-pub fn tag(slots: usize, table: &[u32], x: usize) -> u32
-    requires sized { Sized slots table.now }
-    requires slot_in_table { x < slots }
-    ensures { result ≡ (view slots table.now).tag x }
-{
-    at(slots, table, TAG, x)
 }
 
 #[tactic(auto, unfolding(model::specs::Map::put))]

@@ -4,15 +4,16 @@ use mathlib.Core.Logic.{⊎_elim}
 use native.Mathlib.Omega.{arith}
 use Rattle.base.specs.Lists.{list, list_from}
 use Rattle.base.proofs.BelowLaws.{count_le}
-use Rattle.model.specs.Map.{view, live}
+use Rattle.model.specs.Map.{live}
 use Rattle.model.specs.Count.{all_but, all}
+use Rattle.table.specs.Seen.{map_of}
 use Rattle.count.proofs.CellKindLaws.{listed_cells, counts_are, volumes-none, volumes-some}
 use Rattle.count.proofs.count.Goals as goal
 
 pub overflow_cast-darts : goal.overflow_cast-darts
 overflow_cast-darts c =
-    let a = c.args in
-    omega (arith, c.requires.darts_value, c.requires.sized.few, count_le a.slots (live (view a.slots a.table.now)))
+    let t = c.args.table.now in
+    omega (arith, c.requires.darts_value, t.sized.few, count_le t.slots (live (map_of t)))
 
 pub returns-then-n-eq2 : goal.returns-then-n-eq2
 unfolding list list_from all_but

@@ -14,17 +14,16 @@ walk-size-requires c =
     let d = c.requires.sound.dart in
     let few : c.args.s.now.places ≤ length c.args.s.now.orbit = omega arith in
     record {
-      sized = c.requires.sized;
       before_walking = rw c.from-k.ensures (lent-ready c.args.s.now.orbit _ few (walk-ready here));
       live_dart = (d.slot, d.alive);
       begun = rw c.unmark.ensures (blank-begun _ _ _ _ _ (unmarked-blank _ _ c.requires.store_len) d.slot);
     }
 
-pub assign-requires-clause-posed : goal.assign-requires-clause-posed
-assign-requires-clause-posed c =
+pub assign-requires : goal.assign-requires
+assign-requires c =
     let here : At (view c.args.slots c.args.table.now) = at-site c.requires.sized.few c.requires.sound in
     let w = walking here c.from-k.ensures (lent-walked c.args.s.now.orbit _ (omega arith) (c.walk-size.ensures.walked refl)) c.walk-size.ensures.orbit_added.taken in
-    match-ready here w c.requires.tree_of c.from-k.ensures
+    record { posed = match-ready here w c.requires.tree_of c.from-k.ensures }
 
 pub returns-in_default : goal.returns-in_default
 returns-in_default c =

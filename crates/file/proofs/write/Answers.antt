@@ -2,8 +2,9 @@
 use Prim.Native.Nat.{ℕ}
 use mathlib.Core.List.{List, ◌++◌}
 use native.Mathlib.Omega.{arith}
-use Rattle.model.specs.Map.{Map, view}
+use Rattle.model.specs.Map.{Map}
 use Rattle.model.specs.File.{width}
+use Rattle.table.specs.Seen.{map_of}
 use Rattle.numbers.specs.Places.{Put}
 use Rattle.file.specs.Sections.{head_bytes, section_bytes}
 use Rattle.file.specs.declared.sections.Part.TheVariants.{Slots, Tags, Links}
@@ -24,7 +25,7 @@ module _ (n N : ℕ) (m : Map) (l : List ℕ) where
 
 pub head-a-requires-clause-head_in_bounds : goal.head-a-requires-clause-head_in_bounds
 head-a-requires-clause-head_in_bounds c =
-    (c.requires.sized.few, omega (arith, c.requires.file_in_bounds, length_in width c.args.n (view c.args.slots c.args.table.now)))
+    (c.args.table.now.sized.few, omega (arith, c.requires.file_in_bounds, length_in width c.args.n (map_of c.args.table.now)))
 
 pub section-b-requires-clause-section_in_bounds : goal.section-b-requires-clause-section_in_bounds
 unfolding file_before

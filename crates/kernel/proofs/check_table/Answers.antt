@@ -10,11 +10,16 @@ returns-in_err-check_sizes c =
     let p = err_from_is_err_and c.from_residual.result c.from_residual.ensures.1 in
     rw (p.1, p.2, e.0) (is_1 _ _ _ e.1)
 
+pub invariant_of-lent : goal.invariant_of-lent
+invariant_of-lent c =
+    let a = c.args in
+    record { sized = (sizes-read a.n a.slots a.table.now c.in_ok-check_sizes.ensures).1 }
+
 pub survey-requires : goal.survey-requires
 survey-requires c =
     let a = c.args in
     let asked = sizes-read a.n a.slots a.table.now c.in_ok-check_sizes.ensures in
-    record { dimension = asked.0; sized = asked.1 }
+    record { dimension = asked.0 }
 
 pub returns-in-None : goal.returns-in-None
 returns-in-None c = is_7 _ _ _ c.in_ok-check_sizes.ensures (survey_broken _ _ _ c.survey.ensures c.in-None.is)

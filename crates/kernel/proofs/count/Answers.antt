@@ -13,11 +13,16 @@ returns-in_err-check_store c =
     let p = err_from_is_err_and c.from_residual.result c.from_residual.ensures.1 in
     rw (p.1, p.2, e.0) (count_unfit _ _ _ _ _ e.1)
 
+pub invariant_of-lent : goal.invariant_of-lent
+invariant_of-lent c =
+    let a = c.args in
+    record { sized = (stored-read a.n a.slots a.table.now a.store.now c.in_ok-check_store.ensures).1.0 }
+
 pub counted-counted-requires : goal.counted-counted-requires
 counted-counted-requires c =
     let a = c.args in
     let asked = stored-read a.n a.slots a.table.now a.store.now c.in_ok-check_store.ensures in
-    record { dimension = asked.0; sized = asked.1.0; store_len = asked.1.1 }
+    record { dimension = asked.0; store_len = asked.1.1 }
 
 pub returns : goal.returns
 returns c =

@@ -12,11 +12,16 @@ returns-in_err-check_sizes c =
     let p = err_from_is_err_and c.from_residual.result c.from_residual.ensures.1 in
     rw (p.1, p.2, e.0) (write_1 _ _ _ _ e.1)
 
+pub invariant_of-lent : goal.invariant_of-lent
+invariant_of-lent c =
+    let a = c.args in
+    record { sized = (sizes-read a.n a.slots a.table.now c.in_ok-check_sizes.ensures).1 }
+
 pub survey-requires : goal.survey-requires
 survey-requires c =
     let a = c.args in
     let asked = sizes-read a.n a.slots a.table.now c.in_ok-check_sizes.ensures in
-    record { dimension = asked.0; sized = asked.1 }
+    record { dimension = asked.0 }
 
 pub size-bytes-requires : goal.size-bytes-requires
 size-bytes-requires c =
@@ -36,7 +41,6 @@ write-requires c =
     let live = (survey_live _ _ _ c.survey.ensures _ c.in-Some.is).1 in
     let asked = sizes-read a.n a.slots a.table.now s in record {
       dimension = asked.0;
-      sized = asked.1;
       live_value = write-live a.n a.slots a.table.now a.out.now s _ live;
       file_in_bounds = write-fits a.n a.slots a.table.now a.out.now s _ live _ c.size-bytes.ensures.0 c.if-out-bytes.false;
     }

@@ -14,10 +14,10 @@ returns-in_err-rows c = rw c.from_residual-in_err-rows.ensures record {
   at = λ p. unmatched (c.in_err-rows.ensures.none refl (ready p c.in_ok-hang.ensures)) (c.rows.auto.store ∙ c.hang.auto.store);
 }
 
-pub arcs-requires-clause-firm : goal.arcs-requires-clause-firm
-arcs-requires-clause-firm c =
+pub arcs-requires : goal.arcs-requires
+arcs-requires c =
     let p = c.requires.posed in
-    firm (ready p c.in_ok-hang.ensures) (c.in_ok-rows.ensures.done refl) p.coded
+    record { firm = firm (ready p c.in_ok-hang.ensures) (c.in_ok-rows.ensures.done refl) p.coded }
 
 pub returns : goal.returns
 returns c = rw c.then_some.ensures record { at = λ p. matched-at p c.in_ok-hang.ensures (c.in_ok-rows.ensures.done refl) _ c.arcs.ensures }

@@ -5,7 +5,7 @@ use borrow.Author.Tests.{le-ltb}
 use Rattle.table.proofs.SlotLaws.{no_link}
 use Rattle.table.proofs.dart.Goals as goal
 
-pub returns-else-link-slots : goal.returns-else-link-slots
-returns-else-link-slots c =
-    let outside = c.if-link-slots.false in
+pub returns-else-link-table : goal.returns-else-link-table
+returns-else-link-table c =
+    let outside = c.if-link-table.false in
     le-ltb _ _ outside ∙ no_link _ _ _ 3 _ (omega arith) c.link.ensures outside

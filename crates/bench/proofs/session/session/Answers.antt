@@ -17,18 +17,13 @@ edits-at-requires c =
       lines_in_bounds = edits-room _ _ c.args.out.now c.requires.laid c.requires.longest_in_bounds;
     }
 
-pub tally-live-requires : goal.tally-live-requires
-tally-live-requires c =
+pub invariant_of-edited : goal.invariant_of-edited
+invariant_of-edited c =
     record {
-      few = omega (arith, c.requires.map_open.few);
-      long = c.edits-at.auto.table ∙ stands-long _ _ _ c.requires.map_open _ _ c.requires.stands;
-    }
-
-pub tally-unused-requires : goal.tally-unused-requires
-tally-unused-requires c =
-    record {
-      few = omega (arith, c.requires.map_open.few);
-      long = c.edits-at.auto.table ∙ stands-long _ _ _ c.requires.map_open _ _ c.requires.stands;
+      sized = record {
+        few = omega (arith, c.requires.map_open.few);
+        long = c.edits-at.auto.table ∙ stands-long _ _ _ c.requires.map_open _ _ c.requires.stands;
+      };
     }
 
 pub last_line-requires : goal.last_line-requires

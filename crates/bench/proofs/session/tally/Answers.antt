@@ -5,7 +5,7 @@ use lib.Dec.{eqb}
 use borrow.Author.Tests.{eq-eqb, ne_eqb}
 use Rattle.base.proofs.BelowLaws.{count_le}
 use Rattle.base.specs.Below.{count_below}
-use Rattle.model.specs.Map.{view}
+use Rattle.table.specs.Seen.{map_of}
 use Rattle.bench.proofs.SessionLaws.{tally_hit, tally_miss}
 use Rattle.bench.proofs.session.tally.Goals as goal
 use Rattle.bench.proofs.session.tally.Goals.{then-state-s, else-state-s}
@@ -15,7 +15,7 @@ unfolding count_below
 loop-x-init c = refl
 
 pub overflow_add-found : goal.overflow_add-found
-overflow_add-found c = omega (arith, c.loop-x.invariant, count_le c.loop-x.x (λ y. eqb ((view c.args.slots c.args.table.now).state y) c.args.s))
+overflow_add-found c = omega (arith, c.loop-x.invariant, count_le c.loop-x.x (λ y. eqb ((map_of c.args.table.now).state y) c.args.s))
 
 pub loop-x-preserved : goal.loop-x-preserved
 loop-x-preserved c =

@@ -2,8 +2,8 @@
 use mathlib.Core.Path.{◌≡◌}
 use lib.Dec.{eqb}
 use Rattle.base.specs.Below.{count_below}
-use Rattle.model.specs.Map.{view}
+use Rattle.table.specs.Seen.{map_of}
 use Rattle.bench.proofs.session.tally.Given as goal
 
 abbrev pub invariant-loop-x : goal.invariant-loop-x
-invariant-loop-x l = l.found ≡ count_below l.x (λ y. eqb ((view l.slots l.table).state y) l.s)
+invariant-loop-x l = l.found ≡ count_below l.x (λ y. eqb ((map_of l.table).state y) l.s)

@@ -19,7 +19,6 @@ pub count-numbers-requires : goal.count-numbers-requires
 count-numbers-requires c =
     let found = survey_live _ _ _ c.survey.ensures _ c.in-Some.is in record {
       dimension = c.requires.dimension;
-      sized = c.requires.sized;
       well_formed = (well_formed_iff _ _).0 found.0;
       darts_value = found.1;
       store_len = c.requires.store_len;

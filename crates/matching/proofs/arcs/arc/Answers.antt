@@ -20,7 +20,7 @@ returns-then-of_hook c =
 
 pub follows-requires-clause-place : goal.follows-requires-clause-place
 follows-requires-clause-place c = λ r q h post.
-    let e : q ≡ get_or c.args.store.now (4 * c.args.slots + 4 * r + (c.from-code.result - 16)) 0 = search rules in
+    let e : q ≡ get_or c.args.store.now (4 * c.args.table.now.slots + 4 * r + (c.from-code.result - 16)) 0 = search rules in
     let turns = firm-implicit _ _ _ _ _ _ _ c.requires.firm _ _ c.requires.entry c.requires.dimension _ c.from-v.ensures _ c.from-code.ensures
     c.if-code-lt16.false c.if-code-eq255.false in
     turn_below _ _ _ _ _ _ e turns.1.1 h
@@ -30,4 +30,4 @@ unfolding next
 returns c =
     arc-read _ _ _ _ _ _ _ _ _ _ _ _ _ _ c.from-v.ensures c.from-code.ensures refl
     (code-implicit _ _ _ _ _ _ _ _ _ _ c.if-code-eq255.false _ c.if-code-lt16.false c.if-of_hook.false
-    (c.follows.ensures (λ q. next c.args.slots c.args.store.now q (c.from-code.result - 16)) (λ r q h post. search rules)))
+    (c.follows.ensures (λ q. next c.args.table.now.slots c.args.store.now q (c.from-code.result - 16)) (λ r q h post. search rules)))

@@ -6,8 +6,8 @@ use Rattle.matching.proofs.arcs.follows.Goals as goal
 pub loop-r-init : goal.loop-r-init
 loop-r-init g c = λ next is. follows-none _ _ _ _ _
 
-pub link-requires-clause-link_in_table : goal.link-requires-clause-link_in_table
-link-requires-clause-link_in_table g c = (dart-read _ _ _ _ _ _ c.requires.testable.slots c.loop-r-test.true c.word.ensures, c.requires.dimension)
+pub link-requires : goal.link-requires
+link-requires g c = (dart-read _ _ _ _ _ _ c.requires.testable.slots c.loop-r-test.true c.word.ensures, c.requires.dimension)
 
 pub returns-then-link-word : goal.returns-then-link-word
 returns-then-link-word g c = λ next is.

@@ -3,13 +3,13 @@ use Rattle.std.proofs.Common.{◌<◌, arith}
 use Rattle.matching.proofs.ImageRowLaws.{mark-read, row-slot, row_below, row-clash, row_more}
 use Rattle.matching.proofs.images.row.Goals as goal
 
-pub link-y-requires-clause-link_in_table : goal.link-y-requires-clause-link_in_table
-link-y-requires-clause-link_in_table c =
+pub link-y-requires : goal.link-y-requires
+link-y-requires c =
     (row-slot _ _ _ _ _ _ _ c.loop-r.invariant c.requires.row_before.0 (omega arith) _ c.word.ensures, c.requires.dimension)
 
 pub word-requires-in-loop-r : goal.word-requires-in-loop-r
 word-requires-in-loop-r c =
-    let below : c.link-y.result < c.args.slots =
+    let below : c.link-y.result < c.args.table.now.slots =
     row_below _ _ _ _ _ _ _ c.loop-r.invariant c.requires.row_before.0 (omega arith) _ _ c.word.ensures c.link-y.ensures _ c.loop-r-test.true
     c.requires.row_linked in
     omega (arith, c.loop-r.invariant.taken.long)
@@ -29,7 +29,7 @@ push-requires-clause-slot_without_place c = (
 pub loop-r-preserved : goal.loop-r-preserved
 loop-r-preserved c =
     let before = c.requires.row_before.0 in
-    let below : c.link-y.result < c.args.slots =
+    let below : c.link-y.result < c.args.table.now.slots =
     row_below _ _ _ _ _ _ _ c.loop-r.invariant before (omega arith) _ _ c.word.ensures c.link-y.ensures _ c.loop-r-test.true
     c.requires.row_linked in
     row_more _ _ _ _ _ _ _ c.loop-r.invariant before (omega arith) _ _ c.word.ensures c.link-y.ensures _ below c.push.ensures

@@ -11,8 +11,8 @@ returns-then-p-k c =
     let O = v.3 T in
     expand_done T O.0 O.1 v.1 c.if-p-k.true
 
-pub link-y-requires-clause-link_in_table : goal.link-y-requires-clause-link_in_table
-link-y-requires-clause-link_in_table c =
+pub link-y-requires : goal.link-y-requires
+link-y-requires c =
     let T = c.requires.retracing in
     let position : c.loop-p.p < c.args.k = omega (arith, c.loop-p.invariant.0, c.if-p-k.false) in
     (x_slot T _ c.word-x.ensures, dim-low T _ c.word-x.ensures _ _ position c.from.ensures)

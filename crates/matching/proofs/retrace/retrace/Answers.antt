@@ -3,10 +3,10 @@ use Rattle.std.proofs.Common.{◌∙◌, arith}
 use Rattle.matching.proofs.RetraceLaws.{retracing, retrace_more, retrace_done, retrace_none}
 use Rattle.matching.proofs.retrace.retrace.Goals as goal
 
-pub expand-requires-clause-retracing : goal.expand-requires-clause-retracing
-expand-requires-clause-retracing c =
+pub expand-requires : goal.expand-requires
+expand-requires c =
     let T = c.requires.retracing in
-    retracing T (c.loop-head.invariant.1 T) c.loop-head-test.true
+    record { retracing = retracing T (c.loop-head.invariant.1 T) c.loop-head-test.true }
 
 pub returns-in_err-end : goal.returns-in_err-end
 returns-in_err-end c =

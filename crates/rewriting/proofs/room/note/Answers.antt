@@ -3,8 +3,8 @@ use native.Mathlib.Omega.{arith}
 use Rattle.rewriting.proofs.RoomLaws.{noted_more, noted-slot}
 use Rattle.rewriting.proofs.room.note.Goals as goal
 
-pub tag-requires-clause-slot_in_table : goal.tag-requires-clause-slot_in_table
-tag-requires-clause-slot_in_table c =
+pub tag-requires : goal.tag-requires
+tag-requires c =
     noted-slot c.requires.holds_slots c.requires.row_before c.loop-r-test.true c.loop-r.invariant _ c.word-x.ensures
 
 pub loop-r-preserved : goal.loop-r-preserved

@@ -2,8 +2,8 @@
 use Rattle.rewriting.proofs.RoomLaws.{donating_of, doomed, roomy}
 use Rattle.rewriting.proofs.room.prepare.Goals as goal
 
-pub gather-requires-clause-donating : goal.gather-requires-clause-donating
-gather-requires-clause-donating c = donating_of c.requires.before_room
+pub gather-requires : goal.gather-requires
+gather-requires c = record { donating = donating_of c.requires.before_room }
 
 pub clear-requires-clause-deleted_rows : goal.clear-requires-clause-deleted_rows
 clear-requires-clause-deleted_rows c = doomed c.requires.before_room c.gather.ensures

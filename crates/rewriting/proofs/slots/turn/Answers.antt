@@ -11,8 +11,8 @@ overflow_add-i c = let T = c.requires.turn in omega (arith, turn-place T, turn-s
 pub loop-init : goal.loop-init
 loop-init c = (omega arith, c.requires.sized, λ T. rw add-zero T.granting)
 
-pub lowest-y-requires-clause-slot_left : goal.lowest-y-requires-clause-slot_left
-lowest-y-requires-clause-slot_left c = let T = c.requires.turn in turn-room T _ c.loop-test.true (c.loop.invariant.2 T)
+pub lowest-y-requires : goal.lowest-y-requires
+lowest-y-requires c = record { slot_left = let T = c.requires.turn in turn-room T _ c.loop-test.true (c.loop.invariant.2 T) }
 
 pub offset_bounds-store-i : goal.offset_bounds-store-i
 offset_bounds-store-i c = omega (arith, c.loop.invariant.0, turn-cell c.requires.turn c.loop.counter c.loop-test.true)
