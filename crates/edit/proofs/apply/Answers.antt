@@ -22,25 +22,29 @@ walk-size-requires c =
 pub assign-requires : goal.assign-requires
 assign-requires c =
     let here : At (view c.args.slots c.args.table.now) = at-site c.requires.sized.few c.requires.sound in
-    let w = walking here c.from-k.ensures (lent-walked c.args.s.now.orbit _ (omega arith) (c.walk-size.ensures.walked refl)) c.walk-size.ensures.orbit_added.taken in
+    let found = lent-walked c.args.s.now.orbit _ (omega arith) (c.walk-size.ensures.walked refl) in
+    let w = walking here c.from-k.ensures found c.walk-size.ensures.orbit_added.taken in
     record { posed = match-ready here w c.requires.tree_of c.from-k.ensures }
 
 pub returns-in_default : goal.returns-in_default
 returns-in_default c =
     let here : At (view c.args.slots c.args.table.now) = at-site c.requires.sized.few c.requires.sound in
-    let w = walking here c.from-k.ensures (lent-walked c.args.s.now.orbit _ (omega arith) (c.walk-size.ensures.walked refl)) c.walk-size.ensures.orbit_added.taken in
+    let found = lent-walked c.args.s.now.orbit _ (omega arith) (c.walk-size.ensures.walked refl) in
+    let w = walking here c.from-k.ensures found c.walk-size.ensures.orbit_added.taken in
     no_match_lem (c.in_default.ensures.at (match-ready here w c.requires.tree_of c.from-k.ensures))
 
 pub settle-requires-clause-settling : goal.settle-requires-clause-settling
 settle-requires-clause-settling c =
     let here : At (view c.args.slots c.args.table.now) = at-site c.requires.sized.few c.requires.sound in
-    let w = walking here c.from-k.ensures (lent-walked c.args.s.now.orbit _ (omega arith) (c.walk-size.ensures.walked refl)) c.walk-size.ensures.orbit_added.taken in
+    let found = lent-walked c.args.s.now.orbit _ (omega arith) (c.walk-size.ensures.walked refl) in
+    let w = walking here c.from-k.ensures found c.walk-size.ensures.orbit_added.taken in
     let m = c.in-Some.ensures.at (match-ready here w c.requires.tree_of c.from-k.ensures) in
     settle_ready here w c.requires.tree_of m c.from-c.ensures c.requires.room_value
 
 pub returns : goal.returns
 returns c =
     let here : At (view c.args.slots c.args.table.now) = at-site c.requires.sized.few c.requires.sound in
-    let w = walking here c.from-k.ensures (lent-walked c.args.s.now.orbit _ (omega arith) (c.walk-size.ensures.walked refl)) c.walk-size.ensures.orbit_added.taken in
+    let found = lent-walked c.args.s.now.orbit _ (omega arith) (c.walk-size.ensures.walked refl) in
+    let w = walking here c.from-k.ensures found c.walk-size.ensures.orbit_added.taken in
     let m = c.in-Some.ensures.at (match-ready here w c.requires.tree_of c.from-k.ensures) in
     c.settle.ensures (settle_ready here w c.requires.tree_of m c.from-c.ensures c.requires.room_value)
