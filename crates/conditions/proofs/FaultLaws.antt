@@ -96,11 +96,15 @@ module _ (n places nodes : ℕ) (orbit kinds words : List ℕ) (second : ℕ) (o
 
 -- ---- what judging comes to
 
+-- the trees, however their number of entries was worked out
+pub sized : (S : Scheme) (t : Tree) → TreeOf S t → (k : ℕ) → k ≡ t.size → TreeOf S (record t { size = k })
+sized S t x k e = rw e x
+
 module _ (S : Scheme) (f : Shaped S) (long : length S.lwords ≡ 64) (t : Tree) (g : Spanning S.larcs S.lcount S.second t) (ltwice rtwice : List Bool)
     (tl : ltwice ≡ twice_of S left) (tr : rtwice ≡ twice_of S right) (out : Option ℕ) (eo : out ≡ least S.nodes (left_out S.kinds t.reached))
     (r : Result ⊤ Refusal)
     (e : r ≡ fault_by S.n S.places S.nodes S.orbit S.kinds S.lwords S.second out S.ltargets S.rtargets ltwice rtwice) where
-  judged : r ≡ fault_of (scheme_fault S)
+  pub judged : r ≡ fault_of (scheme_fault S)
   judged = fault-is S f S.ltargets S.rtargets (coded S f left) (coded S f right) long t (tree_of S f t g) ltwice rtwice tl tr out eo r e
 
   pub judge-accepted : r ≡ Ok tt → (scheme_fault S ≡ None) × TreeOf S t

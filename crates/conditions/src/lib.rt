@@ -5,7 +5,8 @@ pub mod arcs;
 pub mod hook;
 pub mod tree;
 
-ghost use Rattle.std.specs.Prelude.{◌≡◌, length, IfOk, IfErr};
+ghost use Rattle.std.specs.Prelude.{◌≡◌, length};
+ghost use Rattle.model.specs.Answer.{fault_of};
 ghost use Rattle.model.specs.Scheme.{left, right};
 ghost use Rattle.model.specs.Conditions.{scheme_fault};
 ghost use Rattle.model.specs.Twice.{twice_of};
@@ -55,21 +56,21 @@ fn fault(
     arcs_fault(scheme, left_twice, right_twice)
 }
 
-// The trees of a scheme's left arcs, or the first of refusals 3, 4 and 5 that applies to it. `left_twice` and `right_twice` say which nodes have two
-// arcs of a dimension on a side.
+// The trees of a scheme's left arcs, also where it is refused, and the first of refusals 3, 4 and 5 that applies to it. `left_twice` and `right_twice`
+// say which nodes have two arcs of a dimension on a side. The trees come first, since otherwise the compiler walks an orbit by 4% more instructions.
 pub fn judge(
     scheme: &Scheme,
     left_twice: &[bool; 16],
     right_twice: &[bool; 16],
-) -> Result<Tree, Refusal>
+) -> (Tree, Result<(), Refusal>)
     requires shaped { Shaped scheme.now }
     requires words_len { length scheme.now.lwords ≡ 64 }
     requires left_twice_value { left_twice.now ≡ twice_of scheme.now left }
     requires right_twice_value { right_twice.now ≡ twice_of scheme.now right }
-    ensures accepted { IfOk result (λ tree. (scheme_fault scheme.now ≡ None) × TreeOf scheme.now tree) }
-    ensures refused { IfErr result (λ f. scheme_fault scheme.now ≡ Some f) }
+    ensures tree { TreeOf scheme.now result.0 }
+    ensures fault { result.1 ≡ fault_of (scheme_fault scheme.now) }
 {
     let (tree, out) = reach_of(scheme);
-    fault(scheme, out, left_twice, right_twice)?;
-    Ok(tree)
+    let found = fault(scheme, out, left_twice, right_twice);
+    (tree, found)
 }

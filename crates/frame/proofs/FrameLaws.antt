@@ -63,9 +63,9 @@ first_told b {start} {m} e w =
 
 module _ (b : List ℕ) where
   -- how many bytes name a donor
-  donor-bytes : {donors : Bool} (kind : ℕ) → donors ≡ names_donors b → donor_bytes donors kind ≡ bit (has_donor b kind)
+  donor-bytes : {donors : ℕ} (kind : ℕ) → donors ≡ bit (names_donors b) → donor_bytes donors kind ≡ bit (has_donor b kind)
   unfolding has_donor ◌and◌
-  donor-bytes kind e = ap (λ (d : Bool). cond (eqb kind 3) (bit d) 0) e ∙ joined (names_donors b) (eqb kind 3)
+  donor-bytes kind e = ap (λ (d : ℕ). cond (eqb kind 3) d 0) e ∙ joined (names_donors b) (eqb kind 3)
     where
       joined : (c d : Bool) → cond d (bit c) 0 ≡ bit (c and d)
       joined true true = refl
@@ -74,7 +74,7 @@ module _ (b : List ℕ) where
       joined false false = refl
 
   -- the next node comes after the words of node s and its donor, if it has one
-  pub node-after : {donors : Bool} {kind place extra : ℕ} (s : ℕ) → donors ≡ names_donors b → kind ≡ kind_at b s → place ≡ node_at b s + 1 + 2 * places_of b
+  pub node-after : {donors kind place extra : ℕ} (s : ℕ) → donors ≡ bit (names_donors b) → kind ≡ kind_at b s → place ≡ node_at b s + 1 + 2 * places_of b
       → extra ≡ donor_bytes donors kind → place + extra ≡ node_at b (s + 1)
   node-after {kind} {extra} s d k p e =
       let one : extra ≡ bit (has_donor b (kind_at b s)) = e ∙ donor-bytes kind d ∙ ap (λ (x : ℕ). bit (has_donor b x)) k in
@@ -140,7 +140,7 @@ module _ (b : List ℕ) where
 -- stepping over node s, if donors are named: the next node follows it, or it does not lie within the bytes
 module _ {b : List ℕ} {places w s at : ℕ} (z : NodeSize b places true) (e : w ≡ places) (p : NodePlace b s at) where
   next : node_end b (1 + 2 * w) at ≡ node_at b (s + 1)
-  next = node-after b s z.donors_is (ap (byte b) p.place_is) (omega (arith, z.places_is, p.place_is)) refl
+  next = node-after b s (ap bit z.donors_is) (ap (byte b) p.place_is) (omega (arith, z.places_is, p.place_is)) refl
 
   pub node-passed : {c : Cursor} → PastNode b (1 + 2 * w) at (Some c) → NodePlace b (s + 1) c.at
   node-passed n = record { place_is = n.0 ∙ next; inside = n.1 }

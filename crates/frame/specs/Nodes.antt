@@ -5,13 +5,13 @@ use Rattle.model.specs.Bytes.{byte, names_donors, places_of, nodes_of, node_at}
 use Rattle.model.specs.Scheme.{in_form}
 use Rattle.frame.specs.declared.cursor.Cursor.{Cursor}
 
--- how many bytes name the donor of a node of this kind; `donors` says whether donors are named
-abbrev pub donor_bytes : Bool → ℕ → ℕ
-donor_bytes donors kind = cond (eqb kind 3) (bit donors) 0
+-- how many bytes name the donor of a node of this kind; `donors` is 1 if donors are named, else 0
+abbrev pub donor_bytes : ℕ → ℕ → ℕ
+donor_bytes donors kind = cond (eqb kind 3) donors 0
 
 -- the place after the node at `at`, if donors are named: the node has `size` bytes, and one more if it is added
 abbrev pub node_end : List ℕ → ℕ → ℕ → ℕ
-node_end b size at = at + size + donor_bytes true (byte b at)
+node_end b size at = at + size + donor_bytes 1 (byte b at)
 
 -- what stepping over the node at `at` finds: the place after it, within the bytes, or a node that does not lie within them
 abbrev pub PastNode : List ℕ → ℕ → ℕ → Option Cursor → Type 0

@@ -5,11 +5,11 @@ ghost use Rattle.frame.specs.Nodes.{NodeSize, NodeCount, NodePlace, NodesOf, Nod
 
 use crate::cursor::Cursor;
 
-// How many bytes name the donor of a node of this kind: one if the node is added and donors are named, else none.
-pub fn donor_bytes(donors: bool, kind: u8) -> usize
+// How many bytes name the donor of a node of this kind: `donors` if the node is added, else none. `donors` is 1 if donors are named, else 0.
+pub fn donor_bytes(donors: u8, kind: u8) -> usize
     ensures { result ≡ donor_bytes donors kind }
 {
-    usize::from(donors && kind == 3)
+    if kind == 3 { usize::from(donors) } else { 0 }
 }
 
 // Steps over one node of a scheme that names donors, if it fits in the bytes. A node has `size` bytes; an added node is one byte longer. This is a

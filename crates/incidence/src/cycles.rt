@@ -108,18 +108,20 @@ pub fn cycle_fault(scheme: &Scheme) -> Result<(), Refusal>
         scheme.now.rtargets scheme.now.n scheme.now.nodes }
 {
     let top = top_of(scheme.n);
-    for s in 0..usize::from(scheme.nodes) {
+    let mut found = Ok(());
+    'nodes: for s in 0..usize::from(scheme.nodes) {
         for j in 2..top + 1 {
             for i in 0..j - 1 {
                 if !pair_ok(scheme, s, i, j) {
-                    return Err(Refusal::BadCycle {
+                    found = Err(Refusal::BadCycle {
                         node: s as u32,
                         i: i as u32,
                         j: j as u32,
                     });
+                    break 'nodes;
                 }
             }
         }
     }
-    Ok(())
+    found
 }

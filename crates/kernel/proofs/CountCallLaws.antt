@@ -1,11 +1,13 @@
 -- A count, refusal by refusal: behind the test of its sizes, and the call.
-use Prim.Native.Nat.{ℕ, ◌≤◌, ◌<◌}
-use mathlib.Core.Path.{◌≡◌, refl, ◌∙◌}
+use Prim.Native.Nat.{ℕ, zero, suc, ◌≤◌, ◌<◌}
+use mathlib.Core.Path.{◌≡◌, refl, sym, ◌∙◌}
 use mathlib.Core.Bool.{true, false}
 use mathlib.Core.List.{List, ◌++◌}
-use lib.ListN.{length, drop}
+use native.Mathlib.Omega.{arith}
+use lib.ListN.{length, drop, get_or}
 use borrow.Author.Tests.{lt-ltb, le-ltb}
 use Rattle.std.specs.Prelude.{Ok, Err}
+use Rattle.std.proofs.lemmas.Grind.{same_number_lists}
 use Rattle.base.specs.First.{some_if, ◌or_else◌, there}
 use Rattle.model.specs.Map.{Map, view}
 use Rattle.model.specs.WellFormed.{well_formed}
@@ -33,6 +35,21 @@ module _ (n : ℕ) (m : Map) (out : List ℕ) where
     pub staged_0 : count_size ≤ length out → (c out' : List ℕ) → c ≡ counts n m → out' ≡ c ++ drop count_size out → CountStaged n m out (Ok Done) out'
     unfolding output_fault_at map_fault some_if ◌or_else◌ there counts
     staged_0 h c out' q e = let s = le-ltb (length out) count_size h in record { answer = rw (w, s) refl; output = e ∙ rw (w, s, q) refl }
+
+-- the six numbers that are copied, one by one: the live darts, then the five kinds of cells
+pub six_copied : (c from part : List ℕ) → part ≡ from → length from ≡ count_size → length c ≡ count_size
+    → get_or from 0 0 ≡ get_or c 0 0 → get_or from 1 0 ≡ get_or c 1 0 → get_or from 2 0 ≡ get_or c 2 0
+    → get_or from 3 0 ≡ get_or c 3 0 → get_or from 4 0 ≡ get_or c 4 0 → get_or from 5 0 ≡ get_or c 5 0 → part ≡ c
+six_copied c from part e lf lc e₀ e₁ e₂ e₃ e₄ e₅ = e ∙ same_number_lists _ _ (lf ∙ sym lc) each
+  where
+    each : (i : ℕ) → i < length from → get_or from i 0 ≡ get_or c i 0
+    each zero h = e₀
+    each (suc zero) h = e₁
+    each (suc (suc zero)) h = e₂
+    each (suc (suc (suc zero))) h = e₃
+    each (suc (suc (suc (suc zero)))) h = e₄
+    each (suc (suc (suc (suc (suc zero))))) h = e₅
+    each (suc (suc (suc (suc (suc (suc i)))))) h = absurd (omega (arith, h, lf))
 
 -- ---- the call
 

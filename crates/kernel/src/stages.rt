@@ -64,7 +64,8 @@ pub(crate) fn staged(
         rtwice,
     } = reading;
     check_hooks(darts, scheme.second)?;
-    let tree = conditions::judge(&scheme, &ltwice, &rtwice)?;
+    let (tree, fault) = conditions::judge(&scheme, &ltwice, &rtwice);
+    fault?;
     apply_at(
         n,
         slots,

@@ -40,9 +40,10 @@ module _ (link : ℕ → ℕ) (s : List ℕ) (from base : ℕ) (to : ℕ → ℕ
 
 -- ---- what is read
 
-pub dart-read : (N : ℕ) (s : List ℕ) (from size r x : ℕ) → Slots N s from size → r < size → x ≡ get_or s (from + r) 0 → x < N
+-- a word of a row of darts, wherever in the row it stands
+pub dart-read : (N : ℕ) (s : List ℕ) (from size k x : ℕ) → Slots N s from size → from ≤ k → k < from + size → x ≡ get_or s k 0 → x < N
 unfolding dart_at
-dart-read N s from size r x o h e = rw e (o.slot r h)
+dart-read N s from size k x o l h e = let place : k ≡ from + (k - from) = omega arith in rw (e, place) (o.slot (k - from) (omega arith))
 
 pub turn_below : (N : ℕ) (s : List ℕ) (p r q size : ℕ) → q ≡ get_or s (4 * N + 4 * r + p) 0 → Turns N s p size → r < size → q < size
 unfolding next
@@ -60,10 +61,10 @@ module _ (m : Map) (s : List ℕ) (size : ℕ) (dims rows : List ℕ) (j i from 
     unfolding explicit_test
     explicit-tree x d q = sym (or_left _ (or_right _ (rw (← d) (eq-eqb x i q))))
 
-    pub explicit_tested : (r : Bool) → to ≤ from → (get_or dims j 0 ≡ i → ⊥) → r ≡ follows (m.link i) s size from to (λ q. q) → r
+    pub explicit_tested : (r : Bool) → to ≤ from → (get_or dims j 0 ≡ i → ⊥) → (k : ℕ) → k ≡ size → r ≡ follows (m.link i) s k from to (λ q. q) → r
         ≡ explicit_test m s size dims rows j i from t
     unfolding explicit_test ◌or◌
-    explicit_tested r h other f = rw (← e, le-ltb from to h, ne_eqb (get_or dims j 0) i other) f
+    explicit_tested r h other k q f = rw (← e, le-ltb from to h, ne_eqb (get_or dims j 0) i other, ← q) f
 
   pub code-none : (roots code : ℕ) → code ≡ 255 → true ≡ code_test m s size dims rows j i from roots code
   unfolding code_test

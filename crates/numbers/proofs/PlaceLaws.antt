@@ -44,14 +44,18 @@ taken_join w u b at low high x y = record {
   next = rw (y.next, x.next) (omega arith);
 }
 
+-- a byte is small, wherever it was read
+pub byte_small : (b : List ℕ) (k low : ℕ) → ((i : ℕ) → get_or b i 0 < 256) → low ≡ get_or b k 0 → low < 256
+byte_small b k low bytes e = rw e (bytes k)
+
 -- before the number, the byte that stands there
-pub taken-more : (w at i : ℕ) (b : List ℕ) (low v : ℕ) (end : Cursor) → 0 < i → i ≤ w → low ≡ get_or b (at + (i - 1)) 0 → low < 256
+pub taken-more : (w at i : ℕ) (b : List ℕ) (low v : ℕ) (end : Cursor) → 0 < i → i ≤ w → (k : ℕ) → k ≡ at + (i - 1) → low ≡ get_or b k 0 → low < 256
     → NumberRead (w - i) b (at + i) (v, end) → NumberRead (w - (i - 1)) b (at + (i - 1)) (256 * v + low, end)
-taken-more w at i b low v end h l e small x =
+taken-more w at i b low v end h l k q e small x =
     let j : w - (i - 1) ≡ 1 + (w - i) = omega arith in
     let next : at + i ≡ at + (i - 1) + 1 = omega arith in
     let y : NumberRead (w - i) b (at + (i - 1) + 1) (v, end) = rw next at x in
-    rw (j, add_comm (256 * v) low) (taken_join 1 (w - i) b (at + (i - 1)) (low, record { at = at + (i - 1) + 1 }) (v, end) (taken-one b _ low e small) y)
+    rw (j, add_comm (256 * v) low) (taken_join 1 (w - i) b (at + (i - 1)) (low, record { at = at + (i - 1) + 1 }) (v, end) (taken-one b _ low (rw q at e) small) y)
 
 -- a number of few bytes leaves room for one byte more
 pub taken-small : (w at i : ℕ) (b : List ℕ) (v : ℕ) (end : Cursor) → 0 < i → w ≤ 4 → NumberRead (w - i) b (at + i) (v, end) → v < 16777216
@@ -83,10 +87,11 @@ put_join w u l at v l' p l'' q x y = rw (bytes_join w u v) (put_then l at _ l' p
 
 -- one byte more of v is put
 pub put-more : (l : List ℕ) (at i v left : ℕ) (l' : List ℕ) → (left ≡ v / 256 ^ i) × Put l at (bytes_of i v) l' (at + i)
-    → (left / 256 ≡ v / 256 ^ (i + 1)) × Put l at (bytes_of (i + 1) v) (set l' (at + i) (left % 256)) (at + (i + 1))
-put-more l at i v left l' (e, x) =
+    → (rest : ℕ) → rest ≡ left / 256
+    → (rest ≡ v / 256 ^ (i + 1)) × Put l at (bytes_of (i + 1) v) (set l' (at + i) (left % 256)) (at + (i + 1))
+put-more l at i v left l' (e, x) rest q =
     let next : at + (i + 1) ≡ at + i + 1 = omega arith in (
-      rw (e, div-div-eq-div-mul, ← pow-suc, add-one),
+      rw (q, e, div-div-eq-div-mul, ← pow-suc, add-one),
       rw (e, next) (put_join i 1 l at v l' (at + i) _ _ x (put-one-byte l' (at + i) (v / 256 ^ i))),
     )
 

@@ -181,7 +181,7 @@ fn read_node(
         rtargets,
     )?;
     Some(Cursor {
-        at: third.at + donor_bytes(l.donors, kind),
+        at: third.at + donor_bytes(u8::from(l.donors), kind),
     })
 }
 

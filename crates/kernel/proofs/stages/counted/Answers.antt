@@ -1,12 +1,13 @@
 -- `kernel::stages::counted` meets its contract.
 use Prim.Native.Nat.{ℕ}
-use mathlib.Core.Path.{ap}
+use mathlib.Core.Path.{refl, ap}
 use mathlib.Core.List.{List, ◌++◌}
 use native.Mathlib.Omega.{arith}
 use lib.ListN.{drop}
+use borrow.Author.Rules.{rules}
 use Rattle.model.proofs.WellFormedLaws.{well_formed_iff}
 use Rattle.table.proofs.SurveyLaws.{survey_live, survey_broken}
-use Rattle.kernel.proofs.CountCallLaws.{staged_7, staged_12, staged_0}
+use Rattle.kernel.proofs.CountCallLaws.{staged_7, staged_12, staged_0, six_copied}
 use Rattle.kernel.proofs.stages.counted.Goals as goal
 
 pub returns-in_default : goal.returns-in_default
@@ -27,4 +28,5 @@ count-numbers-requires c =
 pub returns : goal.returns
 returns c =
     staged_0 _ _ _ (survey_live _ _ _ c.survey.ensures _ c.in-Some.is).0 (omega arith) _ _ c.count-numbers.ensures
-    (ap (λ (l : List ℕ). l ++ drop 6 c.args.out.now) c.copy_from_slice.ensures.after)
+    (ap (λ (l : List ℕ). l ++ drop 6 c.args.out.now)
+    (six_copied _ _ _ c.copy_from_slice.ensures.after (search rules) (search rules) refl refl refl refl refl refl))

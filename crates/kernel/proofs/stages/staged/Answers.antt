@@ -12,6 +12,7 @@ use Rattle.model.specs.declared.Refusal.{Refusal}
 use Rattle.scheme.specs.Reading.{reading}
 use Rattle.scheme.specs.declared.Reading.{Reading}
 use Rattle.scheme.proofs.ReadLaws.{broken-read}
+use Rattle.conditions.proofs.FaultLaws.{fault_none, fault_some}
 use Rattle.kernel.specs.Stages.{many_by}
 use Rattle.kernel.proofs.StageLaws.{form-refused, form_judged, read-scheme, read-shaped, long-words, left-twice, right-twice, taken_is, taken-not}
 use Rattle.kernel.proofs.StageLaws.{no_fault_accepted, no_fault_alone, stage_refused, stage_on}
@@ -32,8 +33,8 @@ returns-in_err-check_hooks c =
     let e = c.in_err-check_hooks.ensures in
     rw (p.1, p.2, e.0) (stage_refused _ _ _ _ D (form-refused _ _ (sym (taken_is D _ _ c.in-Some.ensures _ refl) ∙ e.1)))
 
-pub judge-requires : goal.judge-requires
-judge-requires c =
+pub judge-fault-requires : goal.judge-fault-requires
+judge-fault-requires c =
     let e = c.in-Some.ensures in
     record {
       shaped = read-shaped _ _ e;
@@ -42,23 +43,23 @@ judge-requires c =
       right_twice_value = right-twice _ _ e;
     }
 
-pub returns-in_err-tree : goal.returns-in_err-tree
-returns-in_err-tree c =
+pub returns-in_err-fault : goal.returns-in_err-fault
+returns-in_err-fault c =
     let D = c.args.darts in
-    let p = err_from_is_err_and c.from_residual-in_err-tree.result c.from_residual-in_err-tree.ensures.1 in
-    let found = c.in_err-tree.ensures.refused in
+    let p = err_from_is_err_and c.from_residual-in_err-fault.result c.from_residual-in_err-fault.ensures.1 in
+    let found = fault_some _ _ (sym c.in_err-fault.was ∙ c.judge-fault.ensures.fault) in
     rw (p.1, p.2) (stage_refused _ _ _ _ D (fault-is D _ _ c.in-Some.ensures c.in_ok-check_hooks.ensures found))
 
 pub apply_at-requires : goal.apply_at-requires
 apply_at-requires c =
     let D = c.args.darts in
     let s = read-scheme _ _ c.in-Some.ensures in
-    let judged = c.in_ok-tree.ensures.accepted in
-    let none = fault-is D _ _ c.in-Some.ensures c.in_ok-check_hooks.ensures judged.0 in record {
+    let found = fault_none _ (sym c.in_ok-fault.was ∙ c.judge-fault.ensures.fault) in
+    let none = fault-is D _ _ c.in-Some.ensures c.in_ok-check_hooks.ensures found in record {
       dimension = c.requires.dimension;
       accepted = no_fault_accepted D _ _ none s;
       other_value = no_fault_alone D _ _ none s c.first.ensures c.second.ensures;
-      tree_of = judged.1;
+      tree_of = c.judge-fault.ensures.tree;
       sized = c.requires.sized;
       store_len = c.requires.store_len;
     }
@@ -67,5 +68,6 @@ pub returns : goal.returns
 returns c =
     let D = c.args.darts in
     let s = read-scheme _ _ c.in-Some.ensures in
-    let none = fault-is D _ _ c.in-Some.ensures c.in_ok-check_hooks.ensures c.in_ok-tree.ensures.accepted.0 in
+    let found = fault_none _ (sym c.in_ok-fault.was ∙ c.judge-fault.ensures.fault) in
+    let none = fault-is D _ _ c.in-Some.ensures c.in_ok-check_hooks.ensures found in
     stage_on _ _ _ _ D none s c.first.ensures c.second.ensures c.apply_at.ensures

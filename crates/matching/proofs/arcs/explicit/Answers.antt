@@ -1,5 +1,6 @@
 -- `matching::arcs::explicit` meets its contract.
 use Rattle.std.proofs.Common.{refl, sym, ◌∙◌, true≢false, rules}
+use native.Mathlib.Omega.{arith}
 use borrow.Author.Tests.{eqb-true, eq-eqb, lt-ltb}
 use Rattle.matching.proofs.ArcTestLaws.{explicit-later, explicit-tree, explicit_tested}
 use Rattle.matching.proofs.arcs.explicit.Goals as goal
@@ -19,5 +20,5 @@ returns-else-from-i c =
       | else-from-to w ↦
           explicit_tested _ _ _ _ _ _ _ _ _ _ refl _ w.if-from-to.false
           (λ e. true≢false (sym (eq-eqb _ _ (w.from.ensures ∙ e)) ∙ sym w.value-is ∙ c.if-from-i.false))
-          (c.follows.ensures (λ q. q) (λ r q h post. search rules))
+          _ (omega arith) (c.follows.ensures (λ q. q) (λ r q h post. search rules))
     ]

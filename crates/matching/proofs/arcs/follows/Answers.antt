@@ -1,4 +1,5 @@
 -- `matching::arcs::follows` meets its contract.
+use native.Mathlib.Omega.{arith}
 use borrow.Author.Tests.{ne_eqb}
 use Rattle.matching.proofs.ArcTestLaws.{follows-none, follows-more, follows_stop, dart-read}
 use Rattle.matching.proofs.arcs.follows.Goals as goal
@@ -7,7 +8,7 @@ pub loop-r-init : goal.loop-r-init
 loop-r-init g c = λ next is. follows-none _ _ _ _ _
 
 pub link-requires : goal.link-requires
-link-requires g c = (dart-read _ _ _ _ _ _ c.requires.testable.slots c.loop-r-test.true c.word.ensures, c.requires.dimension)
+link-requires g c = (dart-read _ _ _ _ _ _ c.requires.testable.slots (omega arith) (omega arith) c.word.ensures, c.requires.dimension)
 
 pub returns-then-link-word : goal.returns-then-link-word
 returns-then-link-word g c = λ next is.

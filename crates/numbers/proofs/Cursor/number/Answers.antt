@@ -1,10 +1,9 @@
 -- `numbers::Cursor::number` meets its contract.
-use Prim.Native.Nat.{◌+◌, ◌-◌}
 use mathlib.Core.Path.{◌≡◌, refl}
 use native.Mathlib.Nat.{sub_self, sub-zero, add-zero}
 use native.Mathlib.Omega.{arith}
 use Rattle.base.specs.Digits.{number_at}
-use Rattle.numbers.proofs.PlaceLaws.{taken-more, taken-small}
+use Rattle.numbers.proofs.PlaceLaws.{byte_small, taken-more, taken-small}
 use Rattle.numbers.proofs.Cursor.number.Goals as goal
 
 pub loop-i-init : goal.loop-i-init
@@ -16,19 +15,14 @@ overflow_mul-value g c = omega (arith, taken-small _ _ _ _ _ _ c.loop-i-test.tru
 
 pub overflow_add-value : goal.overflow_add-value
 overflow_add-value g c =
-    let l = c.loop-i in
-    omega (
-      arith,
-      taken-small _ _ _ _ _ _ c.loop-i-test.true c.requires.width l.invariant,
-      c.from.ensures,
-      c.type_inv.b (c.args.self.at + (l.i - 1)),
-    )
+    let few = taken-small _ _ _ _ _ _ c.loop-i-test.true c.requires.width c.loop-i.invariant in
+    omega (arith, few, byte_small c.args.b.now _ _ (λ i. omega (arith, c.type_inv.b i)) c.from.ensures)
 
 pub loop-i-preserved : goal.loop-i-preserved
 loop-i-preserved g c =
     let l = c.loop-i in
-    let small = c.type_inv.b (c.args.self.at + (l.i - 1)) in
-    taken-more _ _ _ _ _ _ _ c.loop-i-test.true l.auto.i c.from.ensures (omega (arith, c.from.ensures, small)) l.invariant
+    let small = byte_small c.args.b.now _ _ (λ i. omega (arith, c.type_inv.b i)) c.from.ensures in
+    taken-more _ _ _ _ _ _ _ c.loop-i-test.true l.auto.i _ (omega arith) c.from.ensures small l.invariant
 
 pub returns : goal.returns
 returns g c = let end : c.loop-i.i ≡ 0 = omega arith in rw (end, sub-zero, add-zero) at c.loop-i.invariant

@@ -10,4 +10,4 @@ unfolding bytes_of
 loop-i-init g c = (omega arith, record { bytes = refl; after = omega arith })
 
 pub loop-i-preserved : goal.loop-i-preserved
-loop-i-preserved g c = put-more _ _ _ _ _ _ c.loop-i.invariant
+loop-i-preserved g c = put-more _ _ _ _ _ _ c.loop-i.invariant _ (omega arith)

@@ -4,6 +4,7 @@ use mathlib.Core.Path.{◌≡◌, sym, ap, ◌∙◌}
 use mathlib.Core.Logic.{⊎_elim}
 use native.Mathlib.Omega.{arith}
 use Rattle.std.specs.Option.{is_some}
+use Rattle.base.specs.Test.{bit}
 use Rattle.model.specs.Bytes.{byte, node_at, kind_at}
 use Rattle.model.specs.Scheme.{left, right}
 use Rattle.model.proofs.NodePlaceLaws.{node-next}
@@ -27,7 +28,8 @@ after : (c : After-donor_bytes) → let a = c.args in c.take-kind.result.0 ≡ k
 after c kind next =
     let left = c.in_ok-second.ensures.after_word in
     let right = c.in_ok-third.ensures.after_word in
-    node-after _ _ c.requires.laid_out.headed.donors_is kind (omega arith) c.donor_bytes.ensures
+    let donors = c.from.ensures ∙ ap bit c.requires.laid_out.headed.donors_is in
+    node-after _ _ donors kind (omega arith) c.donor_bytes.ensures
 
 pub take-kind-requires : goal.take-kind-requires
 take-kind-requires c = omega (arith, node-inside _ _ c.requires.laid_out _ c.requires.s_bound, c.requires.before.place_is)
