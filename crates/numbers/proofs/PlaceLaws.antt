@@ -49,8 +49,9 @@ pub byte_small : (b : List ℕ) (k low : ℕ) → ((i : ℕ) → get_or b i 0 < 
 byte_small b k low bytes e = rw e (bytes k)
 
 -- before the number, the byte that stands there
-pub taken-more : (w at i : ℕ) (b : List ℕ) (low v : ℕ) (end : Cursor) → 0 < i → i ≤ w → (k : ℕ) → k ≡ at + (i - 1) → low ≡ get_or b k 0 → low < 256
-    → NumberRead (w - i) b (at + i) (v, end) → NumberRead (w - (i - 1)) b (at + (i - 1)) (256 * v + low, end)
+pub taken-more : (w at i : ℕ) (b : List ℕ) (low v : ℕ) (end : Cursor) → 0 < i → i ≤ w
+    → (k : ℕ) → k ≡ at + (i - 1) → low ≡ get_or b k 0 → low < 256 → NumberRead (w - i) b (at + i) (v, end)
+    → NumberRead (w - (i - 1)) b (at + (i - 1)) (256 * v + low, end)
 taken-more w at i b low v end h l k q e small x =
     let j : w - (i - 1) ≡ 1 + (w - i) = omega arith in
     let next : at + i ≡ at + (i - 1) + 1 = omega arith in
