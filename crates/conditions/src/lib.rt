@@ -57,7 +57,8 @@ fn fault(
 }
 
 // The trees of a scheme's left arcs, also where it is refused, and the first of refusals 3, 4 and 5 that applies to it. `left_twice` and `right_twice`
-// say which nodes have two arcs of a dimension on a side. The trees come first, since otherwise the compiler walks an orbit by 4% more instructions.
+// say which nodes have two arcs of a dimension on a side. The trees come first in the pair: with the fault first, an edit of a long orbit takes up to 4%
+// more instructions.
 pub fn judge(
     scheme: &Scheme,
     left_twice: &[bool; 16],
